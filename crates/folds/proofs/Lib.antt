@@ -1,0 +1,5 @@
+pub mod Tests
+pub mod Figures
+pub mod Arrays
+pub mod Parts
+pub mod RowLaws

@@ -1,0 +1,4 @@
+pub mod Below
+pub mod Bytes
+pub mod Words
+pub mod Signed

@@ -1,0 +1,225 @@
+// Where the parts of a plan file are, and what their rows hold. These functions are for the crates that read and write
+// plans: those with a `requires` rely on what earlier checks gave.
+use rows::Counts;
+use rows::SectionRow;
+use rows::TaskRow;
+ghost use mathlib.Core.Path.{_≡_};
+ghost use Prim.Native.Nat.{_+_, _*_, _≤_, _<_};
+ghost use lib.ListN.{length, replicate};
+ghost use Rattle.folds.specs.Bytes.{number, placedBelow};
+ghost use Rattle.rows.specs.Rules.{noTask, noSection};
+ghost use Rattle.parts.specs.Layout.{countsOf, offsetsOk, resourcesAt, sectionsAt, namesAt, taskOf, taskAt, taskSpare, sectionAt, startAt, lengthAt, resourceSpare, taskRowsOk, lengthRowsOk, sectionRowsOk, taskRows, lengthRows, sectionRows};
+
+// The task rows of a part, and whether each keeps its rule.
+pub struct LoadedTasks {
+    pub ok: bool,
+    pub rows: [TaskRow; 64],
+}
+
+// The name lengths of a part, and whether its rows follow one another as they should.
+pub struct LoadedLengths {
+    pub ok: bool,
+    pub lengths: [u8; 16],
+}
+
+// The section rows of a part, and whether each keeps its rule.
+pub struct LoadedSections {
+    pub ok: bool,
+    pub rows: [SectionRow; 255],
+}
+
+// A resource row: start and length of its name, and the spare byte.
+pub struct ResourceRow {
+    pub start: usize,
+    pub length: usize,
+    pub spare: u8,
+}
+
+// Two bytes, low byte first.
+pub fn word_at(s: &[u8], at: usize) -> usize
+    requires { ⌜ at + 1 < length (now s) ⌝ }
+    ensures { λ r. ⌜ (r ≡ number 2 (now (s .entry)) at) × (r < 65536) ⌝ }
+{
+    folds::wide(s[at]) + 256 * folds::wide(s[at + 1])
+}
+
+// The same as 16 bits.
+fn half_at(s: &[u8], at: usize) -> u16
+    requires { ⌜ at + 1 < length (now s) ⌝ }
+    ensures { λ r. ⌜ r ≡ number 2 (now (s .entry)) at ⌝ }
+{
+    word_at(s, at) as u16
+}
+
+// The counts in a header.
+pub fn counts_at(file: &[u8]) -> Counts
+    requires { ⌜ 16 ≤ length (now file) ⌝ }
+    ensures { λ r. ⌜ r ≡ countsOf (now (file .entry)) ⌝ }
+{
+    Counts {
+        processors: file[1],
+        tasks: file[2],
+        resources: file[3],
+        sections: half_at(file, 4),
+    }
+}
+
+// Where the resource rows begin.
+pub fn resources_at(c: Counts) -> usize
+    ensures { λ r. ⌜ r ≡ resourcesAt c ⌝ }
+{
+    16 + 8 * folds::wide(c.tasks)
+}
+
+// Where the section rows begin.
+pub fn sections_at(c: Counts) -> usize
+    ensures { λ r. ⌜ r ≡ sectionsAt c ⌝ }
+{
+    16 + 8 * folds::wide(c.tasks) + 4 * folds::wide(c.resources)
+}
+
+// Where the names begin.
+pub fn names_at(c: Counts) -> usize
+    ensures { λ r. ⌜ r ≡ namesAt c ⌝ }
+{
+    let s = c.sections as usize;
+    16 + 8 * folds::wide(c.tasks) + 4 * folds::wide(c.resources) + 4 * s
+}
+
+// 4: whether the four parts follow the header without gaps, and begin in the file.
+pub fn offsets_ok(file: &[u8], c: Counts) -> bool
+    requires { ⌜ 16 ≤ length (now file) ⌝ }
+    ensures { λ r. ⌜ r ≡ offsetsOk c (now (file .entry)) ⌝ }
+{
+    let tasks = word_at(file, 6);
+    let resources = word_at(file, 8);
+    let sections = word_at(file, 10);
+    let names = word_at(file, 12);
+    let end = names_at(c);
+    (tasks == 16)
+        & (resources == resources_at(c))
+        & (sections == sections_at(c))
+        & (names == end)
+        & (end <= file.len())
+}
+
+// A row that is not there.
+pub fn no_task() -> TaskRow
+    ensures { λ r. ⌜ r ≡ noTask ⌝ }
+{
+    TaskRow {
+        processor: 0,
+        tag: 0,
+        priority: 0,
+        period: 0,
+        execution: 0,
+    }
+}
+
+// A section that is not there.
+pub fn no_section() -> SectionRow
+    ensures { λ r. ⌜ r ≡ noSection ⌝ }
+{
+    SectionRow {
+        task: 0,
+        resource: 0,
+        length: 0,
+    }
+}
+
+// Task row i of the part that begins at the task rows.
+fn task_at(part: &[u8], i: usize) -> TaskRow
+    requires { ⌜ (i < 64) × (i * 8 + 8 ≤ length (now part)) ⌝ }
+    ensures { λ r. ⌜ r ≡ taskAt (now (part .entry)) i ⌝ }
+{
+    let at = i * 8;
+    TaskRow {
+        processor: part[at],
+        tag: part[at + 1] as u16,
+        priority: part[at + 2],
+        period: half_at(part, at + 4),
+        execution: half_at(part, at + 6),
+    }
+}
+
+// 5: the task rows of the part of the file that begins at them, and whether each keeps its rule.
+pub fn load_tasks(part: &[u8], n: usize, p: u8) -> LoadedTasks
+    requires { ⌜ (n ≤ 64) × (n * 8 ≤ length (now part)) ⌝ }
+    ensures { λ r. ⌜ (r .ok ≡ taskRowsOk n p (now (part .entry))) × (r .rows ≡ taskRows n (now (part .entry))) ⌝ }
+{
+    let none = no_task();
+    let mut rows = [none; 64];
+    let mut ok = true;
+    let mut i = 0;
+    while i < n {
+        let row = task_at(part, i);
+        let spare = part[i * 8 + 3];
+        ok = ok & (rows::task_ok(row, p) & (spare == 0));
+        rows[i] = row;
+        i += 1;
+    }
+    LoadedTasks { ok, rows }
+}
+
+// Resource row i of the part that begins at the resource rows.
+pub fn resource_at(part: &[u8], i: usize) -> ResourceRow
+    requires { ⌜ (i < 256) × (i * 4 + 4 ≤ length (now part)) ⌝ }
+    ensures { λ r. ⌜ (r .start ≡ startAt (now (part .entry)) i) × (r .start < 65536) × (r .length ≡ lengthAt (now (part .entry)) i) × (r .length < 256) × (r .spare ≡ resourceSpare (now (part .entry)) i) ⌝ }
+{
+    let at = i * 4;
+    ResourceRow {
+        start: word_at(part, at),
+        length: folds::wide(part[at + 2]),
+        spare: part[at + 3],
+    }
+}
+
+// 7: the lengths in the resource rows, and whether each name starts where the last ended and each spare byte is 0.
+pub fn load_lengths(part: &[u8], r: usize) -> LoadedLengths
+    requires { ⌜ (r ≤ 16) × (r * 4 ≤ length (now part)) ⌝ }
+    ensures { λ l. ⌜ (l .ok ≡ lengthRowsOk r (now (part .entry))) × (l .lengths ≡ lengthRows r (now (part .entry))) ⌝ }
+{
+    let mut lengths = [0u8; 16];
+    let mut ok = true;
+    let mut end = 0;
+    let mut i = 0;
+    while i < r {
+        let row = resource_at(part, i);
+        ok = ok & ((row.start == end) & (row.spare == 0));
+        lengths[i] = part[i * 4 + 2];
+        end += row.length;
+        i += 1;
+    }
+    LoadedLengths { ok, lengths }
+}
+
+// Section row i of the part that begins at the section rows.
+fn section_at(part: &[u8], i: usize) -> SectionRow
+    requires { ⌜ (i < 255) × (i * 4 + 4 ≤ length (now part)) ⌝ }
+    ensures { λ r. ⌜ r ≡ sectionAt (now (part .entry)) i ⌝ }
+{
+    let at = i * 4;
+    SectionRow {
+        task: part[at],
+        resource: part[at + 1],
+        length: half_at(part, at + 2),
+    }
+}
+
+// 8: the section rows of the part of the file that begins at them, and whether each keeps its rule.
+pub fn load_sections(part: &[u8], s: usize, n: u8, r: u8) -> LoadedSections
+    requires { ⌜ (s ≤ 255) × (s * 4 ≤ length (now part)) ⌝ }
+    ensures { λ l. ⌜ (l .ok ≡ sectionRowsOk s n r (now (part .entry))) × (l .rows ≡ sectionRows s (now (part .entry))) ⌝ }
+{
+    let none = no_section();
+    let mut rows = [none; 255];
+    let mut ok = true;
+    let mut i = 0;
+    while i < s {
+        let row = section_at(part, i);
+        ok = ok & rows::section_ok(row, n, r);
+        rows[i] = row;
+        i += 1;
+    }
+    LoadedSections { ok, rows }
+}

@@ -1,0 +1,139 @@
+-- What a file that passed its checks tells.
+use Prim.Native.Nat.{ℕ, zero, suc, _+_, _*_, _<_, _≤_}
+use mathlib.Core.Bool.{Bool, true, false, cond, _&&_}
+use mathlib.Core.List.{List, [], _∷_}
+use mathlib.Core.Path.{_≡_, refl, sym, ap, _∙_}
+use native.Mathlib.Omega.{arith}
+use borrow.Author.Tests.{ltb-false, leb-true, eqb-true, eqb-false, eq-eqb, ne-eqb}
+use lib.Dec.{eqb, ltb, leb}
+use lib.ListN.{length, getD, drop}
+use Rattle.folds.specs.Bytes.{number}
+use Rattle.folds.proofs.Tests.{and-parts, code-zero, code-next}
+use Rattle.folds.proofs.Arrays.{by-eq}
+use Rattle.rows.specs.Rules.{countsOk, uniqueOk, namesOk, sumsOk}
+use Rattle.rows.specs.declared.Counts.{Counts}
+use Rattle.parts.specs.Layout.{countsOf, tasksAt, resourcesAt, sectionsAt, namesAt, offsetsOk, taskRowsOk, lengthRowsOk, sectionRowsOk, tasksOf, lengthsOf, sectionsOf, rowsOf, namesOf}
+use Rattle.parts.proofs.Laws.{Ranges, counts-ranges}
+use Rattle.plan.specs.declared.Reading.{Reading}
+use Rattle.plan.specs.declared.ReadAnswer.{ReadAnswer}
+use Rattle.plan.specs.declared.ReadAnswer.the-variants.{Accepted, Refused}
+use Rattle.plan.specs.Reading.{headerCode, restCode, rowsCode, refusal, given, reading, refusedWith, told, readTold}
+
+-- the header
+pub record Header (f : List ℕ) : Type 0 where
+  pub long : 16 ≤ length f
+  pub whole : number 2 f 14 ≡ length f
+  pub edition : getD f 0 0 ≡ 1
+  pub counts : countsOk (countsOf f) ≡ true
+  pub ranges : Ranges (countsOf f)
+  pub tasks-at : number 2 f 6 ≡ tasksAt
+  pub resources-at : number 2 f 8 ≡ resourcesAt (countsOf f)
+  pub sections-at : number 2 f 10 ≡ sectionsAt (countsOf f)
+  pub names-at : number 2 f 12 ≡ namesAt (countsOf f)
+  pub ends : namesAt (countsOf f) ≤ length f
+
+first-fails : (b : Bool) (k m : ℕ) → cond b (suc m) k ≡ 0 → b ≡ false
+first-fails true k m e = let bad : ⊥ = omega arith in absurd bad
+first-fails false k m e = refl
+
+first-next : (b : Bool) (k m : ℕ) → cond b (suc m) k ≡ 0 → k ≡ 0
+first-next true k m e = let bad : ⊥ = omega arith in absurd bad
+first-next false k m e = e
+
+pub header-facts : (f : List ℕ) → headerCode f ≡ 0 → Header f
+unfolding headerCode
+header-facts f e =
+    let e1 = first-next (ltb (length f) 16) _ 0 e in
+    let e2 = code-next (eqb (number 2 f 14) (length f)) _ 0 e1 in
+    let e3 = code-next (eqb (getD f 0 0) 1) _ 1 e2 in
+    let e4 = code-next (countsOk (countsOf f)) _ 2 e3 in
+    let ok : countsOk (countsOf f) ≡ true = code-zero _ _ 2 e3 in
+    let a = and-parts _ _ (code-zero (offsetsOk (countsOf f) f) _ 3 e4) in
+    let b = and-parts _ _ (a .0) in
+    let d = and-parts _ _ (b .0) in
+    let g = and-parts _ _ (d .0) in
+    record {
+      long = ltb-false _ _ (first-fails (ltb (length f) 16) _ 0 e);
+      whole = eqb-true _ _ (code-zero _ _ 0 e1);
+      edition = eqb-true _ _ (code-zero _ _ 1 e2);
+      counts = ok;
+      ranges = counts-ranges (countsOf f) ok;
+      tasks-at = eqb-true _ _ (g .0);
+      resources-at = eqb-true _ _ (g .1);
+      sections-at = eqb-true _ _ (d .1);
+      names-at = eqb-true _ _ (b .1);
+      ends = leb-true _ _ (a .1);
+    }
+
+-- a whole plan
+pub record Whole (f : List ℕ) : Type 0 where
+  pub header : Header f
+  pub tasks : taskRowsOk (countsOf f .tasks) (countsOf f .processors) (drop tasksAt f) ≡ true
+  pub unique : uniqueOk (countsOf f .tasks) (tasksOf f) ≡ true
+  pub starts : lengthRowsOk (countsOf f .resources) (drop (resourcesAt (countsOf f)) f) ≡ true
+  pub names : namesOk (countsOf f .resources) (lengthsOf f) (namesOf f) ≡ true
+  pub sections : sectionRowsOk (countsOf f .sections) (countsOf f .tasks) (countsOf f .resources) (drop (sectionsAt (countsOf f)) f) ≡ true
+  pub sums : sumsOk (countsOf f .tasks) (countsOf f .sections) (tasksOf f) (sectionsOf f) ≡ true
+
+header-zero : (k r : ℕ) → cond (eqb k 0) r k ≡ 0 → k ≡ 0
+header-zero k r e = by-eq (λ (b : Bool). cond b r k ≡ 0 → k ≡ 0) k 0 (λ q h. q) (λ d h. h) e
+
+header-next : (k r : ℕ) → cond (eqb k 0) r k ≡ 0 → r ≡ 0
+header-next k r e = by-eq (λ (b : Bool). cond b r k ≡ 0 → r ≡ 0) k 0 (λ q h. h) (λ d h. absurd (d h)) e
+
+pub whole-facts : (f : List ℕ) → refusal f ≡ 0 → Whole f
+unfolding refusal rowsCode restCode
+whole-facts f e =
+    let h : headerCode f ≡ 0 = header-zero (headerCode f) _ e in
+    let r1 = header-next (headerCode f) _ e in
+    let r2 = code-next (taskRowsOk (countsOf f .tasks) (countsOf f .processors) (drop tasksAt f)) _ 4 r1 in
+    let r3 = code-next (uniqueOk (countsOf f .tasks) (tasksOf f)) _ 5 r2 in
+    let r4 = code-next (lengthRowsOk (countsOf f .resources) (drop (resourcesAt (countsOf f)) f)) _ 6 r3 in
+    let r5 = code-next (namesOk (countsOf f .resources) (lengthsOf f) (namesOf f)) _ 6 r4 in
+    let r6 = code-next (sectionRowsOk (countsOf f .sections) (countsOf f .tasks) (countsOf f .resources) (drop (sectionsAt (countsOf f)) f)) _ 7 r5 in
+    record {
+      header = header-facts f h;
+      tasks = code-zero _ _ 4 r1;
+      unique = code-zero _ _ 5 r2;
+      starts = code-zero _ _ 6 r3;
+      names = code-zero _ _ 6 r4;
+      sections = code-zero _ _ 7 r5;
+      sums = code-zero _ _ 8 r6;
+    }
+
+-- what the answer of a reading tells
+pub record Got (f : List ℕ) (c : Counts) : Type 0 where
+  pub none : refusal f ≡ 0
+  pub counts : c ≡ countsOf f
+  pub rows : reading f .rows ≡ rowsOf f
+
+counts-in : ReadAnswer → Counts
+counts-in (Accepted c) = c
+counts-in (Refused k) = record { processors = 0; tasks = 0; resources = 0; sections = 0 }
+
+number-in : ReadAnswer → ℕ
+number-in (Accepted c) = 0
+number-in (Refused k) = suc k
+
+pub given-told : (f : List ℕ) → told (reading f .answer) ≡ readTold f
+unfolding given
+given-told f =
+    by-eq
+    (λ (b : Bool). told ((cond b (record { answer = Accepted (countsOf f); rows = rowsOf f }) (refusedWith (refusal f))) .answer) ≡ record { number = refusal f; values = cond b (getD f 1 0 ∷ getD f 2 0 ∷ getD f 3 0 ∷ number 2 f 4 ∷ []) [] })
+    (refusal f) 0 (λ q. rw q) (λ d. refl)
+
+pub got-plan : (f : List ℕ) (c : Counts) → reading f .answer ≡ Accepted c → Got f c
+unfolding given counts-in number-in
+got-plan f c e = go (eqb (refusal f) 0) refl e
+  where
+    go : (b : Bool) → eqb (refusal f) 0 ≡ b → (cond b (record { answer = Accepted (countsOf f); rows = rowsOf f }) (refusedWith (refusal f))) .answer ≡ Accepted c → Got f c
+    go true t a = record { none = eqb-true _ _ t; counts = sym (ap counts-in a); rows = rw t }
+    go false t a = let bad : suc (refusal f) ≡ 0 = ap number-in a in let off : ⊥ = omega arith in absurd off
+
+pub got-refusal : (f : List ℕ) (k : ℕ) → reading f .answer ≡ Refused k → (refusal f ≡ k) × (k ≡ 0 → ⊥)
+unfolding given number-in
+got-refusal f k e = go (eqb (refusal f) 0) refl e
+  where
+    go : (b : Bool) → eqb (refusal f) 0 ≡ b → (cond b (record { answer = Accepted (countsOf f); rows = rowsOf f }) (refusedWith (refusal f))) .answer ≡ Refused k → (refusal f ≡ k) × (k ≡ 0 → ⊥)
+    go true t a = let bad : 0 ≡ suc k = ap number-in a in let off : ⊥ = omega arith in absurd off
+    go false t a = let same : suc (refusal f) ≡ suc k = ap number-in a in (omega arith, λ z. eqb-false (refusal f) 0 t (omega arith))

@@ -1,0 +1,182 @@
+// The plan file: reading it, with checks 1 to 9 in order, and the names in it.
+use rows::Counts;
+use rows::Rows;
+use rows::SectionRow;
+use rows::TaskRow;
+ghost use mathlib.Core.Path.{_≡_};
+ghost use mathlib.Core.Bool.{true};
+ghost use Prim.Native.Nat.{_≤_};
+ghost use lib.ListN.{length};
+ghost use Rattle.parts.specs.Layout.{countsOf, tasksOf};
+ghost use Rattle.plan.specs.Reading.{headerCode, restReading, rowsReading, reading, refusal, told, readTold, nameRefusal, nameOf, refusedWith, planLength};
+
+// A read plan's counts, or the number of the first check that it fails.
+pub enum ReadAnswer {
+    Accepted(Counts),
+    Refused(u8),
+}
+
+// The answer with the rows by value beside it: all zero where the plan is refused.
+pub struct Reading {
+    pub answer: ReadAnswer,
+    pub rows: Rows,
+}
+
+// Checks 1 to 4.
+fn header_code(file: &[u8]) -> u8
+    ensures { λ r. ⌜ r ≡ headerCode (now (file .entry)) ⌝ }
+{
+    if file.len() < 16 {
+        return 1;
+    }
+    if parts::word_at(file, 14) != file.len() {
+        return 1;
+    }
+    if file[0] != 1 {
+        return 2;
+    }
+    let counts = parts::counts_at(file);
+    if !rows::counts_ok(counts) {
+        return 3;
+    }
+    if !parts::offsets_ok(file, counts) {
+        return 4;
+    }
+    0
+}
+
+// The refusal k, with no rows.
+pub fn refused(k: u8) -> Reading
+    ensures { λ r. ⌜ r ≡ refusedWith k ⌝ }
+{
+    let task = parts::no_task();
+    let section = parts::no_section();
+    Reading {
+        answer: ReadAnswer::Refused(k),
+        rows: Rows {
+            tasks: [task; 64],
+            lengths: [0u8; 16],
+            sections: [section; 255],
+        },
+    }
+}
+
+// Checks 7 to 9, of a file that passed those before.
+fn read_rest(file: &[u8], c: Counts, tasks: [TaskRow; 64]) -> Reading
+    requires { ⌜ (headerCode (now file) ≡ 0) × (c ≡ countsOf (now file)) × (tasks ≡ tasksOf (now file)) ⌝ }
+    ensures { λ r. ⌜ r ≡ restReading (now (file .entry)) ⌝ }
+{
+    let resources_at = parts::resources_at(c);
+    let sections_at = parts::sections_at(c);
+    let names_at = parts::names_at(c);
+    let r = folds::wide(c.resources);
+    let s = c.sections as usize;
+    let resources = parts::load_lengths(&file[resources_at..], r);
+    if !resources.ok {
+        return refused(7);
+    }
+    let lengths = resources.lengths;
+    if !rows::checks::names_ok(lengths, r, &file[names_at..]) {
+        return refused(7);
+    }
+    let loaded = parts::load_sections(&file[sections_at..], s, c.tasks, c.resources);
+    if !loaded.ok {
+        return refused(8);
+    }
+    let sections = loaded.rows;
+    if !rows::checks::sums_ok(tasks, sections, c.tasks, s, c.resources) {
+        return refused(9);
+    }
+    Reading {
+        answer: ReadAnswer::Accepted(c),
+        rows: Rows {
+            tasks,
+            lengths,
+            sections,
+        },
+    }
+}
+
+// Checks 5 to 9, of a file that passed those before.
+fn read_rows(file: &[u8], c: Counts) -> Reading
+    requires { ⌜ (headerCode (now file) ≡ 0) × (c ≡ countsOf (now file)) ⌝ }
+    ensures { λ r. ⌜ r ≡ rowsReading (now (file .entry)) ⌝ }
+{
+    let n = folds::wide(c.tasks);
+    let loaded = parts::load_tasks(&file[16..], n, c.processors);
+    if !loaded.ok {
+        return refused(5);
+    }
+    let tasks = loaded.rows;
+    if !rows::checks::unique_ok(tasks, n, c.processors) {
+        return refused(6);
+    }
+    read_rest(file, c, tasks)
+}
+
+// The plan in a file of any length, or the first of checks 1 to 9 that it fails.
+pub fn read(file: &[u8]) -> Reading
+    ensures { λ r. ⌜ r ≡ reading (now (file .entry)) ⌝ }
+    ensures { λ r. ⌜ told (r .answer) ≡ readTold (now (file .entry)) ⌝ }
+{
+    let code = header_code(file);
+    if code != 0 {
+        return refused(code);
+    }
+    let counts = parts::counts_at(file);
+    read_rows(file, counts)
+}
+
+// The number of the first check that the file fails, 0 for none.
+pub fn check(file: &[u8]) -> u8
+    ensures { λ r. ⌜ r ≡ refusal (now (file .entry)) ⌝ }
+{
+    let found = read(file);
+    let answer = found.answer;
+    match answer {
+        ReadAnswer::Accepted(_) => 0,
+        ReadAnswer::Refused(k) => k,
+    }
+}
+
+// Why the question for the name of a resource is refused, 0 where it is not.
+pub fn name_refusal(file: &[u8], resource: u8) -> u8
+    ensures { λ r. ⌜ r ≡ nameRefusal (now (file .entry)) resource ⌝ }
+{
+    let found = read(file);
+    let answer = found.answer;
+    match answer {
+        ReadAnswer::Accepted(counts) => { if resource < counts.resources { 0 } else { 12 } }
+        ReadAnswer::Refused(k) => k,
+    }
+}
+
+// The name of a resource, as that part of the file itself; an empty part where the question is refused.
+pub fn name(file: &[u8], resource: u8) -> &[u8]
+    ensures { λ r. ⌜ now r ≡ nameOf (now (file .entry)) resource ⌝ }
+{
+    if name_refusal(file, resource) != 0 {
+        return &file[0..0];
+    }
+    let counts = parts::counts_at(file);
+    let resources_at = parts::resources_at(counts);
+    let row = parts::resource_at(&file[resources_at..], folds::wide(resource));
+    let start = parts::names_at(counts) + row.start;
+    let end = start + row.length;
+    &file[start..end]
+}
+
+// How many bytes of the input are its plan: as many as bytes 14 and 15 say, and all where there are fewer.
+pub fn plan_length(input: &[u8]) -> usize
+    ensures { λ r. ⌜ r ≡ planLength (now (input .entry)) ⌝ }
+    ensures { λ r. ⌜ r ≤ length (now (input .entry)) ⌝ }
+{
+    if input.len() < 16 {
+        return input.len();
+    }
+    let said = parts::word_at(input, 14);
+    if said < input.len() {
+        return said;
+    }
+    input.len()
+}

@@ -1,0 +1,165 @@
+-- What counts and rows that keep their rules have, and the laws of the tables of tags and places seen and of sums by task.
+use Prim.Native.Nat.{ℕ, _+_, _*_, _<_, _≤_}
+use mathlib.Core.Bool.{Bool, true, false, cond, _&&_, not}
+use mathlib.Core.List.{List}
+use mathlib.Core.Path.{_≡_, sym, ap, ap₂, _∙_}
+use native.Mathlib.Omega.{arith}
+use borrow.Author.Tests.{ltb-true, leb-true, eq-eqb, ne-eqb, not-true, not-false}
+use lib.Dec.{leb, ltb, eqb}
+use lib.ListN.{length, getD, replicate}
+use Rattle.folds.proofs.Tests.{and-parts, all-at, all-same}
+use Rattle.folds.proofs.Figures.{sum-bound}
+use Rattle.folds.proofs.Arrays.{by-eq, markedBelow, marked-new, gatheredBelow, gathered-length, gathered-at}
+use Rattle.rows.specs.declared.Counts.{Counts}
+use Rattle.rows.specs.declared.TaskRow.{TaskRow}
+use Rattle.rows.specs.declared.SectionRow.{SectionRow}
+use Rattle.rows.specs.Rules.{taskOf, sectionOf, countsOk, taskOk, tasksOk, sectionOk, sectionsOk, tagNew, priorityNew, sectionSum}
+
+-- what a call's result says of the test that it ensures
+pub held : {t b : Bool} → t ≡ b → not t ≡ false → b ≡ true
+held {t} e h = sym e ∙ not-false t h
+
+pub failed : {t b : Bool} → t ≡ b → not t ≡ true → b ≡ false
+failed {t} e h = sym e ∙ not-true t h
+
+-- counts in their ranges
+pub record InRange (c : Counts) : Type 0 where
+  pub processor : 1 ≤ c .processors
+  pub processors : c .processors ≤ 8
+  pub task : 1 ≤ c .tasks
+  pub tasks : c .tasks ≤ 64
+  pub resource : 1 ≤ c .resources
+  pub resources : c .resources ≤ 16
+  pub sections : c .sections ≤ 255
+
+pub counts-facts : (c : Counts) → countsOk c ≡ true → InRange c
+counts-facts c h =
+    let g = and-parts _ _ h in
+    let f = and-parts _ _ (g .0) in
+    let e = and-parts _ _ (f .0) in
+    let d = and-parts _ _ (e .0) in
+    let k = and-parts _ _ (d .0) in
+    let p = and-parts _ _ (k .0) in
+    record {
+      processor = leb-true _ _ (p .0);
+      processors = leb-true _ _ (p .1);
+      task = leb-true _ _ (k .1);
+      tasks = leb-true _ _ (d .1);
+      resource = leb-true _ _ (e .1);
+      resources = leb-true _ _ (f .1);
+      sections = leb-true _ _ (g .1);
+    }
+
+-- a task that keeps its rule in a plan of p processors
+pub record Task (p : ℕ) (t : TaskRow) : Type 0 where
+  pub processor : t .processor < p
+  pub tag : t .tag ≤ 255
+  pub priority : 1 ≤ t .priority
+  pub execution : 1 ≤ t .execution
+  pub period : t .execution ≤ t .period
+
+pub task-facts : (p : ℕ) (t : TaskRow) → taskOk p t ≡ true → Task p t
+task-facts p t h =
+    let e = and-parts _ _ h in
+    let d = and-parts _ _ (e .0) in
+    let c = and-parts _ _ (d .0) in
+    let b = and-parts _ _ (c .0) in
+    record {
+      processor = ltb-true _ _ (b .0);
+      tag = leb-true _ _ (b .1);
+      priority = leb-true _ _ (c .1);
+      execution = leb-true _ _ (d .1);
+      period = leb-true _ _ (e .1);
+    }
+
+pub task-at : (n p i : ℕ) (tasks : List TaskRow) → tasksOk n p tasks ≡ true → i < n → Task p (taskOf tasks i)
+unfolding tasksOk
+task-at n p i tasks h l = task-facts p (taskOf tasks i) (all-at n i (λ k. taskOk p (taskOf tasks k)) h l)
+
+-- a section that keeps its rule in a plan of n tasks and r resources
+pub record Section (n r : ℕ) (s : SectionRow) : Type 0 where
+  pub task : s .task < n
+  pub resource : s .resource < r
+  pub low : 1 ≤ s .length
+  pub high : s .length ≤ 1000
+
+pub section-facts : (n r : ℕ) (s : SectionRow) → sectionOk n r s ≡ true → Section n r s
+section-facts n r s h =
+    let d = and-parts _ _ h in
+    let c = and-parts _ _ (d .0) in
+    let b = and-parts _ _ (c .0) in
+    record {
+      task = ltb-true _ _ (b .0);
+      resource = ltb-true _ _ (b .1);
+      low = leb-true _ _ (c .1);
+      high = leb-true _ _ (d .1);
+    }
+
+pub section-at : (s n r i : ℕ) (sections : List SectionRow) → sectionsOk s n r sections ≡ true → i < s → Section n r (sectionOf sections i)
+unfolding sectionsOk
+section-at s n r i sections h l =
+    section-facts n r (sectionOf sections i) (all-at s i (λ k. sectionOk n r (sectionOf sections k)) h l)
+
+-- the table of the sums of lengths by task, of the sections below i
+abbrev pub sumsBelow : ℕ → List SectionRow → List ℕ
+sumsBelow i sections =
+    gatheredBelow i (λ k. sectionOf sections k .task) (λ k. sectionOf sections k .length) (replicate 64 0)
+
+pub sums-at : (i t : ℕ) (sections : List SectionRow) → t < 64 → getD (sumsBelow i sections) t 0 ≡ sectionSum i sections t
+unfolding sectionSum
+sums-at i t sections l =
+    gathered-at i 64 (λ k. sectionOf sections k .task) (λ k. sectionOf sections k .length) t l
+
+-- what stands in it is small where the sections keep their rule
+pub sums-small : (s n r i t : ℕ) (sections : List SectionRow) {l : List ℕ} → sectionsOk s n r sections ≡ true → i ≤ s → l ≡ sumsBelow i sections → t < 64 → getD l t 0 ≤ i * 1000
+unfolding sectionSum
+sums-small s n r i t sections h le e less =
+    rw (e, sums-at i t sections less)
+    (sum-bound i 1000 (λ k. cond (eqb (sectionOf sections k .task) t) (sectionOf sections k .length) 0)
+    (λ k lt. part (eqb (sectionOf sections k .task) t) (sectionOf sections k .length) (section-at s n r k sections h (omega arith) .high)))
+  where
+    part : (b : Bool) (m : ℕ) → m ≤ 1000 → cond b m 0 ≤ 1000
+    part true m h = h
+    part false m h = omega arith
+
+-- what the loop returns
+pub sums-done : (s i : ℕ) (sections : List SectionRow) {l : List ℕ} → i ≡ s → l ≡ sumsBelow i sections → (length l ≡ 64) × ((t : ℕ) → t < 64 → getD l t 0 ≡ sectionSum s sections t)
+sums-done s i sections e p = (
+  rw p (gathered-length i (λ k. sectionOf sections k .task) (λ k. sectionOf sections k .length) (replicate 64 0)),
+  λ t less. rw (p, e) (sums-at s t sections less),
+)
+
+-- a processor and a priority below 256 as one number
+pub place-eqb : (p q a b : ℕ) → a < 256 → b < 256 → eqb (p * 256 + a) (q * 256 + b) ≡ (eqb p q && eqb a b)
+place-eqb p q a b la lb =
+    by-eq (λ (t : Bool). eqb (p * 256 + a) (q * 256 + b) ≡ (t && eqb a b)) p q
+    (λ e. by-eq (λ (t : Bool). eqb (p * 256 + a) (q * 256 + b) ≡ t) a b (λ f. eq-eqb (p * 256 + a) (q * 256 + b) (omega arith)) (λ d. ne-eqb (p * 256 + a) (q * 256 + b) (λ f. d (omega arith))))
+    (λ d. ne-eqb (p * 256 + a) (q * 256 + b) (λ f. d (omega arith)))
+
+-- the place of task k's processor and priority in the table of those seen
+abbrev pub placeOf : List TaskRow → ℕ → ℕ
+placeOf tasks k = taskOf tasks k .processor * 256 + taskOf tasks k .priority
+
+-- the tables of the tags and of the places of the tasks below i
+abbrev pub tagsBelow : ℕ → List TaskRow → List ℕ
+tagsBelow i tasks = markedBelow i (λ k. taskOf tasks k .tag) (replicate 256 0)
+
+abbrev pub placesBelow : ℕ → List TaskRow → List ℕ
+placesBelow i tasks = markedBelow i (placeOf tasks) (replicate 2048 0)
+
+pub tag-seen : (i : ℕ) (tasks : List TaskRow) → taskOf tasks i .tag < 256 → eqb (getD (tagsBelow i tasks) (taskOf tasks i .tag) 0) 0 ≡ tagNew tasks i
+unfolding tagNew
+tag-seen i tasks l = marked-new i 256 (λ k. taskOf tasks k .tag) (taskOf tasks i .tag) l
+
+pub place-seen : (i : ℕ) (tasks : List TaskRow) → placeOf tasks i < 2048 → ((k : ℕ) → k < i + 1 → taskOf tasks k .priority < 256) → eqb (getD (placesBelow i tasks) (placeOf tasks i) 0) 0 ≡ priorityNew tasks i
+unfolding priorityNew
+place-seen i tasks l h =
+    marked-new i 2048 (placeOf tasks) (placeOf tasks i) l
+    ∙ all-same i
+    (λ k. not (eqb (placeOf tasks i) (placeOf tasks k)))
+    (λ k. not (eqb (taskOf tasks i .processor) (taskOf tasks k .processor) && eqb (taskOf tasks i .priority) (taskOf tasks k .priority)))
+    (λ k less. ap not (place-eqb (taskOf tasks i .processor) (taskOf tasks k .processor) (taskOf tasks i .priority) (taskOf tasks k .priority) (h i (omega arith)) (h k (omega arith))))
+
+-- the test that a turn of the loop makes
+pub both-seen : (i : ℕ) (tasks : List TaskRow) {tags places : List ℕ} → tags ≡ tagsBelow i tasks → places ≡ placesBelow i tasks → taskOf tasks i .tag < 256 → placeOf tasks i < 2048 → ((k : ℕ) → k < i + 1 → taskOf tasks k .priority < 256) → (eqb (getD tags (taskOf tasks i .tag) 0) 0 && eqb (getD places (placeOf tasks i) 0) 0) ≡ (tagNew tasks i && priorityNew tasks i)
+both-seen i tasks p q l m h = rw (p, q) (ap₂ _&&_ (tag-seen i tasks l) (place-seen i tasks m h))

@@ -1,0 +1,208 @@
+// The rules over all rows. These functions are for the crates that read and write plans: each relies on what the checks
+// before it gave, and says so in its `requires`.
+use crate::SectionRow;
+use crate::TaskRow;
+ghost use mathlib.Core.Path.{_≡_};
+ghost use mathlib.Core.Bool.{true};
+ghost use Prim.Native.Nat.{ℕ, _+_, _≤_, _<_};
+ghost use lib.ListN.{length, getD};
+ghost use Rattle.folds.specs.Below.{sumBelow};
+ghost use Rattle.rows.specs.Rules.{tasksOk, uniqueOk, lengthOf, lengthsOk, bytesOk, sameBytes, differ, namesDiffer, nameNew, namesOk, sectionsOk, sumsOk, sectionSum};
+
+// 5: whether each task row keeps its rule.
+pub fn tasks_ok(tasks: [TaskRow; 64], n: usize, p: u8) -> bool
+    requires { ⌜ n ≤ 64 ⌝ }
+    ensures { λ r. ⌜ r ≡ tasksOk n p tasks ⌝ }
+{
+    let mut ok = true;
+    let mut i = 0;
+    while i < n {
+        let task = tasks[i];
+        ok = ok & crate::task_ok(task, p);
+        i += 1;
+    }
+    ok
+}
+
+// 6: whether tags differ, and priorities on each processor. One pass, by tables of those seen.
+pub fn unique_ok(tasks: [TaskRow; 64], n: usize, p: u8) -> bool
+    requires { ⌜ (n ≤ 64) × (p ≤ 8) × (tasksOk n p tasks ≡ true) ⌝ }
+    ensures { λ r. ⌜ r ≡ uniqueOk n tasks ⌝ }
+{
+    let mut tags = [0u8; 256];
+    let mut priorities = [0u8; 2048];
+    let mut ok = true;
+    let mut i = 0;
+    while i < n {
+        let task = tasks[i];
+        let tag = task.tag as usize;
+        let place = task.processor as usize * 256 + task.priority as usize;
+        ok = ok & ((tags[tag] == 0) & (priorities[place] == 0));
+        tags[tag] = 1;
+        priorities[place] = 1;
+        i += 1;
+    }
+    ok
+}
+
+// The sum of the first r name lengths.
+pub fn total_length(lengths: [u8; 16], r: usize) -> usize
+    requires { ⌜ r ≤ 16 ⌝ }
+    ensures { λ t. ⌜ (t ≡ sumBelow r (lengthOf lengths)) × (t ≤ 4080) ⌝ }
+{
+    let mut sum = 0;
+    let mut i = 0;
+    while i < r {
+        sum += folds::wide(lengths[i]);
+        i += 1;
+    }
+    sum
+}
+
+// Whether each of the first r name lengths is in its range.
+fn lengths_ok(lengths: [u8; 16], r: usize) -> bool
+    requires { ⌜ r ≤ 16 ⌝ }
+    ensures { λ b. ⌜ b ≡ lengthsOk r lengths ⌝ }
+{
+    let mut ok = true;
+    let mut i = 0;
+    while i < r {
+        let len = lengths[i];
+        ok = ok & ((1 <= len) & (len <= 12));
+        i += 1;
+    }
+    ok
+}
+
+// Whether each name byte is in its range.
+fn bytes_ok(names: &[u8]) -> bool
+    ensures { λ b. ⌜ b ≡ bytesOk (now (names .entry)) ⌝ }
+{
+    let mut ok = true;
+    let mut k = 0;
+    while k < names.len() {
+        let b = names[k];
+        ok = ok & ((33 <= b) & (b <= 126));
+        k += 1;
+    }
+    ok
+}
+
+// Whether the len bytes at a and those at b are the same.
+fn same_bytes(names: &[u8], a: usize, b: usize, len: usize) -> bool
+    requires { ⌜ (a + len ≤ length (now names)) × (b + len ≤ length (now names)) ⌝ }
+    ensures { λ r. ⌜ r ≡ sameBytes (now (names .entry)) a b len ⌝ }
+{
+    let mut k = 0;
+    while k < len {
+        if names[a + k] != names[b + k] {
+            return false;
+        }
+        k += 1;
+    }
+    true
+}
+
+// Whether the name of resource i, which begins at `at`, differs from that of resource j, which begins at `other`.
+fn differs(lengths: [u8; 16], names: &[u8], i: usize, j: usize, at: usize, other: usize) -> bool
+    requires { ⌜ (i < 16) × (j < 16) × (at + lengthOf lengths i ≤ length (now names)) × (other + lengthOf lengths j ≤ length (now names)) ⌝ }
+    ensures { λ r. ⌜ r ≡ differ lengths (now (names .entry)) i j at other ⌝ }
+{
+    let len = folds::wide(lengths[i]);
+    if len != folds::wide(lengths[j]) {
+        return true;
+    }
+    !same_bytes(names, at, other, len)
+}
+
+// Whether the name of resource i, which begins at `at`, differs from those of all earlier ones.
+fn name_is_new(lengths: [u8; 16], names: &[u8], i: usize, at: usize) -> bool
+    requires { ⌜ (i < 16) × (at ≡ sumBelow i (lengthOf lengths)) × (at + lengthOf lengths i ≤ length (now names)) ⌝ }
+    ensures { λ r. ⌜ r ≡ nameNew lengths (now (names .entry)) i ⌝ }
+{
+    let mut ok = true;
+    let mut other = 0;
+    let mut j = 0;
+    while j < i {
+        ok = ok & differs(lengths, names, i, j, at, other);
+        other += folds::wide(lengths[j]);
+        j += 1;
+    }
+    ok
+}
+
+// Whether all names differ.
+fn names_differ(lengths: [u8; 16], r: usize, names: &[u8]) -> bool
+    requires { ⌜ (r ≤ 16) × (sumBelow r (lengthOf lengths) ≡ length (now names)) ⌝ }
+    ensures { λ b. ⌜ b ≡ namesDiffer r lengths (now (names .entry)) ⌝ }
+{
+    let mut ok = true;
+    let mut at = 0;
+    let mut i = 0;
+    while i < r {
+        ok = ok & name_is_new(lengths, names, i, at);
+        at += folds::wide(lengths[i]);
+        i += 1;
+    }
+    ok
+}
+
+// 7: whether lengths and names keep their rules: lengths in range that add up to the bytes, bytes in range, names that differ.
+pub fn names_ok(lengths: [u8; 16], r: usize, names: &[u8]) -> bool
+    requires { ⌜ r ≤ 16 ⌝ }
+    ensures { λ b. ⌜ b ≡ namesOk r lengths (now (names .entry)) ⌝ }
+{
+    if total_length(lengths, r) != names.len() {
+        return false;
+    }
+    lengths_ok(lengths, r) & bytes_ok(names) & names_differ(lengths, r, names)
+}
+
+// 8: whether each section row keeps its rule.
+pub fn sections_ok(sections: [SectionRow; 255], s: usize, n: u8, r: u8) -> bool
+    requires { ⌜ s ≤ 255 ⌝ }
+    ensures { λ b. ⌜ b ≡ sectionsOk s n r sections ⌝ }
+{
+    let mut ok = true;
+    let mut i = 0;
+    while i < s {
+        let section = sections[i];
+        ok = ok & crate::section_ok(section, n, r);
+        i += 1;
+    }
+    ok
+}
+
+// The sum of the sections' lengths of each task, in one pass.
+fn section_sums(sections: [SectionRow; 255], s: usize, n: u8, r: u8) -> [u32; 64]
+    requires { ⌜ (s ≤ 255) × (n ≤ 64) × (sectionsOk s n r sections ≡ true) ⌝ }
+    ensures { λ l. ⌜ (length l ≡ 64) × ((t : ℕ) → t < 64 → getD l t 0 ≡ sectionSum s sections t) ⌝ }
+{
+    let mut sums = [0u32; 64];
+    let mut i = 0;
+    while i < s {
+        let section = sections[i];
+        let task = section.task as usize;
+        sums[task] += section.length as u32;
+        i += 1;
+    }
+    sums
+}
+
+// 9: whether the sections of each task fit its execution time.
+pub fn sums_ok(tasks: [TaskRow; 64], sections: [SectionRow; 255], n: u8, s: usize, r: u8) -> bool
+    requires { ⌜ (n ≤ 64) × (s ≤ 255) × (sectionsOk s n r sections ≡ true) ⌝ }
+    ensures { λ b. ⌜ b ≡ sumsOk n s tasks sections ⌝ }
+{
+    let sums = section_sums(sections, s, n, r);
+    let count = folds::wide(n);
+    let mut ok = true;
+    let mut i = 0;
+    while i < count {
+        let task = tasks[i];
+        let sum = sums[i];
+        ok = ok & (sum <= task.execution as u32);
+        i += 1;
+    }
+    ok
+}
