@@ -4,20 +4,22 @@ use mathlib.Core.Bool.{Bool, true, false, cond, _&&_}
 use mathlib.Core.List.{List, [], _∷_}
 use mathlib.Core.Path.{_≡_, refl, sym, ap, _∙_}
 use native.Mathlib.Omega.{arith}
-use borrow.Author.Tests.{ltb-false, leb-true, eqb-true, eqb-false, eq-eqb, ne-eqb}
+use borrow.Author.Tests.{ltb-true, ltb-false, leb-true, eqb-true, eqb-false, eq-eqb, ne-eqb}
 use lib.Dec.{eqb, ltb, leb}
-use lib.ListN.{length, getD, drop}
+use lib.ListN.{length, getD, drop, length-drop}
+use Rattle.folds.specs.Below.{sumBelow}
 use Rattle.folds.specs.Bytes.{number}
-use Rattle.folds.proofs.Tests.{and-parts, code-zero, code-next}
+use Rattle.folds.proofs.Tests.{and-parts, code-zero, code-next, all-at}
+use Rattle.folds.proofs.Figures.{sum-at}
 use Rattle.folds.proofs.Arrays.{by-eq}
-use Rattle.rows.specs.Rules.{countsOk, uniqueOk, namesOk, sumsOk}
+use Rattle.rows.specs.Rules.{countsOk, uniqueOk, namesOk, sumsOk, lengthOf}
 use Rattle.rows.specs.declared.Counts.{Counts}
-use Rattle.parts.specs.Layout.{countsOf, tasksAt, resourcesAt, sectionsAt, namesAt, offsetsOk, taskRowsOk, lengthRowsOk, sectionRowsOk, tasksOf, lengthsOf, sectionsOf, rowsOf, namesOf}
-use Rattle.parts.proofs.Laws.{Ranges, counts-ranges}
+use Rattle.parts.specs.Layout.{countsOf, tasksAt, resourcesAt, sectionsAt, namesAt, offsetsOk, taskRowsOk, lengthRowsOk, sectionRowsOk, tasksOf, lengthsOf, sectionsOf, rowsOf, namesOf, startAt, lengthAt, resourceSpare}
+use Rattle.parts.proofs.Laws.{Ranges, counts-ranges, start-read}
 use Rattle.plan.specs.declared.Reading.{Reading}
 use Rattle.plan.specs.declared.ReadAnswer.{ReadAnswer}
 use Rattle.plan.specs.declared.ReadAnswer.the-variants.{Accepted, Refused}
-use Rattle.plan.specs.Reading.{headerCode, restCode, rowsCode, refusal, given, reading, refusedWith, told, readTold}
+use Rattle.plan.specs.Reading.{headerCode, lastCode, restCode, rowsCode, refusal, given, lastReading, restReading, rowsReading, reading, refusedWith, told, readTold, nameRefusal}
 
 -- the header
 pub record Header (f : List ℕ) : Type 0 where
@@ -82,7 +84,7 @@ header-next : (k r : ℕ) → cond (eqb k 0) r k ≡ 0 → r ≡ 0
 header-next k r e = by-eq (λ (b : Bool). cond b r k ≡ 0 → r ≡ 0) k 0 (λ q h. h) (λ d h. absurd (d h)) e
 
 pub whole-facts : (f : List ℕ) → refusal f ≡ 0 → Whole f
-unfolding refusal rowsCode restCode
+unfolding refusal rowsCode restCode lastCode
 whole-facts f e =
     let h : headerCode f ≡ 0 = header-zero (headerCode f) _ e in
     let r1 = header-next (headerCode f) _ e in
@@ -137,3 +139,76 @@ got-refusal f k e = go (eqb (refusal f) 0) refl e
     go : (b : Bool) → eqb (refusal f) 0 ≡ b → (cond b (record { answer = Accepted (countsOf f); rows = rowsOf f }) (refusedWith (refusal f))) .answer ≡ Refused k → (refusal f ≡ k) × (k ≡ 0 → ⊥)
     go true t a = let bad : 0 ≡ suc k = ap number-in a in let off : ⊥ = omega arith in absurd off
     go false t a = let same : suc (refusal f) ≡ suc k = ap number-in a in (omega arith, λ z. eqb-false (refusal f) 0 t (omega arith))
+
+-- what a reading is after each check that fails or holds
+module _ (f : List ℕ) where
+  pub read-early : {k : ℕ} → k ≡ headerCode f → (k ≡ 0 → ⊥) → reading f ≡ refusedWith k
+  unfolding given refusal
+  read-early {k} e d =
+      let no : eqb (headerCode f) 0 ≡ false = ne-eqb (headerCode f) 0 (λ z. d (e ∙ z)) in
+      rw (no, no, e)
+
+  pub read-late : {k : ℕ} → k ≡ headerCode f → k ≡ 0 → reading f ≡ rowsReading f
+  unfolding refusal
+  read-late e z = rw (eq-eqb (headerCode f) 0 (sym e ∙ z))
+
+  pub rows-5 : taskRowsOk (countsOf f .tasks) (countsOf f .processors) (drop tasksAt f) ≡ false → rowsReading f ≡ refusedWith 5
+  unfolding given rowsCode
+  rows-5 a = rw a
+
+  pub rows-6 : taskRowsOk (countsOf f .tasks) (countsOf f .processors) (drop tasksAt f) ≡ true → uniqueOk (countsOf f .tasks) (tasksOf f) ≡ false → rowsReading f ≡ refusedWith 6
+  unfolding given rowsCode
+  rows-6 a b = rw (a, b)
+
+  pub rows-held : taskRowsOk (countsOf f .tasks) (countsOf f .processors) (drop tasksAt f) ≡ true → uniqueOk (countsOf f .tasks) (tasksOf f) ≡ true → rowsReading f ≡ restReading f
+  unfolding rowsCode
+  rows-held a b = rw (a, b)
+
+  pub rest-7 : lengthRowsOk (countsOf f .resources) (drop (resourcesAt (countsOf f)) f) ≡ false → restReading f ≡ refusedWith 7
+  unfolding given restCode
+  rest-7 a = rw a
+
+  pub rest-names : lengthRowsOk (countsOf f .resources) (drop (resourcesAt (countsOf f)) f) ≡ true → namesOk (countsOf f .resources) (lengthsOf f) (namesOf f) ≡ false → restReading f ≡ refusedWith 7
+  unfolding given restCode
+  rest-names a b = rw (a, b)
+
+  pub rest-held : lengthRowsOk (countsOf f .resources) (drop (resourcesAt (countsOf f)) f) ≡ true → namesOk (countsOf f .resources) (lengthsOf f) (namesOf f) ≡ true → restReading f ≡ lastReading f
+  unfolding restCode
+  rest-held a b = rw (a, b)
+
+  pub last-8 : sectionRowsOk (countsOf f .sections) (countsOf f .tasks) (countsOf f .resources) (drop (sectionsAt (countsOf f)) f) ≡ false → lastReading f ≡ refusedWith 8
+  unfolding given lastCode
+  last-8 a = rw a
+
+  pub last-9 : sectionRowsOk (countsOf f .sections) (countsOf f .tasks) (countsOf f .resources) (drop (sectionsAt (countsOf f)) f) ≡ true → sumsOk (countsOf f .tasks) (countsOf f .sections) (tasksOf f) (sectionsOf f) ≡ false → lastReading f ≡ refusedWith 9
+  unfolding given lastCode
+  last-9 a b = rw (a, b)
+
+  pub last-held : sectionRowsOk (countsOf f .sections) (countsOf f .tasks) (countsOf f .resources) (drop (sectionsAt (countsOf f)) f) ≡ true → sumsOk (countsOf f .tasks) (countsOf f .sections) (tasksOf f) (sectionsOf f) ≡ true → lastReading f ≡ record { answer = Accepted (countsOf f); rows = rowsOf f }
+  unfolding given lastCode
+  last-held a b = rw (a, b)
+
+-- a name that is asked for rightly lies in the file
+pub record Named (f : List ℕ) (q : ℕ) : Type 0 where
+  pub whole : Whole f
+  pub below : q < countsOf f .resources
+  pub fits : namesAt (countsOf f) + (startAt (drop (resourcesAt (countsOf f)) f) q + lengthAt (drop (resourcesAt (countsOf f)) f) q) ≤ length f
+
+name-below : (k q r : ℕ) → cond (eqb k 0) (cond (ltb q r) 0 12) k ≡ 0 → q < r
+name-below k q r e = ltb-true q r (code-zero (ltb q r) 0 11 (header-next k (cond (ltb q r) 0 12) e))
+
+pub name-facts : (f : List ℕ) (q : ℕ) → nameRefusal f q ≡ 0 → Named f q
+unfolding nameRefusal lengthRowsOk namesOk
+name-facts f q e =
+    let part : List ℕ = drop (resourcesAt (countsOf f)) f in
+    let r : ℕ = countsOf f .resources in
+    let w = whole-facts f (header-zero (refusal f) (cond (ltb q r) 0 12) e) in
+    let l : q < r = name-below (refusal f) q r e in
+    let at = and-parts (eqb (startAt part q) (sumBelow q (lengthAt part))) (eqb (resourceSpare part q) 0) (all-at r q _ (w .starts) l) in
+    let start : startAt part q ≡ sumBelow q (lengthAt part) = eqb-true _ _ (at .0) in
+    let total : sumBelow r (lengthAt part) ≡ length (namesOf f) = sym (start-read r part r (omega arith) (w .header .ranges .resources)) ∙ eqb-true _ _ (and-parts (eqb (sumBelow r (lengthOf (lengthsOf f))) (length (namesOf f))) _ (w .names) .0) in
+    record {
+      whole = w;
+      below = l;
+      fits = omega (arith, sum-at r q (lengthAt part) l, length-drop (namesAt (countsOf f)) f, w .header .ends);
+    }

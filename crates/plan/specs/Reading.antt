@@ -21,15 +21,18 @@ headerCode f =
     (cond (eqb (getD f 0 0) 1) (cond (countsOk (countsOf f)) (cond (offsetsOk (countsOf f) f) 0 4) 3) 2)
     1)
 
--- 7, a resource row or name against its rule, or two equal names; 8, a section; 9, sections above C
+-- 8, a section against its rule; 9, sections above C
+unfoldable pub lastCode : List ℕ → ℕ
+lastCode f =
+    cond (sectionRowsOk (countsOf f .sections) (countsOf f .tasks) (countsOf f .resources) (drop (sectionsAt (countsOf f)) f))
+    (cond (sumsOk (countsOf f .tasks) (countsOf f .sections) (tasksOf f) (sectionsOf f)) 0 9)
+    8
+
+-- 7, a resource row or name against its rule, or two equal names; then the last
 unfoldable pub restCode : List ℕ → ℕ
 restCode f =
     cond (lengthRowsOk (countsOf f .resources) (drop (resourcesAt (countsOf f)) f))
-    (cond (namesOk (countsOf f .resources) (lengthsOf f) (namesOf f))
-    (cond (sectionRowsOk (countsOf f .sections) (countsOf f .tasks) (countsOf f .resources) (drop (sectionsAt (countsOf f)) f))
-    (cond (sumsOk (countsOf f .tasks) (countsOf f .sections) (tasksOf f) (sectionsOf f)) 0 9)
-    8)
-    7)
+    (cond (namesOk (countsOf f .resources) (lengthsOf f) (namesOf f)) (lastCode f) 7)
     7
 
 -- 5, a task row; 6, a repeated tag, or a priority repeated on a processor; then the rest
@@ -54,6 +57,10 @@ refusedWith k = record { answer = Refused k; rows = noRows }
 -- the plan, or the refusal k where that is not 0
 unfoldable pub given : List ℕ → ℕ → Reading
 given f k = cond (eqb k 0) (record { answer = Accepted (countsOf f); rows = rowsOf f }) (refusedWith k)
+
+-- reading a file that passed checks 1 to 7
+abbrev pub lastReading : List ℕ → Reading
+lastReading f = given f (lastCode f)
 
 -- reading a file that passed checks 1 to 6
 abbrev pub restReading : List ℕ → Reading

@@ -7,8 +7,8 @@ ghost use mathlib.Core.Path.{_≡_};
 ghost use mathlib.Core.Bool.{true};
 ghost use Prim.Native.Nat.{_≤_};
 ghost use lib.ListN.{length};
-ghost use Rattle.parts.specs.Layout.{countsOf, tasksOf};
-ghost use Rattle.plan.specs.Reading.{headerCode, restReading, rowsReading, reading, refusal, told, readTold, nameRefusal, nameOf, refusedWith, planLength};
+ghost use Rattle.parts.specs.Layout.{countsOf, tasksOf, lengthsOf};
+ghost use Rattle.plan.specs.Reading.{headerCode, lastReading, restReading, rowsReading, reading, refusal, told, readTold, nameRefusal, nameOf, refusedWith, planLength};
 
 // A read plan's counts, or the number of the first check that it fails.
 pub enum ReadAnswer {
@@ -61,25 +61,14 @@ pub fn refused(k: u8) -> Reading
     }
 }
 
-// Checks 7 to 9, of a file that passed those before.
-fn read_rest(file: &[u8], c: Counts, tasks: [TaskRow; 64]) -> Reading
-    requires { ⌜ (headerCode (now file) ≡ 0) × (c ≡ countsOf (now file)) × (tasks ≡ tasksOf (now file)) ⌝ }
-    ensures { λ r. ⌜ r ≡ restReading (now (file .entry)) ⌝ }
+// Checks 8 and 9, of a file that passed those before.
+fn read_last(file: &[u8], c: Counts, tasks: [TaskRow; 64], lengths: [u8; 16]) -> Reading
+    requires { ⌜ (headerCode (now file) ≡ 0) × (c ≡ countsOf (now file)) × (tasks ≡ tasksOf (now file)) × (lengths ≡ lengthsOf (now file)) ⌝ }
+    ensures { λ r. ⌜ r ≡ lastReading (now (file .entry)) ⌝ }
 {
-    let resources_at = parts::resources_at(c);
-    let sections_at = parts::sections_at(c);
-    let names_at = parts::names_at(c);
-    let r = folds::wide(c.resources);
+    let at = parts::sections_at(c);
     let s = c.sections as usize;
-    let resources = parts::load_lengths(&file[resources_at..], r);
-    if !resources.ok {
-        return refused(7);
-    }
-    let lengths = resources.lengths;
-    if !rows::checks::names_ok(lengths, r, &file[names_at..]) {
-        return refused(7);
-    }
-    let loaded = parts::load_sections(&file[sections_at..], s, c.tasks, c.resources);
+    let loaded = parts::load_sections(&file[at..], s, c.tasks, c.resources);
     if !loaded.ok {
         return refused(8);
     }
@@ -95,6 +84,25 @@ fn read_rest(file: &[u8], c: Counts, tasks: [TaskRow; 64]) -> Reading
             sections,
         },
     }
+}
+
+// Checks 7 to 9, of a file that passed those before.
+fn read_rest(file: &[u8], c: Counts, tasks: [TaskRow; 64]) -> Reading
+    requires { ⌜ (headerCode (now file) ≡ 0) × (c ≡ countsOf (now file)) × (tasks ≡ tasksOf (now file)) ⌝ }
+    ensures { λ r. ⌜ r ≡ restReading (now (file .entry)) ⌝ }
+{
+    let at = parts::resources_at(c);
+    let r = folds::wide(c.resources);
+    let loaded = parts::load_lengths(&file[at..], r);
+    if !loaded.ok {
+        return refused(7);
+    }
+    let lengths = loaded.lengths;
+    let names_at = parts::names_at(c);
+    if !rows::checks::names_ok(lengths, r, &file[names_at..]) {
+        return refused(7);
+    }
+    read_last(file, c, tasks, lengths)
 }
 
 // Checks 5 to 9, of a file that passed those before.

@@ -1,17 +1,19 @@
 -- Values that keep their rules, and rows that agree below a count: they keep the same rules, and have the same bytes.
 use Prim.Native.Nat.{ℕ, zero, suc, _+_, _*_, _<_, _≤_}
-use mathlib.Core.Bool.{Bool, true, false, cond, _&&_, not}
-use mathlib.Core.List.{List, [], _∷_, _++_}
+use mathlib.Core.Bool.{Bool, true, cond, _&&_, not}
+use mathlib.Core.List.{List, _++_}
 use mathlib.Core.Path.{_≡_, refl, sym, ap, ap₂, _∙_}
 use native.Mathlib.Omega.{arith}
 use lib.Dec.{leb, eqb}
-use lib.ListN.{length, getD, take, drop}
-use Rattle.folds.specs.Below.{allBelow, sumBelow}
+use lib.ListN.{length, take, drop, length-drop}
+use lib.Seq.{drop-at, take-add, getD-drop}
+use Rattle.folds.specs.Below.{allBelow}
 use Rattle.folds.specs.Bytes.{width, rowAt, rowBytes, bytesBelow}
 use Rattle.folds.proofs.Tests.{all-same, code-zero, code-next}
 use Rattle.folds.proofs.Figures.{sum-same}
-use Rattle.folds.proofs.RowLaws.{Bytes, solid, rows-back, rows-forth}
-use Rattle.rows.specs.Rules.{taskOf, sectionOf, lengthOf, startOf, countsOk, tasksOk, tagNew, priorityNew, uniqueOk, lengthsOk, bytesOk, sameBytes, differ, nameNew, namesDiffer, namesOk, sectionsOk, sectionSum, sumsOk, rowsCode, valuesCode}
+use Rattle.folds.proofs.Parts.{bytes-length}
+use Rattle.folds.proofs.RowLaws.{Bytes, solid, row-length, rows-back, rows-forth}
+use Rattle.rows.specs.Rules.{taskOf, sectionOf, lengthOf, startOf, countsOk, tasksOk, tagNew, priorityNew, uniqueOk, lengthsOk, bytesOk, differ, nameNew, namesDiffer, namesOk, sectionsOk, sectionSum, sumsOk, rowsCode, valuesCode}
 use Rattle.rows.specs.declared.TaskRow.{TaskRow}
 use Rattle.rows.specs.declared.SectionRow.{SectionRow}
 use Rattle.rows.specs.declared.Counts.{Counts}
@@ -22,7 +24,7 @@ pub record Kept (c : Counts) (rows : Rows) (names : List ℕ) : Type 0 where
   pub counts : countsOk c ≡ true
   pub tasks : tasksOk (c .tasks) (c .processors) (rows .tasks) ≡ true
   pub unique : uniqueOk (c .tasks) (rows .tasks) ≡ true
-  pub names : namesOk (c .resources) (rows .lengths) names ≡ true
+  pub named : namesOk (c .resources) (rows .lengths) names ≡ true
   pub sections : sectionsOk (c .sections) (c .tasks) (c .resources) (rows .sections) ≡ true
   pub sums : sumsOk (c .tasks) (c .sections) (rows .tasks) (rows .sections) ≡ true
 
@@ -39,14 +41,14 @@ module _ (c : Counts) (rows : Rows) (names : List ℕ) where
         counts = code-zero (countsOk c) _ 2 e;
         tasks = code-zero _ _ 4 e1;
         unique = code-zero _ _ 5 e2;
-        names = code-zero _ _ 6 e3;
+        named = code-zero _ _ 6 e3;
         sections = code-zero _ _ 7 e4;
         sums = code-zero _ _ 8 e5;
       }
 
   pub kept-code : Kept c rows names → valuesCode c rows names ≡ 0
   unfolding valuesCode rowsCode
-  kept-code k = rw (k .counts, k .tasks, k .unique, k .names, k .sections, k .sums)
+  kept-code k = rw (k .counts, k .tasks, k .unique, k .named, k .sections, k .sums)
 
 -- two lists of tasks
 module _ (n : ℕ) (x y : List TaskRow) (same : (i : ℕ) → i < n → taskOf x i ≡ taskOf y i) where
@@ -75,4 +77,35 @@ module _ (r : ℕ) (x y : List ℕ) (same : (i : ℕ) → i < r → lengthOf x i
 
   pub names-same : (names : List ℕ) → namesOk r x names ≡ namesOk r y names
   unfolding namesOk lengthsOk namesDiffer nameNew differ
-  names-same names = ?
+  names-same names =
+      ap₂ (λ (s : ℕ) (b : Bool). eqb s (length names) && b) (start-same r (omega arith))
+      (ap₂ (λ (a b : Bool). a && bytesOk names && b)
+      (all-same r _ _ (λ i l. ap (λ (k : ℕ). leb 1 k && leb k 12) (same i l)))
+      (all-same r _ _ (λ i l. all-same i _ _ (λ j m. rw (same i l, same j (omega arith), start-same i (omega arith), start-same j (omega arith))))))
+
+-- in f, from `at` on, stand rows of the widths ws whose numbers below n are g's
+abbrev pub Stand : List ℕ → (ℕ → List ℕ) → ℕ → List ℕ → ℕ → Type 0
+Stand ws g n f at = (i : ℕ) → i < n → rowAt ws (drop at f) i ≡ g i
+
+module _ (ws : List ℕ) (g : ℕ → List ℕ) (n : ℕ) where
+  pub rows-length : length (bytesBelow n (λ k. rowBytes ws (g k))) ≡ n * width ws
+  rows-length = bytes-length (width ws) (λ k. rowBytes ws (g k)) (λ k. row-length ws (g k)) n
+
+  -- rows that were written stand behind what was written before them
+  pub rows-stand : (f a b : List ℕ) (at : ℕ) → solid ws ≡ true → ((i : ℕ) → length (g i) ≡ length ws) → f ≡ a ++ (bytesBelow n (λ k. rowBytes ws (g k)) ++ b) → length a ≡ at → Stand ws g n f at
+  rows-stand f a b at p e q la i l =
+      rw (q, drop-at a (bytesBelow n (λ k. rowBytes ws (g k)) ++ b) at la) (rows-back ws g n i b p (e i) l)
+
+-- rows with the same numbers have the same bytes
+bytes-same : (ws : List ℕ) (g h : ℕ → List ℕ) (n : ℕ) → ((i : ℕ) → i < n → h i ≡ g i) → bytesBelow n (λ k. rowBytes ws (g k)) ≡ bytesBelow n (λ k. rowBytes ws (h k))
+unfolding bytesBelow
+bytes-same ws g h zero e = refl
+bytes-same ws g h (suc n) e =
+    ap₂ _++_ (bytes-same ws g h n (λ i l. e i (omega arith))) (ap (rowBytes ws) (sym (e n (omega arith))))
+
+-- written behind the file up to where they stand, rows make the file up to their end
+pub rows-joined : (ws : List ℕ) (g : ℕ → List ℕ) (n : ℕ) (f : List ℕ) (at end : ℕ) {x : List ℕ} → Bytes f → Stand ws g n f at → at + n * width ws ≡ end → end ≤ length f → x ≡ take at f → x ++ bytesBelow n (λ k. rowBytes ws (g k)) ≡ take end f
+rows-joined ws g n f at end b h e l q =
+    let part : List ℕ = drop at f in
+    let bytes : bytesBelow n (λ k. rowBytes ws (g k)) ≡ take (n * width ws) part = bytes-same ws g (rowAt ws part) n h ∙ rows-forth ws part n (λ i. rw getD-drop (b (at + i))) (omega (arith, length-drop at f)) in
+    rw (q, bytes, ← e, take-add)
