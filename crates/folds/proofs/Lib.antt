@@ -3,3 +3,5 @@ pub mod Figures
 pub mod Arrays
 pub mod Parts
 pub mod RowLaws
+pub mod WordLaws
+pub mod SignedLaws

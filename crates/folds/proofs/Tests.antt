@@ -6,7 +6,7 @@ use mathlib.Core.Logic.{⊎-elim}
 use native.Mathlib.Numerals.{add-one}
 use native.Mathlib.Omega.{arith}
 use native.Mathlib.Nat.{eq-or-lt-of-le, le-of-suc-le-suc, not-suc-le-zero}
-use borrow.Author.Tests.{lt-ltb, le-ltb}
+use borrow.Author.Tests.{lt-ltb, le-ltb, not-true, not-false}
 use lib.Dec.{ltb}
 use Rattle.folds.specs.Below.{allBelow, findBelow}
 
@@ -22,6 +22,13 @@ is-not-false false h = absurd (h refl)
 pub is-not-true : (b : Bool) → (b ≡ true → ⊥) → b ≡ false
 is-not-true true h = absurd (h refl)
 is-not-true false h = refl
+
+-- what a call's result says of the test that it ensures
+pub held : {t b : Bool} → t ≡ b → not t ≡ false → b ≡ true
+held {t} e h = sym e ∙ not-false t h
+
+pub failed : {t b : Bool} → t ≡ b → not t ≡ true → b ≡ false
+failed {t} e h = sym e ∙ not-true t h
 
 -- two tests that hold together
 pub same-test : (a b : Bool) → (a ≡ true → b ≡ true) → (b ≡ true → a ≡ true) → a ≡ b

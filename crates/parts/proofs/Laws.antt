@@ -5,8 +5,7 @@ use mathlib.Core.List.{List}
 use mathlib.Core.Path.{_≡_, refl, sym, ap, _∙_}
 use native.Mathlib.Nat.{add-zero}
 use native.Mathlib.Omega.{arith}
-use borrow.Author.Tests.{leb-true}
-use lib.Dec.{leb, eqb}
+use lib.Dec.{eqb}
 use lib.ListN.{length, getD, replicate, length-replicate}
 use Rattle.folds.specs.Below.{allBelow, sumBelow}
 use Rattle.folds.proofs.Tests.{all-at, all-from, all-same, and-parts}
@@ -14,8 +13,7 @@ use Rattle.folds.proofs.Figures.{sum-same}
 use Rattle.folds.specs.Bytes.{number, rowAt, fields, width}
 use Rattle.folds.proofs.Arrays.{placed-at}
 use Rattle.folds.proofs.RowLaws.{number-drop, number-byte}
-use Rattle.rows.specs.Rules.{noTask, noSection, countsOk, taskOk, sectionOk, tasksOk, sectionsOk, lengthOf, taskOf, sectionOf}
-use Rattle.rows.specs.declared.Counts.{Counts}
+use Rattle.rows.specs.Rules.{noTask, noSection, taskOk, sectionOk, tasksOk, sectionsOk, lengthOf, taskOf, sectionOf}
 use Rattle.parts.specs.Layout.{taskAt, taskSpare, startAt, lengthAt, resourceSpare, sectionAt, taskRows, lengthRows, sectionRows, taskRowsOk, sectionRowsOk}
 
 -- where the fields of row i stand in its part
@@ -72,29 +70,3 @@ module _ (n : ℕ) (part : List ℕ) where
   pub sections-kept : (m r : ℕ) → n ≤ 255 → sectionsOk n m r (sectionRows n part) ≡ sectionRowsOk n m r part
   unfolding sectionRowsOk sectionsOk
   sections-kept m r h = all-same n _ _ (λ i l. ap (sectionOk m r) (section-read i l h))
-
--- counts that passed their check
-pub record Ranges (c : Counts) : Type 0 where
-  pub processors : c .processors ≤ 8
-  pub tasks : c .tasks ≤ 64
-  pub resources : c .resources ≤ 16
-  pub sections : c .sections ≤ 255
-  pub some-task : 1 ≤ c .tasks
-  pub some-resource : 1 ≤ c .resources
-
-pub counts-ranges : (c : Counts) → countsOk c ≡ true → Ranges c
-counts-ranges c e =
-    let a = and-parts _ _ e in
-    let b = and-parts _ _ (a .0) in
-    let d = and-parts _ _ (b .0) in
-    let g = and-parts _ _ (d .0) in
-    let h = and-parts _ _ (g .0) in
-    let k = and-parts (leb 1 (c .processors)) (leb (c .processors) 8) (h .0) in
-    record {
-      processors = leb-true _ _ (k .1);
-      tasks = leb-true _ _ (g .1);
-      resources = leb-true _ _ (b .1);
-      sections = leb-true _ _ (a .1);
-      some-task = leb-true _ _ (h .1);
-      some-resource = leb-true _ _ (d .1);
-    }

@@ -15,7 +15,8 @@ use Rattle.folds.proofs.Arrays.{by-eq}
 use Rattle.rows.specs.Rules.{countsOk, uniqueOk, namesOk, sumsOk, lengthOf}
 use Rattle.rows.specs.declared.Counts.{Counts}
 use Rattle.parts.specs.Layout.{countsOf, tasksAt, resourcesAt, sectionsAt, namesAt, offsetsOk, taskRowsOk, lengthRowsOk, sectionRowsOk, tasksOf, lengthsOf, sectionsOf, rowsOf, namesOf, startAt, lengthAt, resourceSpare}
-use Rattle.parts.proofs.Laws.{Ranges, counts-ranges, start-read}
+use Rattle.rows.proofs.Laws.{InRange, counts-facts}
+use Rattle.parts.proofs.Laws.{start-read}
 use Rattle.plan.specs.declared.Reading.{Reading}
 use Rattle.plan.specs.declared.ReadAnswer.{ReadAnswer}
 use Rattle.plan.specs.declared.ReadAnswer.the-variants.{Accepted, Refused}
@@ -27,7 +28,7 @@ pub record Header (f : List ℕ) : Type 0 where
   pub whole : number 2 f 14 ≡ length f
   pub edition : getD f 0 0 ≡ 1
   pub counts : countsOk (countsOf f) ≡ true
-  pub ranges : Ranges (countsOf f)
+  pub ranges : InRange (countsOf f)
   pub tasks-at : number 2 f 6 ≡ tasksAt
   pub resources-at : number 2 f 8 ≡ resourcesAt (countsOf f)
   pub sections-at : number 2 f 10 ≡ sectionsAt (countsOf f)
@@ -59,7 +60,7 @@ header-facts f e =
       whole = eqb-true _ _ (code-zero _ _ 0 e1);
       edition = eqb-true _ _ (code-zero _ _ 1 e2);
       counts = ok;
-      ranges = counts-ranges (countsOf f) ok;
+      ranges = counts-facts (countsOf f) ok;
       tasks-at = eqb-true _ _ (g .0);
       resources-at = eqb-true _ _ (g .1);
       sections-at = eqb-true _ _ (d .1);

@@ -135,16 +135,23 @@ pub fn read(file: &[u8]) -> Reading
     read_rows(file, counts)
 }
 
+// The number that an answer tells: the refusal, 0 for a plan that is read.
+pub fn number(answer: ReadAnswer) -> u8
+    ensures { λ r. ⌜ r ≡ told answer .number ⌝ }
+{
+    match answer {
+        ReadAnswer::Accepted(_) => 0,
+        ReadAnswer::Refused(k) => k,
+    }
+}
+
 // The number of the first check that the file fails, 0 for none.
 pub fn check(file: &[u8]) -> u8
     ensures { λ r. ⌜ r ≡ refusal (now (file .entry)) ⌝ }
 {
     let found = read(file);
     let answer = found.answer;
-    match answer {
-        ReadAnswer::Accepted(_) => 0,
-        ReadAnswer::Refused(k) => k,
-    }
+    number(answer)
 }
 
 // Why the question for the name of a resource is refused, 0 where it is not.

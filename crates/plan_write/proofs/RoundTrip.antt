@@ -19,7 +19,8 @@ use Rattle.rows.specs.declared.Counts.{Counts}
 use Rattle.rows.specs.declared.Rows.{Rows}
 use Rattle.parts.specs.Layout.{countsOf, tasksAt, resourcesAt, sectionsAt, namesAt, taskWidths, resourceWidths, sectionWidths, taskAt, taskSpare, startAt, lengthAt, resourceSpare, sectionAt, taskRows, lengthRows, sectionRows, taskRowsOk, lengthRowsOk, sectionRowsOk, tasksOf, lengthsOf, sectionsOf, rowsOf, namesOf}
 use Rattle.parts.specs.Layout.{taskOf as taskIn, sectionOf as sectionIn}
-use Rattle.parts.proofs.Laws.{Ranges, counts-ranges, task-read, length-read, section-read, start-read, tasks-kept, sections-kept}
+use Rattle.rows.proofs.Laws.{InRange, counts-facts}
+use Rattle.parts.proofs.Laws.{task-read, length-read, section-read, start-read, tasks-kept, sections-kept}
 use Rattle.plan.specs.Reading.{headerCode, lastCode, restCode, rowsCode, refusal}
 use Rattle.plan.proofs.Laws.{Header, Whole, whole-facts}
 use Rattle.plan_write.specs.Encode.{headerWidths, headerNumbers, headerBytes, taskNumbers, taskBytes, resourceBytes, sectionNumbers, sectionBytes, fileLength, fileOf}
@@ -104,7 +105,7 @@ module _ (f : List ℕ) (rows : Rows) (names : List ℕ) (h : Holds f (countsOf 
         whole = field 9 ∙ sym (h .size);
         edition = field 0;
         counts = k .counts;
-        ranges = counts-ranges (countsOf f) (k .counts);
+        ranges = counts-facts (countsOf f) (k .counts);
         tasks-at = field 5;
         resources-at = field 6;
         sections-at = field 7;
@@ -115,7 +116,7 @@ module _ (f : List ℕ) (rows : Rows) (names : List ℕ) (h : Holds f (countsOf 
   whole-held : Kept (countsOf f) rows names → Whole f
   unfolding tasksOk taskRowsOk taskSpare lengthRowsOk startAt resourceSpare sectionsOk sectionRowsOk
   whole-held k =
-      let g : Ranges (countsOf f) = counts-ranges (countsOf f) (k .counts) in
+      let g : InRange (countsOf f) = counts-facts (countsOf f) (k .counts) in
       let n : ℕ = countsOf f .tasks in
       let r : ℕ = countsOf f .resources in
       let s : ℕ = countsOf f .sections in
@@ -186,7 +187,7 @@ read-holds : (f : List ℕ) → Whole f → Holds f (countsOf f) (rowsOf f) (nam
 unfolding fields taskRowsOk lengthRowsOk
 read-holds f w =
     let h : Header f = w .header in
-    let g : Ranges (countsOf f) = h .ranges in
+    let g : InRange (countsOf f) = h .ranges in
     let n : ℕ = countsOf f .tasks in
     let r : ℕ = countsOf f .resources in
     let s : ℕ = countsOf f .sections in
@@ -210,7 +211,7 @@ read-holds f w =
 read-kept : (f : List ℕ) → Whole f → Kept (countsOf f) (rowsOf f) (namesOf f)
 read-kept f w =
     let c : Counts = countsOf f in
-    let g : Ranges c = w .header .ranges in
+    let g : InRange c = w .header .ranges in
     record {
       counts = w .header .counts;
       tasks = tasks-kept (c .tasks) (drop tasksAt f) (c .processors) (g .tasks) (w .tasks);

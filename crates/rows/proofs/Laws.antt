@@ -4,7 +4,7 @@ use mathlib.Core.Bool.{Bool, true, false, cond, _&&_, not}
 use mathlib.Core.List.{List}
 use mathlib.Core.Path.{_≡_, sym, ap, ap₂, _∙_}
 use native.Mathlib.Omega.{arith}
-use borrow.Author.Tests.{ltb-true, leb-true, eq-eqb, ne-eqb, not-true, not-false}
+use borrow.Author.Tests.{ltb-true, leb-true, eq-eqb, ne-eqb}
 use lib.Dec.{leb, ltb, eqb}
 use lib.ListN.{length, getD, replicate}
 use Rattle.folds.proofs.Tests.{and-parts, all-at, all-same}
@@ -14,13 +14,6 @@ use Rattle.rows.specs.declared.Counts.{Counts}
 use Rattle.rows.specs.declared.TaskRow.{TaskRow}
 use Rattle.rows.specs.declared.SectionRow.{SectionRow}
 use Rattle.rows.specs.Rules.{taskOf, sectionOf, countsOk, taskOk, tasksOk, sectionOk, sectionsOk, tagNew, priorityNew, sectionSum}
-
--- what a call's result says of the test that it ensures
-pub held : {t b : Bool} → t ≡ b → not t ≡ false → b ≡ true
-held {t} e h = sym e ∙ not-false t h
-
-pub failed : {t b : Bool} → t ≡ b → not t ≡ true → b ≡ false
-failed {t} e h = sym e ∙ not-true t h
 
 -- counts in their ranges
 pub record InRange (c : Counts) : Type 0 where

@@ -2,7 +2,7 @@
 use mathlib.Core.Path.{_≡_, refl, sym, ap, _∙_}
 use native.Mathlib.Omega.{arith}
 use borrow.Author.Tests.{lt-ltb, le-ltb, eq-eqb, ne-eqb}
-use Rattle.rows.proofs.Laws.{held, failed}
+use Rattle.folds.proofs.Tests.{held, failed}
 use Rattle.rows.specs.Rules.{countsOk}
 use Rattle.rows.specs.declared.Counts.{Counts}
 use Rattle.parts.specs.Layout.{offsetsOk}

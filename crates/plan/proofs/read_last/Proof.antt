@@ -3,10 +3,10 @@ use mathlib.Core.Path.{_≡_, sym, ap, _∙_}
 use native.Mathlib.Omega.{arith}
 use borrow.Author.Needs.{needs}
 use lib.ListN.{drop, length-drop}
+use Rattle.folds.proofs.Tests.{held, failed}
 use Rattle.folds.proofs.Parts.{part-rest}
 use Rattle.rows.specs.declared.Counts.{Counts}
 use Rattle.rows.specs.Rules.{sumsOk}
-use Rattle.rows.proofs.Laws.{held, failed}
 use Rattle.parts.specs.Layout.{countsOf, sectionsAt, tasksOf, sectionsOf, sectionRowsOk}
 use Rattle.parts.proofs.Laws.{sections-kept}
 use Rattle.plan.proofs.Laws.{header-facts, last-8, last-9, last-held}

@@ -3,10 +3,10 @@ use mathlib.Core.Path.{_≡_, sym, ap, _∙_}
 use native.Mathlib.Omega.{arith}
 use borrow.Author.Needs.{needs}
 use lib.ListN.{drop, length-drop}
+use Rattle.folds.proofs.Tests.{held, failed}
 use Rattle.folds.proofs.Parts.{part-rest}
 use Rattle.rows.specs.declared.Counts.{Counts}
 use Rattle.rows.specs.Rules.{uniqueOk}
-use Rattle.rows.proofs.Laws.{held, failed}
 use Rattle.parts.specs.Layout.{countsOf, tasksAt, tasksOf, taskRowsOk}
 use Rattle.parts.proofs.Laws.{tasks-kept}
 use Rattle.plan.proofs.Laws.{header-facts, rows-5, rows-6, rows-held}

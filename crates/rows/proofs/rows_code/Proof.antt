@@ -1,7 +1,8 @@
 -- Each return says which test failed, or that all held.
 use native.Mathlib.Omega.{arith}
+use Rattle.folds.proofs.Tests.{held, failed}
 use Rattle.rows.specs.Rules.{rowsCode}
-use Rattle.rows.proofs.Laws.{held, failed, counts-facts}
+use Rattle.rows.proofs.Laws.{counts-facts}
 use borrow.Author.Needs.{needs}
 use Rattle.rows.proofs.rows_code.Statement.{statement}
 use Rattle.rows.proofs.rows_code.Tie as tie

@@ -1,6 +1,6 @@
 -- Counts out of their ranges are refused; else the rows decide.
+use Rattle.folds.proofs.Tests.{held, failed}
 use Rattle.rows.specs.Rules.{valuesCode}
-use Rattle.rows.proofs.Laws.{held, failed}
 use borrow.Author.Needs.{needs}
 use Rattle.rows.proofs.values_code.Statement.{statement}
 use Rattle.rows.proofs.values_code.Tie as tie

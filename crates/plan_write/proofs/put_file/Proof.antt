@@ -1,0 +1,155 @@
+-- Each part is put behind those before it: `rows-part` and `part-more`.
+use Prim.Native.Nat.{_+_}
+use mathlib.Core.Path.{refl, _∙_}
+use native.Mathlib.Omega.{arith}
+use borrow.Author.Needs.{needs}
+use lib.ListN.{length, length-take, length-drop}
+use Rattle.plan_write.specs.Encode.{headerBytes, fileOf}
+use Rattle.plan_write.proofs.Put.{Front, put-front, part-more, rows-part, header-length, task-length, resource-length, section-length, sized}
+use Rattle.plan_write.proofs.put_file.Statement.{statement}
+use Rattle.plan_write.proofs.put_file.Tie as tie
+
+resources-at-requires : tie.Need-resources-at-requires
+resources-at-requires c κs = search needs
+
+sections-at-requires : tie.Need-sections-at-requires
+sections-at-requires c κs = search needs
+
+names-at-requires : tie.Need-names-at-requires
+names-at-requires c κs = search needs
+
+cast-s : tie.Need-cast-s
+cast-s c = search needs
+
+add-put-header : tie.Need-add-put-header
+add-put-header c = search needs
+
+put-header-requires : tie.Need-put-header-requires
+put-header-requires c κs =
+    let a = c .before .before .before .before .before .before .before .before .before .before in
+    let k = sized (a .args .c) (a .args .rows) (a .args .names .now) (a .pre .0) in
+    (omega arith, omega arith, k .rules .counts)
+
+sub-put-tasks : tie.Need-sub-put-tasks
+sub-put-tasks c = search needs
+
+part-put-tasks-start : tie.Need-part-put-tasks-start
+part-put-tasks-start c = search needs
+
+part-put-tasks-end : tie.Need-part-put-tasks-end
+part-put-tasks-end c = search needs
+
+wide-requires : tie.Need-wide-requires
+wide-requires c κs = search needs
+
+put-tasks-requires : tie.Need-put-tasks-requires
+put-tasks-requires c κs =
+    let a = c .before .before .before .before .before .before .before .before .before .before .before .before .before .before .before in
+    let k = sized (a .args .c) (a .args .rows) (a .args .names .now) (a .pre .0) in
+    (omega arith, simp (length-take, length-drop) (omega arith), rw (c .wide .ensures .0) (k .rules .tasks))
+
+sub-put-resources : tie.Need-sub-put-resources
+sub-put-resources c = search needs
+
+part-put-resources-start : tie.Need-part-put-resources-start
+part-put-resources-start c = search needs
+
+part-put-resources-end : tie.Need-part-put-resources-end
+part-put-resources-end c = search needs
+
+wide-requires-2 : tie.Need-wide-requires-2
+wide-requires-2 c κs = search needs
+
+put-resources-requires : tie.Need-put-resources-requires
+put-resources-requires c κs =
+    let a = c .before .before .before .before .before .before .before .before .before .before .before .before .before .before .before .before .before .before .before .before in
+    let k = sized (a .args .c) (a .args .rows) (a .args .names .now) (a .pre .0) in
+    (omega arith, search needs)
+
+sub-put-sections : tie.Need-sub-put-sections
+sub-put-sections c = search needs
+
+part-put-sections-start : tie.Need-part-put-sections-start
+part-put-sections-start c = search needs
+
+part-put-sections-end : tie.Need-part-put-sections-end
+part-put-sections-end c = search needs
+
+put-sections-requires : tie.Need-put-sections-requires
+put-sections-requires c κs =
+    let e = c .before .before .before .before .before .before .before .before .before .before .before .before .before .before .before .before .before .before .before .before .sections-at .ensures in
+    let a = c .before .before .before .before .before .before .before .before .before .before .before .before .before .before .before .before .before .before .before .before .before .before .before .before in
+    let k = sized (a .args .c) (a .args .rows) (a .args .names .now) (a .pre .0) in
+    (omega arith, omega (arith, a .pre .1))
+
+sub-put-names : tie.Need-sub-put-names
+sub-put-names c = search needs
+
+part-put-names-start : tie.Need-part-put-names-start
+part-put-names-start c = search needs
+
+part-put-names-end : tie.Need-part-put-names-end
+part-put-names-end c = search needs
+
+put-names-requires : tie.Need-put-names-requires
+put-names-requires c κs = search needs
+
+same-length : tie.Need-same-length
+same-length c = omega arith
+
+returns : tie.Need-returns
+unfolding fileOf
+returns c =
+    let n = c .before .before in
+    let s = n .before .before .before .before in
+    let r = s .before .before .before .before in
+    let t = r .before .before .before .before .before in
+    let h = t .before .before .before .before .before in
+    let o = h .before .before .before .before .before .before in
+    let a = o .before .before .before .before .before in
+    let rows = a .args .rows in
+    let names = a .args .names .now in
+    let room = a .pre .1 in
+    let names-at = o .names-at in
+    let sections-at = o .before .sections-at in
+    let resources-at = o .before .before .resources-at in
+    let tasks = t .before .wide in
+    let resources = r .before .wide2 in
+    let end = names-at .result + length names in
+    let header : Front (headerBytes (a .args .c) end) 16 (a .args .buf .now) _ = put-front (h .put-header .ensures) (header-length (a .args .c) end) (omega arith) in
+    let f1 = rows-part 8 _ (task-length (rows .tasks)) (tasks .result) (resources-at .result) header (t .put-tasks .ensures) (omega arith) (omega arith) in
+    let f2 = rows-part 4 _ (resource-length (rows .lengths)) (resources .result) (sections-at .result) f1 (r .put-resources .ensures) (omega arith) (omega arith) in
+    let f3 = rows-part 4 _ (section-length (rows .sections)) (a .args .c .sections) (names-at .result) f2 (s .put-sections .ensures) (omega arith) (omega arith) in
+    let f4 = part-more names (length names) end f3 (n .put-names .ensures) refl refl (omega arith) in
+    f4 .bytes ∙ rw (names-at .ensures, tasks .ensures .0, resources .ensures .0)
+
+pub put-file-spec : {M : Type 1} → statement M
+put-file-spec =
+    tie.close
+    (tie.spec
+    resources-at-requires
+    sections-at-requires
+    names-at-requires
+    cast-s
+    add-put-header
+    put-header-requires
+    sub-put-tasks
+    part-put-tasks-start
+    part-put-tasks-end
+    wide-requires
+    put-tasks-requires
+    sub-put-resources
+    part-put-resources-start
+    part-put-resources-end
+    wide-requires-2
+    put-resources-requires
+    sub-put-sections
+    part-put-sections-start
+    part-put-sections-end
+    put-sections-requires
+    sub-put-names
+    part-put-names-start
+    part-put-names-end
+    put-names-requires
+    same-length
+    returns)

@@ -1,0 +1,54 @@
+-- The four stores are the bytes of the section's row: `sets-eq`.
+use native.Mathlib.Omega.{arith}
+use borrow.Author.Needs.{needs}
+use lib.ListN.{length-set}
+use lib.Seq.{sets-eq}
+use Rattle.folds.specs.Bytes.{rowBytes, digits}
+use Rattle.parts.specs.Layout.{sectionWidths}
+use Rattle.plan_write.specs.Encode.{sectionNumbers}
+use Rattle.plan_write.proofs.put_section.Statement.{statement}
+use Rattle.plan_write.proofs.put_section.Tie as tie
+
+cast-ticks : tie.Need-cast-ticks
+cast-ticks c = search needs
+
+slice-write-buf : tie.Need-slice-write-buf
+slice-write-buf c = search needs
+
+slice-write-buf-2 : tie.Need-slice-write-buf-2
+slice-write-buf-2 c = simp length-set (omega arith)
+
+low-requires : tie.Need-low-requires
+low-requires c κs = search needs
+
+slice-write-buf-3 : tie.Need-slice-write-buf-3
+slice-write-buf-3 c = simp length-set (omega arith)
+
+high-requires : tie.Need-high-requires
+high-requires c κs = search needs
+
+slice-write-buf-4 : tie.Need-slice-write-buf-4
+slice-write-buf-4 c = search needs
+
+same-length : tie.Need-same-length
+same-length c = search needs
+
+returns : tie.Need-returns
+unfolding rowBytes digits
+returns c =
+    let a = c .before .before .before .before in
+    rw (c .high .ensures, c .before .low .ensures) (sets-eq (rowBytes sectionWidths (sectionNumbers (a .args .s))) (a .args .buf .now) 0 (a .pre))
+
+pub put-section-spec : {M : Type 1} → statement M
+put-section-spec =
+    tie.close
+    (tie.spec
+    cast-ticks
+    slice-write-buf
+    slice-write-buf-2
+    low-requires
+    slice-write-buf-3
+    high-requires
+    slice-write-buf-4
+    same-length
+    returns)
