@@ -27,24 +27,18 @@ pub fn section_fits(s: Section, c: Counts) -> bool {
     (s.task < c.tasks) & (s.resource < c.resources) & (s.length >= 1) & (s.length <= 1000)
 }
 
-/// A set of bytes.
-#[derive(Clone, Copy, Default)]
-struct Bytes([u64; 4]);
+/// Which bytes were seen. A byte for each, and not a bit: so one row's store does not hold up the next row's load.
+struct Bytes([bool; 256]);
 
 impl Bytes {
     /// Puts `b` in; true where it was there already.
     #[inline]
     fn put(&mut self, b: u8) -> bool {
-        let word = &mut self.0[usize::from(b >> 6)];
-        let bit = 1 << (b & 63);
-        let was = *word & bit != 0;
-        *word |= bit;
-        was
+        std::mem::replace(&mut self.0[usize::from(b)], true)
     }
 }
 
 /// Check 6, row by row, of rows that passed check 5.
-#[derive(Default)]
 pub struct Unique {
     tags: Bytes,
     priorities: [Bytes; MAX_PROCESSORS],
@@ -52,6 +46,15 @@ pub struct Unique {
 }
 
 impl Unique {
+    pub fn new() -> Self {
+        const NONE: Bytes = Bytes([false; 256]);
+        Unique {
+            tags: NONE,
+            priorities: [NONE; MAX_PROCESSORS],
+            repeated: false,
+        }
+    }
+
     #[inline]
     pub fn put(&mut self, t: Task) {
         let tag = self.tags.put(t.tag as u8);

@@ -45,7 +45,7 @@ fn header(file: &[u8]) -> Result<(Counts, Offsets), Refusal> {
 
 /// Checks 5 and 6. A row that breaks 5 ends the pass; a repetition waits for its end.
 fn tasks(part: &[u8], counts: Counts, plan: &mut Plan) -> Result<(), Refusal> {
-    let mut unique = Unique::default();
+    let mut unique = Unique::new();
     for (row, to) in part.chunks_exact(TASK_ROW).zip(&mut plan.tasks) {
         let task = Task {
             processor: row[0],

@@ -2,12 +2,14 @@ use crate::*;
 
 /// Two processors, one task on each, two resources, three sections.
 fn small() -> (Plan, &'static [u8]) {
-    let mut plan = Plan::default();
-    plan.counts = Counts {
-        processors: 2,
-        tasks: 2,
-        resources: 2,
-        sections: 3,
+    let mut plan = Plan {
+        counts: Counts {
+            processors: 2,
+            tasks: 2,
+            resources: 2,
+            sections: 3,
+        },
+        ..Plan::default()
     };
     plan.tasks[0] = Task {
         processor: 0,

@@ -16,7 +16,7 @@ pub const MAX_FILE: usize = HEADER
 
 /// Checks 5 and 6.
 fn check_tasks(plan: &Plan) -> Result<(), Refusal> {
-    let mut unique = Unique::default();
+    let mut unique = Unique::new();
     for &task in &plan.tasks[..plan.counts.tasks.into()] {
         if !task_fits(task, plan.counts.processors) {
             return Err(Refusal::TaskRow);

@@ -84,9 +84,13 @@ abbrev pub told : ReadAnswer → Told
 told (Accepted c) = record { number = 0; values = c .processors ∷ c .tasks ∷ c .resources ∷ c .sections ∷ [] }
 told (Refused k) = record { number = k; values = [] }
 
+-- the refusal k with no values, or the values where k is 0
+abbrev pub answered : ℕ → List ℕ → Told
+answered k values = record { number = k; values = cond (eqb k 0) values [] }
+
 -- what reading a file tells
 abbrev pub readTold : List ℕ → Told
-readTold f = record { number = refusal f; values = cond (eqb (refusal f) 0) (getD f 1 0 ∷ getD f 2 0 ∷ getD f 3 0 ∷ number 2 f 4 ∷ []) [] }
+readTold f = answered (refusal f) (getD f 1 0 ∷ getD f 2 0 ∷ getD f 3 0 ∷ number 2 f 4 ∷ [])
 
 -- Name: 1 to 9, then 12, resource ≥ R
 unfoldable pub nameRefusal : List ℕ → ℕ → ℕ

@@ -1,3 +1,4 @@
 pub mod Same
 pub mod RoundTrip
 pub mod Put
+pub mod Outcome

@@ -11,7 +11,7 @@ use Rattle.rows.specs.declared.SectionRow.{SectionRow}
 use Rattle.rows.specs.declared.Counts.{Counts}
 use Rattle.rows.specs.declared.Rows.{Rows}
 use Rattle.parts.specs.Layout.{tasksAt, resourcesAt, sectionsAt, namesAt, taskWidths, resourceWidths, sectionWidths}
-use Rattle.plan.specs.Reading.{Told}
+use Rattle.plan.specs.Reading.{Told, answered}
 use Rattle.plan_write.specs.declared.WriteAnswer.{WriteAnswer}
 use Rattle.plan_write.specs.declared.WriteAnswer.the-variants.{Written, Refused}
 
@@ -82,5 +82,4 @@ told (Refused k) = record { number = k; values = [] }
 
 -- what writing tells
 abbrev pub writeTold : Counts → Rows → List ℕ → ℕ → Told
-writeTold c rows names room =
-    record { number = writeCode c rows names room; values = cond (eqb (writeCode c rows names room) 0) (fileLength c names ∷ []) [] }
+writeTold c rows names room = answered (writeCode c rows names room) (fileLength c names ∷ [])

@@ -1,7 +1,7 @@
 -- Demand 2: written and then read is the same plan; read and then written is the same file.
 use Prim.Native.Nat.{ℕ, _<_}
 use mathlib.Core.Bool.{cond}
-use mathlib.Core.List.{List, _++_}
+use mathlib.Core.List.{List, [], _∷_, _++_}
 use mathlib.Core.Path.{_≡_}
 use lib.Dec.{leb, eqb}
 use lib.ListN.{length, getD, drop, replicate}
@@ -12,7 +12,7 @@ use Rattle.rows.specs.declared.Rows.{Rows}
 use Rattle.parts.specs.Layout.{countsOf, rowsOf, namesOf}
 use Rattle.plan.specs.declared.Reading.{Reading}
 use Rattle.plan.specs.declared.ReadAnswer.the-variants.{Accepted}
-use Rattle.plan.specs.Reading.{refusal, refusedWith}
+use Rattle.plan.specs.Reading.{Told, answered, refusal, refusedWith}
 use Rattle.plan_write.specs.declared.WriteAnswer.{WriteAnswer}
 use Rattle.plan_write.specs.declared.WriteAnswer.the-variants.{Written, Refused}
 use Rattle.plan_write.specs.Encode.{fileOf, fileLength, writeCode}
@@ -51,6 +51,11 @@ unfoldable pub readBack : Counts → Rows → List ℕ → ℕ → Reading
 readBack c rows names room =
     cond (eqb (writeCode c rows names room) 0) (record { answer = Accepted c; rows = trimmed c rows }) (refusedWith (writeCode c rows names room))
 
+-- what that tells
+abbrev pub readBackTold : Counts → Rows → List ℕ → ℕ → Told
+readBackTold c rows names room =
+    answered (writeCode c rows names room) (c .processors ∷ c .tasks ∷ c .resources ∷ c .sections ∷ [])
+
 -- copying a file by reading and writing it: 1 to 9 as reading does, then 10
 unfoldable pub copyCode : List ℕ → ℕ → ℕ
 copyCode f room = cond (eqb (refusal f) 0) (cond (leb (length f) room) 0 10) (refusal f)
@@ -58,6 +63,10 @@ copyCode f room = cond (eqb (refusal f) 0) (cond (leb (length f) room) 0 10) (re
 -- the answer of it
 unfoldable pub copying : List ℕ → ℕ → WriteAnswer
 copying f room = cond (eqb (copyCode f room) 0) (Written (length f)) (Refused (copyCode f room))
+
+-- what that tells
+abbrev pub copyTold : List ℕ → ℕ → Told
+copyTold f room = answered (copyCode f room) (length f ∷ [])
 
 -- the buffer after it: the same file, then what was behind; unchanged after a refusal
 unfoldable pub copied : List ℕ → List ℕ → List ℕ

@@ -15,7 +15,8 @@ ghost use Rattle.folds.specs.Bytes.{rowBytes, bytesBelow};
 ghost use Rattle.rows.specs.Rules.{lengthOf, tasksOk, valuesCode};
 ghost use Rattle.parts.specs.Layout.{taskWidths, resourceWidths, sectionWidths};
 ghost use Rattle.plan_write.specs.Encode.{headerBytes, taskNumbers, taskBytes, resourceBytes, sectionNumbers, sectionBytes, fileLength, fileOf, writing, written, told, writeTold};
-ghost use Rattle.plan_write.specs.RoundTrip.{readBack, copying, copied};
+ghost use Rattle.plan_write.specs.RoundTrip.{readBack, readBackTold, copying, copied, copyTold};
+ghost use Rattle.plan.specs.Reading.{told as readSaid};
 
 // The length of the file that was written, or the refusal.
 pub enum WriteAnswer {
@@ -202,6 +203,7 @@ pub fn write(c: Counts, rows: Rows, names: &[u8], buf: &mut [u8]) -> WriteAnswer
 pub fn read_back(c: Counts, rows: Rows, names: &[u8], buf: &mut [u8]) -> Reading
     ensures { λ r. ⌜ r ≡ readBack c rows (now (names .entry)) (length (now (buf .entry))) ⌝ }
     ensures { λ r. ⌜ now (buf .exit) ≡ written c rows (now (names .entry)) (now (buf .entry)) ⌝ }
+    ensures { λ r. ⌜ readSaid (r .answer) ≡ readBackTold c rows (now (names .entry)) (length (now (buf .entry))) ⌝ }
 {
     let answer = write(c, rows, names, buf);
     match answer {
@@ -217,6 +219,7 @@ pub fn read_back(c: Counts, rows: Rows, names: &[u8], buf: &mut [u8]) -> Reading
 pub fn copy(file: &[u8], buf: &mut [u8]) -> WriteAnswer
     ensures { λ r. ⌜ r ≡ copying (now (file .entry)) (length (now (buf .entry))) ⌝ }
     ensures { λ r. ⌜ now (buf .exit) ≡ copied (now (file .entry)) (now (buf .entry)) ⌝ }
+    ensures { λ r. ⌜ told r ≡ copyTold (now (file .entry)) (length (now (buf .entry))) ⌝ }
 {
     let found = plan::read(file);
     let answer = found.answer;

@@ -1,0 +1,57 @@
+-- The cases of the answer are those of the number.
+use mathlib.Core.Path.{_≡_, sym, ap, _∙_}
+use native.Mathlib.Omega.{arith}
+use borrow.Author.Tests.{eq-eqb, ne-eqb}
+use Rattle.plan.specs.declared.Reading.{Reading}
+use Rattle.plan.proofs.Laws.{got-plan, got-refusal}
+use Rattle.plan_c.specs.Number.{readNumber}
+use borrow.Author.Needs.{needs}
+use Rattle.plan_c.proofs.plan_read.Statement.{statement}
+use Rattle.plan_c.proofs.plan_read.Tie as tie
+
+read-requires : tie.Need-read-requires
+read-requires c κs = search needs
+
+enum-known-answer : tie.Need-enum-known-answer
+enum-known-answer c = search needs
+
+last-rows-requires : tie.Need-last-rows-requires
+last-rows-requires c κs = search needs
+
+mul-result : tie.Need-mul-result
+mul-result c = search needs
+
+enum-known-answer-2 : tie.Need-enum-known-answer-2
+enum-known-answer-2 c = search needs
+
+byte-requires : tie.Need-byte-requires
+byte-requires c κs = search needs
+
+returns : tie.Need-returns
+unfolding readNumber
+returns c =
+    let r = c .before .before .before .before .before in
+    let e = r .read .ensures .0 in
+    let g = got-plan _ _ (sym (ap (λ (x : Reading). x .answer) e) ∙ c .before .before .before .answer .given .1) in
+    let rows = ap (λ (x : Reading). x .rows) e ∙ g .rows in
+    (rw (eq-eqb _ _ (g .none)) (cc (c .last-rows .ensures .0, g .counts)), omega (arith, g .none))
+
+returns-2 : tie.Need-returns-2
+unfolding readNumber
+returns-2 c =
+    let r = c .before .before .before .before in
+    let g = got-refusal _ _ (sym (ap (λ (x : Reading). x .answer) (r .read .ensures .0)) ∙ c .before .before .answer2 .given .1) in
+    (rw (ne-eqb _ _ (λ z. g .1 (sym (g .0) ∙ z))) (omega (arith, g .0)), omega (arith, g .0))
+
+pub plan-read-spec : {M : Type 1} → statement M
+plan-read-spec =
+    tie.close
+    (tie.spec
+    read-requires
+    enum-known-answer
+    last-rows-requires
+    mul-result
+    enum-known-answer-2
+    byte-requires
+    returns
+    returns-2)

@@ -1,0 +1,84 @@
+// Reading a plan, for programs in other languages.
+use plan::ReadAnswer;
+use rows::Counts;
+use rows::Rows;
+use rows::SectionRow;
+use rows::TaskRow;
+ghost use mathlib.Core.Path.{_≡_};
+ghost use Prim.Native.Nat.{_<_, _%_};
+ghost use Rattle.plan.specs.Reading.{refusal};
+ghost use Rattle.plan_c.specs.Number.{lastOf, taskSum, sectionSum, lastRows, readNumber};
+
+// A number of 8 bits, and one of 16, as 64 bits.
+fn byte(x: u8) -> u64
+    ensures { λ r. ⌜ (r ≡ x) × (r < 256) ⌝ }
+{
+    x as u64
+}
+
+fn word(x: u16) -> u64
+    ensures { λ r. ⌜ (r ≡ x) × (r < 65536) ⌝ }
+{
+    x as u64
+}
+
+// The index of the last of n rows in an array of so many; 0 where there is none.
+fn last(n: usize, room: usize) -> usize
+    requires { ⌜ 0 < room ⌝ }
+    ensures { λ r. ⌜ (r ≡ lastOf n room) × (r < room) ⌝ }
+{
+    if n == 0 {
+        return 0;
+    }
+    if room < n {
+        return 0;
+    }
+    n - 1
+}
+
+// The sum of a row's numbers.
+fn task_sum(t: TaskRow) -> u64
+    ensures { λ r. ⌜ (r ≡ taskSum t) × (r < 200000) ⌝ }
+{
+    byte(t.processor) + word(t.tag) + byte(t.priority) + word(t.period) + word(t.execution)
+}
+
+fn section_sum(s: SectionRow) -> u64
+    ensures { λ r. ⌜ (r ≡ sectionSum s) × (r < 70000) ⌝ }
+{
+    byte(s.task) + byte(s.resource) + word(s.length)
+}
+
+// The sum of the numbers in the last task row, the last name's length and the last section row.
+fn last_rows(c: Counts, rows: Rows) -> u64
+    ensures { λ r. ⌜ (r ≡ lastRows c rows) × (r < 300000) ⌝ }
+{
+    let tasks = rows.tasks;
+    let lengths = rows.lengths;
+    let sections = rows.sections;
+    let s = c.sections as usize;
+    let t = last(folds::wide(c.tasks), 64);
+    let q = last(folds::wide(c.resources), 16);
+    let k = last(s, 255);
+    let task = tasks[t];
+    let section = sections[k];
+    task_sum(task) + byte(lengths[q]) + section_sum(section)
+}
+
+// Reads a plan: the refusal in the low byte, and above it for a plan that is read the sum of its last rows. Which rows are
+// the last is known from the file alone, so a caller that measures this measures all rows.
+#[no_mangle]
+pub extern "C" fn plan_read(file: &[u8]) -> u64
+    ensures { λ r. ⌜ r ≡ readNumber (now (file .entry)) ⌝ }
+    ensures { λ r. ⌜ r % 256 ≡ refusal (now (file .entry)) ⌝ }
+{
+    let found = plan::read(file);
+    let answer = found.answer;
+    match answer {
+        ReadAnswer::Accepted(counts) => {
+            let rows = found.rows;
+            256 * last_rows(counts, rows)
+        }
+        ReadAnswer::Refused(k) => byte(k),
+    }
+}
