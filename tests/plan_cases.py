@@ -447,7 +447,7 @@ def accepted_cases():
     ]
 
 
-def refused_cases():
+def refused_counts_and_tasks():
     """Label, values and number; the buffer has 2048 bytes."""
     bad = task(0, section(0, length=0), priority=0)
     return [
@@ -472,6 +472,11 @@ def refused_cases():
         ("write a row of zeros", values(counts=[2, 5, 2, 5]), 5),
         ("write equal tags", values(task(3, tag=10)), 6),
         ("write equal priorities", values(task(1, priority=5)), 6),
+    ]
+
+
+def refused_names_and_sections():
+    return [
         ("write lengths one less than the bytes", values(lengths=[3, 2]), 7),
         ("write lengths one more than the bytes", values(lengths=[3, 4]), 7),
         ("write a length of 255", values(lengths=[3, 255]), 7),
@@ -517,7 +522,8 @@ def write_pair_cases():
 
 
 def written_cases():
-    refused = [(label, what, 2048, f"refused {number} unchanged") for label, what, number in refused_cases()]
+    cases = refused_counts_and_tasks() + refused_names_and_sections()
+    refused = [(label, what, 2048, f"refused {number} unchanged") for label, what, number in cases]
     return accepted_cases() + refused + write_pair_cases() + [
         ("write into one byte less", values(), 81, "refused 10 unchanged"),
         ("write into no bytes", values(), 0, "refused 10 unchanged"),

@@ -1,5 +1,23 @@
 use crate::*;
 
+fn task(processor: u8, tag: u16, priority: u8, period: u16, execution: u16) -> Task {
+    Task {
+        processor,
+        tag,
+        priority,
+        period,
+        execution,
+    }
+}
+
+fn section(task: u8, resource: u8, length: u16) -> Section {
+    Section {
+        task,
+        resource,
+        length,
+    }
+}
+
 /// Two processors, one task on each, two resources, three sections.
 fn small() -> (Plan, &'static [u8]) {
     let mut plan = Plan {
@@ -11,37 +29,13 @@ fn small() -> (Plan, &'static [u8]) {
         },
         ..Plan::default()
     };
-    plan.tasks[0] = Task {
-        processor: 0,
-        tag: 10,
-        priority: 5,
-        period: 20,
-        execution: 9,
-    };
-    plan.tasks[1] = Task {
-        processor: 1,
-        tag: 20,
-        priority: 5,
-        period: 30,
-        execution: 3,
-    };
+    plan.tasks[0] = task(0, 10, 5, 20, 9);
+    plan.tasks[1] = task(1, 20, 5, 30, 3);
     plan.lengths[0] = 3;
     plan.lengths[1] = 4;
-    plan.sections[0] = Section {
-        task: 0,
-        resource: 0,
-        length: 2,
-    };
-    plan.sections[1] = Section {
-        task: 1,
-        resource: 0,
-        length: 3,
-    };
-    plan.sections[2] = Section {
-        task: 0,
-        resource: 1,
-        length: 7,
-    };
+    plan.sections[0] = section(0, 0, 2);
+    plan.sections[1] = section(1, 0, 3);
+    plan.sections[2] = section(0, 1, 7);
     (plan, b"busdisk")
 }
 
@@ -154,11 +148,7 @@ fn the_full_plan_fits() {
         names.extend_from_slice(b"memory-bank");
         names.push(b'A' + r);
     }
-    plan.sections = [Section {
-        task: 63,
-        resource: 15,
-        length: 257,
-    }; 255];
+    plan.sections = [section(63, 15, 257); 255];
     let mut buffer = [0; MAX_FILE];
     assert_eq!(write(&plan, &names, &mut buffer), Ok(MAX_FILE));
     assert_eq!(read(&buffer), Ok(plan));

@@ -22,6 +22,54 @@ use Rattle.plan.specs.declared.ReadAnswer.{ReadAnswer}
 use Rattle.plan.specs.declared.ReadAnswer.the-variants.{Accepted, Refused}
 use Rattle.plan.specs.Reading.{headerCode, lastCode, restCode, rowsCode, refusal, given, lastReading, restReading, rowsReading, reading, refusedWith, told, readTold, nameRefusal}
 
+-- what a reading is after each check that fails or holds
+module _ (f : List ℕ) where
+  pub read-early : {k : ℕ} → k ≡ headerCode f → (k ≡ 0 → ⊥) → reading f ≡ refusedWith k
+  unfolding given refusal
+  read-early {k} e d =
+      let no : eqb (headerCode f) 0 ≡ false = ne-eqb (headerCode f) 0 (λ z. d (e ∙ z)) in
+      rw (no, no, e)
+
+  pub read-late : {k : ℕ} → k ≡ headerCode f → k ≡ 0 → reading f ≡ rowsReading f
+  unfolding refusal
+  read-late e z = rw (eq-eqb (headerCode f) 0 (sym e ∙ z))
+
+  pub rows-5 : taskRowsOk (countsOf f .tasks) (countsOf f .processors) (drop tasksAt f) ≡ false → rowsReading f ≡ refusedWith 5
+  unfolding given rowsCode
+  rows-5 a = rw a
+
+  pub rows-6 : taskRowsOk (countsOf f .tasks) (countsOf f .processors) (drop tasksAt f) ≡ true → uniqueOk (countsOf f .tasks) (tasksOf f) ≡ false → rowsReading f ≡ refusedWith 6
+  unfolding given rowsCode
+  rows-6 a b = rw (a, b)
+
+  pub rows-held : taskRowsOk (countsOf f .tasks) (countsOf f .processors) (drop tasksAt f) ≡ true → uniqueOk (countsOf f .tasks) (tasksOf f) ≡ true → rowsReading f ≡ restReading f
+  unfolding rowsCode
+  rows-held a b = rw (a, b)
+
+  pub rest-7 : lengthRowsOk (countsOf f .resources) (drop (resourcesAt (countsOf f)) f) ≡ false → restReading f ≡ refusedWith 7
+  unfolding given restCode
+  rest-7 a = rw a
+
+  pub rest-names : lengthRowsOk (countsOf f .resources) (drop (resourcesAt (countsOf f)) f) ≡ true → namesOk (countsOf f .resources) (lengthsOf f) (namesOf f) ≡ false → restReading f ≡ refusedWith 7
+  unfolding given restCode
+  rest-names a b = rw (a, b)
+
+  pub rest-held : lengthRowsOk (countsOf f .resources) (drop (resourcesAt (countsOf f)) f) ≡ true → namesOk (countsOf f .resources) (lengthsOf f) (namesOf f) ≡ true → restReading f ≡ lastReading f
+  unfolding restCode
+  rest-held a b = rw (a, b)
+
+  pub last-8 : sectionRowsOk (countsOf f .sections) (countsOf f .tasks) (countsOf f .resources) (drop (sectionsAt (countsOf f)) f) ≡ false → lastReading f ≡ refusedWith 8
+  unfolding given lastCode
+  last-8 a = rw a
+
+  pub last-9 : sectionRowsOk (countsOf f .sections) (countsOf f .tasks) (countsOf f .resources) (drop (sectionsAt (countsOf f)) f) ≡ true → sumsOk (countsOf f .tasks) (countsOf f .sections) (tasksOf f) (sectionsOf f) ≡ false → lastReading f ≡ refusedWith 9
+  unfolding given lastCode
+  last-9 a b = rw (a, b)
+
+  pub last-held : sectionRowsOk (countsOf f .sections) (countsOf f .tasks) (countsOf f .resources) (drop (sectionsAt (countsOf f)) f) ≡ true → sumsOk (countsOf f .tasks) (countsOf f .sections) (tasksOf f) (sectionsOf f) ≡ true → lastReading f ≡ record { answer = Accepted (countsOf f); rows = rowsOf f }
+  unfolding given lastCode
+  last-held a b = rw (a, b)
+
 -- the header
 pub record Header (f : List ℕ) : Type 0 where
   pub long : 16 ≤ length f
@@ -140,54 +188,6 @@ got-refusal f k e = go (eqb (refusal f) 0) refl e
     go : (b : Bool) → eqb (refusal f) 0 ≡ b → (cond b (record { answer = Accepted (countsOf f); rows = rowsOf f }) (refusedWith (refusal f))) .answer ≡ Refused k → (refusal f ≡ k) × (k ≡ 0 → ⊥)
     go true t a = let bad : 0 ≡ suc k = ap number-in a in let off : ⊥ = omega arith in absurd off
     go false t a = let same : suc (refusal f) ≡ suc k = ap number-in a in (omega arith, λ z. eqb-false (refusal f) 0 t (omega arith))
-
--- what a reading is after each check that fails or holds
-module _ (f : List ℕ) where
-  pub read-early : {k : ℕ} → k ≡ headerCode f → (k ≡ 0 → ⊥) → reading f ≡ refusedWith k
-  unfolding given refusal
-  read-early {k} e d =
-      let no : eqb (headerCode f) 0 ≡ false = ne-eqb (headerCode f) 0 (λ z. d (e ∙ z)) in
-      rw (no, no, e)
-
-  pub read-late : {k : ℕ} → k ≡ headerCode f → k ≡ 0 → reading f ≡ rowsReading f
-  unfolding refusal
-  read-late e z = rw (eq-eqb (headerCode f) 0 (sym e ∙ z))
-
-  pub rows-5 : taskRowsOk (countsOf f .tasks) (countsOf f .processors) (drop tasksAt f) ≡ false → rowsReading f ≡ refusedWith 5
-  unfolding given rowsCode
-  rows-5 a = rw a
-
-  pub rows-6 : taskRowsOk (countsOf f .tasks) (countsOf f .processors) (drop tasksAt f) ≡ true → uniqueOk (countsOf f .tasks) (tasksOf f) ≡ false → rowsReading f ≡ refusedWith 6
-  unfolding given rowsCode
-  rows-6 a b = rw (a, b)
-
-  pub rows-held : taskRowsOk (countsOf f .tasks) (countsOf f .processors) (drop tasksAt f) ≡ true → uniqueOk (countsOf f .tasks) (tasksOf f) ≡ true → rowsReading f ≡ restReading f
-  unfolding rowsCode
-  rows-held a b = rw (a, b)
-
-  pub rest-7 : lengthRowsOk (countsOf f .resources) (drop (resourcesAt (countsOf f)) f) ≡ false → restReading f ≡ refusedWith 7
-  unfolding given restCode
-  rest-7 a = rw a
-
-  pub rest-names : lengthRowsOk (countsOf f .resources) (drop (resourcesAt (countsOf f)) f) ≡ true → namesOk (countsOf f .resources) (lengthsOf f) (namesOf f) ≡ false → restReading f ≡ refusedWith 7
-  unfolding given restCode
-  rest-names a b = rw (a, b)
-
-  pub rest-held : lengthRowsOk (countsOf f .resources) (drop (resourcesAt (countsOf f)) f) ≡ true → namesOk (countsOf f .resources) (lengthsOf f) (namesOf f) ≡ true → restReading f ≡ lastReading f
-  unfolding restCode
-  rest-held a b = rw (a, b)
-
-  pub last-8 : sectionRowsOk (countsOf f .sections) (countsOf f .tasks) (countsOf f .resources) (drop (sectionsAt (countsOf f)) f) ≡ false → lastReading f ≡ refusedWith 8
-  unfolding given lastCode
-  last-8 a = rw a
-
-  pub last-9 : sectionRowsOk (countsOf f .sections) (countsOf f .tasks) (countsOf f .resources) (drop (sectionsAt (countsOf f)) f) ≡ true → sumsOk (countsOf f .tasks) (countsOf f .sections) (tasksOf f) (sectionsOf f) ≡ false → lastReading f ≡ refusedWith 9
-  unfolding given lastCode
-  last-9 a b = rw (a, b)
-
-  pub last-held : sectionRowsOk (countsOf f .sections) (countsOf f .tasks) (countsOf f .resources) (drop (sectionsAt (countsOf f)) f) ≡ true → sumsOk (countsOf f .tasks) (countsOf f .sections) (tasksOf f) (sectionsOf f) ≡ true → lastReading f ≡ record { answer = Accepted (countsOf f); rows = rowsOf f }
-  unfolding given lastCode
-  last-held a b = rw (a, b)
 
 -- a name that is asked for rightly lies in the file
 pub record Named (f : List ℕ) (q : ℕ) : Type 0 where

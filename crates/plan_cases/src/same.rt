@@ -1,0 +1,115 @@
+// Whether what came out is what was to come.
+use plan::ReadAnswer;
+use plan_write::WriteAnswer;
+use rows::Counts;
+use rows::Rows;
+use rows::SectionRow;
+use rows::TaskRow;
+
+pub fn bytes(a: &[u8], b: &[u8]) -> bool {
+    if a.len() != b.len() {
+        return false;
+    }
+    let mut all = true;
+    let mut i = 0;
+    while i < a.len() {
+        all = all & (a[i] == b[i]);
+        i += 1;
+    }
+    all
+}
+
+// Whether each byte is still the one that the buffer was filled with.
+pub fn untouched(s: &[u8]) -> bool {
+    let mut all = true;
+    let mut i = 0;
+    while i < s.len() {
+        all = all & (s[i] == 170);
+        i += 1;
+    }
+    all
+}
+
+pub fn counts(answer: ReadAnswer, c: Counts) -> bool {
+    match answer {
+        ReadAnswer::Accepted(r) => {
+            (r.processors == c.processors)
+                & (r.tasks == c.tasks)
+                & (r.resources == c.resources)
+                & (r.sections == c.sections)
+        }
+        ReadAnswer::Refused(_) => false,
+    }
+}
+
+pub fn written(answer: WriteAnswer, len: usize) -> bool {
+    match answer {
+        WriteAnswer::Written(n) => n as usize == len,
+        WriteAnswer::Refused(_) => false,
+    }
+}
+
+// Whether a row that was read is the one given, and zero where it lies past the count.
+fn task(r: TaskRow, g: TaskRow, on: bool) -> bool {
+    if on {
+        return (r.processor == g.processor)
+            & (r.tag == g.tag)
+            & (r.priority == g.priority)
+            & (r.period == g.period)
+            & (r.execution == g.execution);
+    }
+    (r.processor == 0) & (r.tag == 0) & (r.priority == 0) & (r.period == 0) & (r.execution == 0)
+}
+
+fn section(r: SectionRow, g: SectionRow, on: bool) -> bool {
+    if on {
+        return (r.task == g.task) & (r.resource == g.resource) & (r.length == g.length);
+    }
+    (r.task == 0) & (r.resource == 0) & (r.length == 0)
+}
+
+fn length(r: u8, g: u8, on: bool) -> bool {
+    if on { r == g } else { r == 0 }
+}
+
+fn tasks(read: [TaskRow; 64], given: [TaskRow; 64], n: usize) -> bool {
+    let mut all = true;
+    let mut i = 0;
+    while i < 64 {
+        all = all & task(read[i], given[i], i < n);
+        i += 1;
+    }
+    all
+}
+
+fn lengths(read: [u8; 16], given: [u8; 16], r: usize) -> bool {
+    let mut all = true;
+    let mut i = 0;
+    while i < 16 {
+        all = all & length(read[i], given[i], i < r);
+        i += 1;
+    }
+    all
+}
+
+fn sections(read: [SectionRow; 255], given: [SectionRow; 255], s: usize) -> bool {
+    let mut all = true;
+    let mut i = 0;
+    while i < 255 {
+        all = all & section(read[i], given[i], i < s);
+        i += 1;
+    }
+    all
+}
+
+pub fn rows(read: Rows, given: Rows, c: Counts) -> bool {
+    let read_tasks = read.tasks;
+    let read_lengths = read.lengths;
+    let read_sections = read.sections;
+    let given_tasks = given.tasks;
+    let given_lengths = given.lengths;
+    let given_sections = given.sections;
+    tasks(read_tasks, given_tasks, c.tasks as usize)
+        & lengths(read_lengths, given_lengths, c.resources as usize)
+        & sections(read_sections, given_sections, c.sections as usize)
+}
