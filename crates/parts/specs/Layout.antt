@@ -1,12 +1,12 @@
 -- Document 01, "The plan file": where each thing stands in a file, and what the checks of a row group look at.
 use Prim.Native.Nat.{ℕ, _+_, _*_}
-use mathlib.Core.Bool.{Bool, _&&_}
+use mathlib.Core.Bool.{Bool, cond, _&&_}
 use mathlib.Core.List.{List, [], _∷_}
 use lib.Dec.{leb, eqb}
 use lib.ListN.{length, getD, drop, replicate}
 use Rattle.folds.specs.Below.{allBelow, sumBelow}
 use Rattle.folds.specs.Bytes.{number, rowAt, placedBelow}
-use Rattle.rows.specs.Rules.{noTask, noSection, taskOk, sectionOk}
+use Rattle.rows.specs.Rules.{noTask, noSection, taskOk, uniqueOk, sectionOk, sumsOk}
 use Rattle.rows.specs.declared.TaskRow.{TaskRow}
 use Rattle.rows.specs.declared.SectionRow.{SectionRow}
 use Rattle.rows.specs.declared.Counts.{Counts}
@@ -108,6 +108,19 @@ lengthRowsOk r part = allBelow r (λ i. eqb (startAt part i) (sumBelow i (length
 -- 8. Each section row keeps its rule
 unfoldable pub sectionRowsOk : ℕ → ℕ → ℕ → List ℕ → Bool
 sectionRowsOk s n r part = allBelow s (λ i. sectionOk n r (sectionAt part i))
+
+-- 5, then 6, of the part that begins at the task rows
+unfoldable pub taskCode : ℕ → ℕ → List ℕ → ℕ
+taskCode n p part = cond (taskRowsOk n p part) (cond (uniqueOk n (taskRows n part)) 0 6) 5
+
+-- 9, with the sum of each task's sections in a list
+unfoldable pub sumsFit : ℕ → List ℕ → List ℕ → Bool
+sumsFit n sums tasks = allBelow n (λ t. leb (getD sums t 0) (taskAt tasks t .execution))
+
+-- 8, then 9, of the parts that begin at the task rows and at the section rows
+unfoldable pub sectionCode : ℕ → ℕ → ℕ → List ℕ → List ℕ → ℕ
+sectionCode n s r tasks part =
+    cond (sectionRowsOk s n r part) (cond (sumsOk n s (taskRows n tasks) (sectionRows s part)) 0 9) 8
 
 -- a file's task rows
 abbrev pub tasksOf : List ℕ → List TaskRow

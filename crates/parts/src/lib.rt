@@ -8,24 +8,12 @@ ghost use Prim.Native.Nat.{_+_, _*_, _≤_, _<_};
 ghost use lib.ListN.{length, replicate};
 ghost use Rattle.folds.specs.Bytes.{number, placedBelow};
 ghost use Rattle.rows.specs.Rules.{noTask, noSection};
-ghost use Rattle.parts.specs.Layout.{countsOf, offsetsOk, resourcesAt, sectionsAt, namesAt, taskOf, taskAt, taskSpare, sectionAt, startAt, lengthAt, resourceSpare, taskRowsOk, lengthRowsOk, sectionRowsOk, taskRows, lengthRows, sectionRows};
-
-// The task rows of a part, and whether each keeps its rule.
-pub struct LoadedTasks {
-    pub ok: bool,
-    pub rows: [TaskRow; 64],
-}
+ghost use Rattle.parts.specs.Layout.{countsOf, offsetsOk, resourcesAt, sectionsAt, namesAt, taskOf, taskAt, taskSpare, sectionAt, startAt, lengthAt, resourceSpare, taskCode, lengthRowsOk, sumsFit, sectionCode, taskRows, lengthRows, sectionRows};
 
 // The name lengths of a part, and whether its rows follow one another as they should.
 pub struct LoadedLengths {
-    pub ok: bool,
     pub lengths: [u8; 16],
-}
-
-// The section rows of a part, and whether each keeps its rule.
-pub struct LoadedSections {
     pub ok: bool,
-    pub rows: [SectionRow; 255],
 }
 
 // A resource row: start and length of its name, and the spare byte.
@@ -142,23 +130,52 @@ fn task_at(part: &[u8], i: usize) -> TaskRow
     }
 }
 
-// 5: the task rows of the part of the file that begins at them, and whether each keeps its rule.
-pub fn load_tasks(part: &[u8], n: usize, p: u8) -> LoadedTasks
+// 5 and 6, on the part of the file that begins at the task rows, in one pass: 5 where a row breaks its rule, else 6 where a
+// tag is repeated, or a priority on a processor, else 0. Tables say which tags and which places, a processor with a
+// priority, were seen; a processor of 8 and more, whose row is refused anyway, is taken modulo 8.
+pub fn task_code(part: &[u8], n: usize, p: u8) -> u8
+    requires { ⌜ (n ≤ 64) × (p ≤ 8) × (n * 8 ≤ length (now part)) ⌝ }
+    ensures { λ r. ⌜ r ≡ taskCode n p (now (part .entry)) ⌝ }
+{
+    let mut tags = [0u8; 256];
+    let mut places = [0u8; 2048];
+    let mut ok = true;
+    let mut fresh = true;
+    let mut i = 0;
+    while i < n {
+        let at = i * 8;
+        let row = task_at(part, i);
+        let tag = folds::wide(part[at + 1]);
+        let place = folds::wide(part[at]) % 8 * 256 + folds::wide(part[at + 2]);
+        ok = ok & (rows::task_ok(row, p) & (part[at + 3] == 0));
+        fresh = fresh & ((tags[tag] == 0) & (places[place] == 0));
+        tags[tag] = 1;
+        places[place] = 1;
+        i += 1;
+    }
+    if !ok {
+        return 5;
+    }
+    if !fresh {
+        return 6;
+    }
+    0
+}
+
+// The task rows of that part, by value.
+pub fn load_tasks(part: &[u8], n: usize) -> [TaskRow; 64]
     requires { ⌜ (n ≤ 64) × (n * 8 ≤ length (now part)) ⌝ }
-    ensures { λ r. ⌜ (r .ok ≡ taskRowsOk n p (now (part .entry))) × (r .rows ≡ taskRows n (now (part .entry))) ⌝ }
+    ensures { λ r. ⌜ r ≡ taskRows n (now (part .entry)) ⌝ }
 {
     let none = no_task();
     let mut rows = [none; 64];
-    let mut ok = true;
     let mut i = 0;
     while i < n {
         let row = task_at(part, i);
-        let spare = part[i * 8 + 3];
-        ok = ok & (rows::task_ok(row, p) & (spare == 0));
         rows[i] = row;
         i += 1;
     }
-    LoadedTasks { ok, rows }
+    rows
 }
 
 // Resource row i of the part that begins at the resource rows.
@@ -206,20 +223,60 @@ fn section_at(part: &[u8], i: usize) -> SectionRow
     }
 }
 
-// 8: the section rows of the part of the file that begins at them, and whether each keeps its rule.
-pub fn load_sections(part: &[u8], s: usize, n: u8, r: u8) -> LoadedSections
-    requires { ⌜ (s ≤ 255) × (s * 4 ≤ length (now part)) ⌝ }
-    ensures { λ l. ⌜ (l .ok ≡ sectionRowsOk s n r (now (part .entry))) × (l .rows ≡ sectionRows s (now (part .entry))) ⌝ }
+// Whether the sum of each of the n tasks is at most its execution time, in the part that begins at the task rows.
+fn sums_fit(tasks: &[u8], sums: [u32; 64], n: usize) -> bool
+    requires { ⌜ (n ≤ 64) × (n * 8 ≤ length (now tasks)) ⌝ }
+    ensures { λ r. ⌜ r ≡ sumsFit n sums (now (tasks .entry)) ⌝ }
 {
-    let none = no_section();
-    let mut rows = [none; 255];
+    let mut ok = true;
+    let mut i = 0;
+    while i < n {
+        let row = task_at(tasks, i);
+        let sum = sums[i];
+        ok = ok & (sum <= row.execution as u32);
+        i += 1;
+    }
+    ok
+}
+
+// 8 and 9, on the parts of the file that begin at the task rows and at the section rows, in one pass over the sections: 8
+// where a row breaks its rule, else 9 where the sections of a task are longer than its execution time, else 0. A task of 64
+// and more, whose row is refused anyway, is taken modulo 64.
+pub fn section_code(tasks: &[u8], part: &[u8], s: usize, n: u8, r: u8) -> u8
+    requires { ⌜ (s ≤ 255) × (n ≤ 64) × (n * 8 ≤ length (now tasks)) × (s * 4 ≤ length (now part)) ⌝ }
+    ensures { λ k. ⌜ k ≡ sectionCode n s r (now (tasks .entry)) (now (part .entry)) ⌝ }
+{
+    let mut sums = [0u32; 64];
     let mut ok = true;
     let mut i = 0;
     while i < s {
         let row = section_at(part, i);
+        let task = folds::wide(part[i * 4]) % 64;
         ok = ok & rows::section_ok(row, n, r);
+        sums[task] += row.length as u32;
+        i += 1;
+    }
+    if !ok {
+        return 8;
+    }
+    if !sums_fit(tasks, sums, folds::wide(n)) {
+        return 9;
+    }
+    0
+}
+
+// The section rows of that part, by value.
+pub fn load_sections(part: &[u8], s: usize) -> [SectionRow; 255]
+    requires { ⌜ (s ≤ 255) × (s * 4 ≤ length (now part)) ⌝ }
+    ensures { λ l. ⌜ l ≡ sectionRows s (now (part .entry)) ⌝ }
+{
+    let none = no_section();
+    let mut rows = [none; 255];
+    let mut i = 0;
+    while i < s {
+        let row = section_at(part, i);
         rows[i] = row;
         i += 1;
     }
-    LoadedSections { ok, rows }
+    rows
 }

@@ -14,61 +14,62 @@ use Rattle.folds.proofs.Figures.{sum-at}
 use Rattle.folds.proofs.Arrays.{by-eq}
 use Rattle.rows.specs.Rules.{countsOk, uniqueOk, namesOk, sumsOk, lengthOf}
 use Rattle.rows.specs.declared.Counts.{Counts}
-use Rattle.parts.specs.Layout.{countsOf, tasksAt, resourcesAt, sectionsAt, namesAt, offsetsOk, taskRowsOk, lengthRowsOk, sectionRowsOk, tasksOf, lengthsOf, sectionsOf, rowsOf, namesOf, startAt, lengthAt, resourceSpare}
+use Rattle.parts.specs.Layout.{countsOf, tasksAt, resourcesAt, sectionsAt, namesAt, offsetsOk, taskRowsOk, taskCode, lengthRowsOk, sectionRowsOk, sectionCode, tasksOf, lengthsOf, sectionsOf, rowsOf, namesOf, startAt, lengthAt, resourceSpare}
 use Rattle.rows.proofs.Laws.{InRange, counts-facts}
 use Rattle.parts.proofs.Laws.{start-read}
 use Rattle.plan.specs.declared.Reading.{Reading}
 use Rattle.plan.specs.declared.ReadAnswer.{ReadAnswer}
 use Rattle.plan.specs.declared.ReadAnswer.the-variants.{Accepted, Refused}
-use Rattle.plan.specs.Reading.{headerCode, lastCode, restCode, rowsCode, refusal, given, lastReading, restReading, rowsReading, reading, refusedWith, told, readTold, nameRefusal}
+use Rattle.plan.specs.Reading.{headerCode, lastCode, restCode, rowsCode, refusal, given, reading, refusedWith, told, readTold, nameRefusal}
 
--- what a reading is after each check that fails or holds
+-- the number of a check that fails is that of the whole, and one that holds passes it on
+stop : (a b : Bool) (x m l : ℕ) {k : ℕ} → k ≡ cond a (cond b 0 (suc m)) (suc l) → (k ≡ 0 → ⊥) → cond a (cond b x (suc m)) (suc l) ≡ k
+stop true true x m l e d = absurd (d e)
+stop true false x m l e d = sym e
+stop false b x m l e d = sym e
+
+pass : (a b : Bool) (x m l : ℕ) {k : ℕ} → k ≡ cond a (cond b 0 (suc m)) (suc l) → k ≡ 0 → cond a (cond b x (suc m)) (suc l) ≡ x
+pass true true x m l e z = refl
+pass true false x m l e z = let bad : ⊥ = omega arith in absurd bad
+pass false b x m l e z = let bad : ⊥ = omega arith in absurd bad
+
 module _ (f : List ℕ) where
-  pub read-early : {k : ℕ} → k ≡ headerCode f → (k ≡ 0 → ⊥) → reading f ≡ refusedWith k
-  unfolding given refusal
-  read-early {k} e d =
-      let no : eqb (headerCode f) 0 ≡ false = ne-eqb (headerCode f) 0 (λ z. d (e ∙ z)) in
-      rw (no, no, e)
-
-  pub read-late : {k : ℕ} → k ≡ headerCode f → k ≡ 0 → reading f ≡ rowsReading f
+  pub header-fails : {k : ℕ} → k ≡ headerCode f → (k ≡ 0 → ⊥) → refusal f ≡ k
   unfolding refusal
-  read-late e z = rw (eq-eqb (headerCode f) 0 (sym e ∙ z))
+  header-fails e d = rw (← e, ne-eqb _ _ d)
 
-  pub rows-5 : taskRowsOk (countsOf f .tasks) (countsOf f .processors) (drop tasksAt f) ≡ false → rowsReading f ≡ refusedWith 5
-  unfolding given rowsCode
-  rows-5 a = rw a
+  pub header-holds : {k : ℕ} → k ≡ headerCode f → k ≡ 0 → refusal f ≡ rowsCode f
+  unfolding refusal
+  header-holds e z = rw (eq-eqb (headerCode f) 0 (sym e ∙ z))
 
-  pub rows-6 : taskRowsOk (countsOf f .tasks) (countsOf f .processors) (drop tasksAt f) ≡ true → uniqueOk (countsOf f .tasks) (tasksOf f) ≡ false → rowsReading f ≡ refusedWith 6
-  unfolding given rowsCode
-  rows-6 a b = rw (a, b)
+  pub tasks-fail : {k : ℕ} → k ≡ taskCode (countsOf f .tasks) (countsOf f .processors) (drop tasksAt f) → (k ≡ 0 → ⊥) → rowsCode f ≡ k
+  unfolding rowsCode taskCode
+  tasks-fail e d = stop (taskRowsOk (countsOf f .tasks) (countsOf f .processors) (drop tasksAt f)) (uniqueOk (countsOf f .tasks) (tasksOf f)) (restCode f) 5 4 e d
 
-  pub rows-held : taskRowsOk (countsOf f .tasks) (countsOf f .processors) (drop tasksAt f) ≡ true → uniqueOk (countsOf f .tasks) (tasksOf f) ≡ true → rowsReading f ≡ restReading f
-  unfolding rowsCode
-  rows-held a b = rw (a, b)
+  pub tasks-hold : {k : ℕ} → k ≡ taskCode (countsOf f .tasks) (countsOf f .processors) (drop tasksAt f) → k ≡ 0 → rowsCode f ≡ restCode f
+  unfolding rowsCode taskCode
+  tasks-hold e z = pass (taskRowsOk (countsOf f .tasks) (countsOf f .processors) (drop tasksAt f)) (uniqueOk (countsOf f .tasks) (tasksOf f)) (restCode f) 5 4 e z
 
-  pub rest-7 : lengthRowsOk (countsOf f .resources) (drop (resourcesAt (countsOf f)) f) ≡ false → restReading f ≡ refusedWith 7
-  unfolding given restCode
-  rest-7 a = rw a
-
-  pub rest-names : lengthRowsOk (countsOf f .resources) (drop (resourcesAt (countsOf f)) f) ≡ true → namesOk (countsOf f .resources) (lengthsOf f) (namesOf f) ≡ false → restReading f ≡ refusedWith 7
-  unfolding given restCode
-  rest-names a b = rw (a, b)
-
-  pub rest-held : lengthRowsOk (countsOf f .resources) (drop (resourcesAt (countsOf f)) f) ≡ true → namesOk (countsOf f .resources) (lengthsOf f) (namesOf f) ≡ true → restReading f ≡ lastReading f
+  pub starts-fail : lengthRowsOk (countsOf f .resources) (drop (resourcesAt (countsOf f)) f) ≡ false → restCode f ≡ 7
   unfolding restCode
-  rest-held a b = rw (a, b)
+  starts-fail a = rw a
 
-  pub last-8 : sectionRowsOk (countsOf f .sections) (countsOf f .tasks) (countsOf f .resources) (drop (sectionsAt (countsOf f)) f) ≡ false → lastReading f ≡ refusedWith 8
-  unfolding given lastCode
-  last-8 a = rw a
+  pub names-fail : lengthRowsOk (countsOf f .resources) (drop (resourcesAt (countsOf f)) f) ≡ true → namesOk (countsOf f .resources) (lengthsOf f) (namesOf f) ≡ false → restCode f ≡ 7
+  unfolding restCode
+  names-fail a b = rw (a, b)
 
-  pub last-9 : sectionRowsOk (countsOf f .sections) (countsOf f .tasks) (countsOf f .resources) (drop (sectionsAt (countsOf f)) f) ≡ true → sumsOk (countsOf f .tasks) (countsOf f .sections) (tasksOf f) (sectionsOf f) ≡ false → lastReading f ≡ refusedWith 9
-  unfolding given lastCode
-  last-9 a b = rw (a, b)
+  pub names-hold : lengthRowsOk (countsOf f .resources) (drop (resourcesAt (countsOf f)) f) ≡ true → namesOk (countsOf f .resources) (lengthsOf f) (namesOf f) ≡ true → restCode f ≡ lastCode f
+  unfolding restCode
+  names-hold a b = rw (a, b)
 
-  pub last-held : sectionRowsOk (countsOf f .sections) (countsOf f .tasks) (countsOf f .resources) (drop (sectionsAt (countsOf f)) f) ≡ true → sumsOk (countsOf f .tasks) (countsOf f .sections) (tasksOf f) (sectionsOf f) ≡ true → lastReading f ≡ record { answer = Accepted (countsOf f); rows = rowsOf f }
-  unfolding given lastCode
-  last-held a b = rw (a, b)
+  -- and what a reading then is
+  pub read-refused : {k : ℕ} → k ≡ refusal f → (k ≡ 0 → ⊥) → reading f ≡ refusedWith k
+  unfolding given
+  read-refused e d = rw (← e, ne-eqb _ _ d)
+
+  pub read-accepted : {k : ℕ} → k ≡ refusal f → k ≡ 0 → reading f ≡ record { answer = Accepted (countsOf f); rows = rowsOf f }
+  unfolding given
+  read-accepted e z = rw (eq-eqb (refusal f) 0 (sym e ∙ z))
 
 -- the header
 pub record Header (f : List ℕ) : Type 0 where
@@ -132,8 +133,12 @@ header-zero k r e = by-eq (λ (b : Bool). cond b r k ≡ 0 → k ≡ 0) k 0 (λ 
 header-next : (k r : ℕ) → cond (eqb k 0) r k ≡ 0 → r ≡ 0
 header-next k r e = by-eq (λ (b : Bool). cond b r k ≡ 0 → r ≡ 0) k 0 (λ q h. h) (λ d h. absurd (d h)) e
 
+pub header-clear : (f : List ℕ) → refusal f ≡ 0 → headerCode f ≡ 0
+unfolding refusal
+header-clear f e = header-zero (headerCode f) (rowsCode f) e
+
 pub whole-facts : (f : List ℕ) → refusal f ≡ 0 → Whole f
-unfolding refusal rowsCode restCode lastCode
+unfolding refusal rowsCode restCode sectionCode
 whole-facts f e =
     let h : headerCode f ≡ 0 = header-zero (headerCode f) _ e in
     let r1 = header-next (headerCode f) _ e in

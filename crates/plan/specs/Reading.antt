@@ -5,13 +5,13 @@ use mathlib.Core.List.{List, [], _∷_}
 use lib.Dec.{leb, ltb, eqb}
 use lib.ListN.{length, getD, take, drop, replicate}
 use Rattle.folds.specs.Bytes.{number}
-use Rattle.rows.specs.Rules.{countsOk, uniqueOk, namesOk, sumsOk, noTask, noSection}
+use Rattle.rows.specs.Rules.{countsOk, uniqueOk, namesOk, noTask, noSection}
 use Rattle.rows.specs.declared.Counts.{Counts}
 use Rattle.rows.specs.declared.Rows.{Rows}
 use Rattle.plan.specs.declared.Reading.{Reading}
 use Rattle.plan.specs.declared.ReadAnswer.{ReadAnswer}
 use Rattle.plan.specs.declared.ReadAnswer.the-variants.{Accepted, Refused}
-use Rattle.parts.specs.Layout.{countsOf, tasksAt, resourcesAt, sectionsAt, namesAt, offsetsOk, taskRowsOk, lengthRowsOk, sectionRowsOk, tasksOf, lengthsOf, sectionsOf, rowsOf, namesOf, startAt, lengthAt}
+use Rattle.parts.specs.Layout.{countsOf, tasksAt, resourcesAt, sectionsAt, namesAt, offsetsOk, taskRowsOk, lengthRowsOk, sectionCode, tasksOf, lengthsOf, rowsOf, namesOf, startAt, lengthAt}
 
 -- 1, fewer than 16 bytes or not the length in bytes 14-15; 2, edition; 3, a count beyond its range; 4, an offset
 unfoldable pub headerCode : List ℕ → ℕ
@@ -22,11 +22,9 @@ headerCode f =
     1)
 
 -- 8, a section against its rule; 9, sections above C
-unfoldable pub lastCode : List ℕ → ℕ
+abbrev pub lastCode : List ℕ → ℕ
 lastCode f =
-    cond (sectionRowsOk (countsOf f .sections) (countsOf f .tasks) (countsOf f .resources) (drop (sectionsAt (countsOf f)) f))
-    (cond (sumsOk (countsOf f .tasks) (countsOf f .sections) (tasksOf f) (sectionsOf f)) 0 9)
-    8
+    sectionCode (countsOf f .tasks) (countsOf f .sections) (countsOf f .resources) (drop tasksAt f) (drop (sectionsAt (countsOf f)) f)
 
 -- 7, a resource row or name against its rule, or two equal names; then the last
 unfoldable pub restCode : List ℕ → ℕ
@@ -57,18 +55,6 @@ refusedWith k = record { answer = Refused k; rows = noRows }
 -- the plan, or the refusal k where that is not 0
 unfoldable pub given : List ℕ → ℕ → Reading
 given f k = cond (eqb k 0) (record { answer = Accepted (countsOf f); rows = rowsOf f }) (refusedWith k)
-
--- reading a file that passed checks 1 to 7
-abbrev pub lastReading : List ℕ → Reading
-lastReading f = given f (lastCode f)
-
--- reading a file that passed checks 1 to 6
-abbrev pub restReading : List ℕ → Reading
-restReading f = given f (restCode f)
-
--- reading a file that passed checks 1 to 4
-abbrev pub rowsReading : List ℕ → Reading
-rowsReading f = given f (rowsCode f)
 
 -- reading a file: its counts and rows, or the first check that it fails
 abbrev pub reading : List ℕ → Reading

@@ -7,8 +7,8 @@ ghost use mathlib.Core.Path.{_≡_};
 ghost use mathlib.Core.Bool.{true};
 ghost use Prim.Native.Nat.{_≤_};
 ghost use lib.ListN.{length};
-ghost use Rattle.parts.specs.Layout.{countsOf, tasksOf, lengthsOf};
-ghost use Rattle.plan.specs.Reading.{headerCode, lastReading, restReading, rowsReading, reading, refusal, told, readTold, nameRefusal, nameOf, refusedWith, planLength};
+ghost use Rattle.parts.specs.Layout.{countsOf, rowsOf};
+ghost use Rattle.plan.specs.Reading.{headerCode, lastCode, restCode, rowsCode, reading, refusal, told, readTold, nameRefusal, nameOf, refusedWith, planLength};
 
 // A read plan's counts, or the number of the first check that it fails.
 pub enum ReadAnswer {
@@ -61,65 +61,77 @@ pub fn refused(k: u8) -> Reading
     }
 }
 
-// Checks 8 and 9, of a file that passed those before.
-fn read_last(file: &[u8], c: Counts, tasks: [TaskRow; 64], lengths: [u8; 16]) -> Reading
-    requires { ⌜ (headerCode (now file) ≡ 0) × (c ≡ countsOf (now file)) × (tasks ≡ tasksOf (now file)) × (lengths ≡ lengthsOf (now file)) ⌝ }
-    ensures { λ r. ⌜ r ≡ lastReading (now (file .entry)) ⌝ }
+// Checks 8 and 9, of a file that passed those before: the first that fails, 0 for none.
+fn last_code(file: &[u8], c: Counts) -> u8
+    requires { ⌜ (headerCode (now file) ≡ 0) × (c ≡ countsOf (now file)) ⌝ }
+    ensures { λ r. ⌜ r ≡ lastCode (now (file .entry)) ⌝ }
 {
     let at = parts::sections_at(c);
     let s = c.sections as usize;
-    let loaded = parts::load_sections(&file[at..], s, c.tasks, c.resources);
-    if !loaded.ok {
-        return refused(8);
-    }
-    let sections = loaded.rows;
-    if !rows::checks::sums_ok(tasks, sections, c.tasks, s, c.resources) {
-        return refused(9);
-    }
-    Reading {
-        answer: ReadAnswer::Accepted(c),
-        rows: Rows {
-            tasks,
-            lengths,
-            sections,
-        },
-    }
+    parts::section_code(&file[16..], &file[at..], s, c.tasks, c.resources)
 }
 
-// Checks 7 to 9, of a file that passed those before.
-fn read_rest(file: &[u8], c: Counts, tasks: [TaskRow; 64]) -> Reading
-    requires { ⌜ (headerCode (now file) ≡ 0) × (c ≡ countsOf (now file)) × (tasks ≡ tasksOf (now file)) ⌝ }
-    ensures { λ r. ⌜ r ≡ restReading (now (file .entry)) ⌝ }
+// Checks 7 to 9, of a file that passed those before: the first that fails, 0 for none.
+fn rest_code(file: &[u8], c: Counts) -> u8
+    requires { ⌜ (headerCode (now file) ≡ 0) × (c ≡ countsOf (now file)) ⌝ }
+    ensures { λ r. ⌜ r ≡ restCode (now (file .entry)) ⌝ }
 {
     let at = parts::resources_at(c);
     let r = folds::wide(c.resources);
     let loaded = parts::load_lengths(&file[at..], r);
     if !loaded.ok {
-        return refused(7);
+        return 7;
     }
     let lengths = loaded.lengths;
     let names_at = parts::names_at(c);
     if !rows::checks::names_ok(lengths, r, &file[names_at..]) {
-        return refused(7);
+        return 7;
     }
-    read_last(file, c, tasks, lengths)
+    last_code(file, c)
 }
 
-// Checks 5 to 9, of a file that passed those before.
-fn read_rows(file: &[u8], c: Counts) -> Reading
+// Checks 5 to 9, of a file that passed those before: the first that fails, 0 for none.
+fn rows_code(file: &[u8], c: Counts) -> u8
     requires { ⌜ (headerCode (now file) ≡ 0) × (c ≡ countsOf (now file)) ⌝ }
-    ensures { λ r. ⌜ r ≡ rowsReading (now (file .entry)) ⌝ }
+    ensures { λ r. ⌜ r ≡ rowsCode (now (file .entry)) ⌝ }
 {
     let n = folds::wide(c.tasks);
-    let loaded = parts::load_tasks(&file[16..], n, c.processors);
-    if !loaded.ok {
-        return refused(5);
+    let code = parts::task_code(&file[16..], n, c.processors);
+    if code != 0 {
+        return code;
     }
-    let tasks = loaded.rows;
-    if !rows::checks::unique_ok(tasks, n, c.processors) {
-        return refused(6);
+    rest_code(file, c)
+}
+
+// The number of the first check that the file fails, 0 for none.
+pub fn check(file: &[u8]) -> u8
+    ensures { λ r. ⌜ r ≡ refusal (now (file .entry)) ⌝ }
+{
+    let code = header_code(file);
+    if code != 0 {
+        return code;
     }
-    read_rest(file, c, tasks)
+    let counts = parts::counts_at(file);
+    rows_code(file, counts)
+}
+
+// The rows of a file that passed every check.
+fn load(file: &[u8], c: Counts) -> Rows
+    requires { ⌜ (headerCode (now file) ≡ 0) × (c ≡ countsOf (now file)) ⌝ }
+    ensures { λ r. ⌜ r ≡ rowsOf (now (file .entry)) ⌝ }
+{
+    let n = folds::wide(c.tasks);
+    let r = folds::wide(c.resources);
+    let s = c.sections as usize;
+    let resources_at = parts::resources_at(c);
+    let sections_at = parts::sections_at(c);
+    let loaded = parts::load_lengths(&file[resources_at..], r);
+    let lengths = loaded.lengths;
+    Rows {
+        tasks: parts::load_tasks(&file[16..], n),
+        lengths,
+        sections: parts::load_sections(&file[sections_at..], s),
+    }
 }
 
 // The plan in a file of any length, or the first of checks 1 to 9 that it fails.
@@ -127,12 +139,15 @@ pub fn read(file: &[u8]) -> Reading
     ensures { λ r. ⌜ r ≡ reading (now (file .entry)) ⌝ }
     ensures { λ r. ⌜ told (r .answer) ≡ readTold (now (file .entry)) ⌝ }
 {
-    let code = header_code(file);
+    let code = check(file);
     if code != 0 {
         return refused(code);
     }
     let counts = parts::counts_at(file);
-    read_rows(file, counts)
+    Reading {
+        answer: ReadAnswer::Accepted(counts),
+        rows: load(file, counts),
+    }
 }
 
 // The number that an answer tells: the refusal, 0 for a plan that is read.
@@ -145,25 +160,19 @@ pub fn number(answer: ReadAnswer) -> u8
     }
 }
 
-// The number of the first check that the file fails, 0 for none.
-pub fn check(file: &[u8]) -> u8
-    ensures { λ r. ⌜ r ≡ refusal (now (file .entry)) ⌝ }
-{
-    let found = read(file);
-    let answer = found.answer;
-    number(answer)
-}
-
 // Why the question for the name of a resource is refused, 0 where it is not.
 pub fn name_refusal(file: &[u8], resource: u8) -> u8
     ensures { λ r. ⌜ r ≡ nameRefusal (now (file .entry)) resource ⌝ }
 {
-    let found = read(file);
-    let answer = found.answer;
-    match answer {
-        ReadAnswer::Accepted(counts) => { if resource < counts.resources { 0 } else { 12 } }
-        ReadAnswer::Refused(k) => k,
+    let code = check(file);
+    if code != 0 {
+        return code;
     }
+    let counts = parts::counts_at(file);
+    if resource < counts.resources {
+        return 0;
+    }
+    12
 }
 
 // The name of a resource, as that part of the file itself; an empty part where the question is refused.

@@ -53,16 +53,13 @@ fn section_sum(s: SectionRow) -> u64
 fn last_rows(c: Counts, rows: Rows) -> u64
     ensures { λ r. ⌜ (r ≡ lastRows c rows) × (r < 300000) ⌝ }
 {
-    let tasks = rows.tasks;
-    let lengths = rows.lengths;
-    let sections = rows.sections;
     let s = c.sections as usize;
     let t = last(folds::wide(c.tasks), 64);
     let q = last(folds::wide(c.resources), 16);
     let k = last(s, 255);
-    let task = tasks[t];
-    let section = sections[k];
-    task_sum(task) + byte(lengths[q]) + section_sum(section)
+    let task = rows.tasks[t];
+    let section = rows.sections[k];
+    task_sum(task) + byte(rows.lengths[q]) + section_sum(section)
 }
 
 // Reads a plan: the refusal in the low byte, and above it for a plan that is read the sum of its last rows. Which rows are

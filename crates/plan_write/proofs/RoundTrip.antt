@@ -17,11 +17,11 @@ use Rattle.folds.proofs.RowLaws.{Bytes, solid, row-length, fields-back, fields-
 use Rattle.rows.specs.Rules.{noTask, noSection, taskOf, sectionOf, lengthOf, startOf, taskOk, sectionOk, tasksOk, sectionsOk, namesOk}
 use Rattle.rows.specs.declared.Counts.{Counts}
 use Rattle.rows.specs.declared.Rows.{Rows}
-use Rattle.parts.specs.Layout.{countsOf, tasksAt, resourcesAt, sectionsAt, namesAt, taskWidths, resourceWidths, sectionWidths, taskAt, taskSpare, startAt, lengthAt, resourceSpare, sectionAt, taskRows, lengthRows, sectionRows, taskRowsOk, lengthRowsOk, sectionRowsOk, tasksOf, lengthsOf, sectionsOf, rowsOf, namesOf}
+use Rattle.parts.specs.Layout.{countsOf, tasksAt, resourcesAt, sectionsAt, namesAt, taskWidths, resourceWidths, sectionWidths, taskAt, taskSpare, startAt, lengthAt, resourceSpare, sectionAt, taskRows, lengthRows, sectionRows, taskRowsOk, lengthRowsOk, sectionRowsOk, sectionCode, tasksOf, lengthsOf, sectionsOf, rowsOf, namesOf}
 use Rattle.parts.specs.Layout.{taskOf as taskIn, sectionOf as sectionIn}
 use Rattle.rows.proofs.Laws.{InRange, counts-facts}
 use Rattle.parts.proofs.Laws.{task-read, length-read, section-read, start-read, tasks-kept, sections-kept}
-use Rattle.plan.specs.Reading.{headerCode, lastCode, restCode, rowsCode, refusal}
+use Rattle.plan.specs.Reading.{headerCode, restCode, rowsCode, refusal}
 use Rattle.plan.proofs.Laws.{Header, Whole, whole-facts}
 use Rattle.plan_write.specs.Encode.{headerWidths, headerNumbers, headerBytes, taskNumbers, taskBytes, resourceBytes, sectionNumbers, sectionBytes, fileLength, fileOf}
 use Rattle.plan_write.specs.RoundTrip.{trimmed, WrittenThenRead, ReadThenWritten}
@@ -142,7 +142,7 @@ header-read f h =
     rw (le-ltb _ _ (h .long), eq-eqb _ _ (h .whole), eq-eqb _ _ (h .edition), h .counts, eq-eqb _ _ (h .tasks-at), eq-eqb _ _ (h .resources-at), eq-eqb _ _ (h .sections-at), eq-eqb _ _ (h .names-at), le-leb _ _ (h .ends))
 
 whole-read : (f : List ℕ) → Whole f → refusal f ≡ 0
-unfolding refusal rowsCode restCode lastCode
+unfolding refusal rowsCode restCode sectionCode
 whole-read f w =
     rw (header-read f (w .header), w .tasks, w .unique, w .starts, w .names, w .sections, w .sums)
 

@@ -1,19 +1,20 @@
--- What counts and rows that keep their rules have, and the laws of the tables of tags and places seen and of sums by task.
+-- What counts and rows that keep their rules have, and the laws of the tables of tags and places seen, of sums by task and of the numbers of names.
 use Prim.Native.Nat.{ℕ, _+_, _*_, _<_, _≤_}
 use mathlib.Core.Bool.{Bool, true, false, cond, _&&_, not}
 use mathlib.Core.List.{List}
-use mathlib.Core.Path.{_≡_, sym, ap, ap₂, _∙_}
+use mathlib.Core.Path.{_≡_, refl, sym, ap, ap₂, _∙_}
 use native.Mathlib.Omega.{arith}
-use borrow.Author.Tests.{ltb-true, leb-true, eq-eqb, ne-eqb}
+use borrow.Author.Tests.{ltb-true, leb-true, eq-eqb, ne-eqb, eqb-true, eqb-false, not-true}
 use lib.Dec.{leb, ltb, eqb}
 use lib.ListN.{length, getD, replicate}
-use Rattle.folds.proofs.Tests.{and-parts, all-at, all-same}
-use Rattle.folds.proofs.Figures.{sum-bound}
-use Rattle.folds.proofs.Arrays.{by-eq, markedBelow, marked-new, gatheredBelow, gathered-length, gathered-at}
+use Rattle.folds.proofs.Tests.{and-parts, all-at, all-from, all-same}
+use Rattle.folds.proofs.Figures.{sum-bound, sum-same}
+use Rattle.folds.proofs.Arrays.{by-eq, placed-at, markedBelow, marked-new, gatheredBelow, gathered-length, gathered-at}
 use Rattle.rows.specs.declared.Counts.{Counts}
 use Rattle.rows.specs.declared.TaskRow.{TaskRow}
 use Rattle.rows.specs.declared.SectionRow.{SectionRow}
-use Rattle.rows.specs.Rules.{taskOf, sectionOf, countsOk, taskOk, tasksOk, sectionOk, sectionsOk, tagNew, priorityNew, sectionSum}
+use Rattle.rows.specs.Rules.{taskOf, sectionOf, countsOk, taskOk, tasksOk, sectionOk, sectionsOk, tagNew, priorityNew, sectionSum, lengthOf, startOf, sameBytes, differ, nameNew, namesDiffer}
+use Rattle.rows.specs.Prints.{printOf, printsOf, numberNew, numbersDiffer}
 
 -- counts in their ranges
 pub record InRange (c : Counts) : Type 0 where
@@ -156,3 +157,37 @@ place-seen i tasks l h =
 -- the test that a turn of the loop makes
 pub both-seen : (i : ℕ) (tasks : List TaskRow) {tags places : List ℕ} → tags ≡ tagsBelow i tasks → places ≡ placesBelow i tasks → taskOf tasks i .tag < 256 → placeOf tasks i < 2048 → ((k : ℕ) → k < i + 1 → taskOf tasks k .priority < 256) → (eqb (getD tags (taskOf tasks i .tag) 0) 0 && eqb (getD places (placeOf tasks i) 0) 0) ≡ (tagNew tasks i && priorityNew tasks i)
 both-seen i tasks p q l m h = rw (p, q) (ap₂ _&&_ (tag-seen i tasks l) (place-seen i tasks m h))
+
+-- the number of name i among those of r names
+pub print-at : (r i : ℕ) (lengths names : List ℕ) → i < r → r ≤ 16 → getD (printsOf r lengths names) i 0 ≡ printOf names (startOf lengths i) (lengthOf lengths i)
+unfolding printsOf
+print-at r i lengths names l h =
+    placed-at r i (λ k. printOf names (startOf lengths k) (lengthOf lengths k)) (replicate 16 0) 0 l h
+
+-- the same bytes have one number
+pub print-same : (names : List ℕ) (a b len : ℕ) → sameBytes names a b len ≡ true → printOf names a len ≡ printOf names b len
+unfolding sameBytes printOf
+print-same names a b len h =
+    sum-same len (λ k. (k + 1) * getD names (a + k) 0) (λ k. (k + 1) * getD names (b + k) 0)
+    (λ k l. ap (λ (x : ℕ). (k + 1) * x) (eqb-true _ _ (all-at len k (λ j. eqb (getD names (a + j) 0) (getD names (b + j) 0)) h l)))
+
+-- names whose numbers differ are not equal
+pub print-differ : (lengths names : List ℕ) (i j a b : ℕ) → (printOf names a (lengthOf lengths i) ≡ printOf names b (lengthOf lengths j) → ⊥) → differ lengths names i j a b ≡ true
+unfolding differ
+print-differ lengths names i j a b d =
+    either (eqb (lengthOf lengths i) (lengthOf lengths j)) (sameBytes names a b (lengthOf lengths i))
+    (λ e f. d (print-same names a b (lengthOf lengths i) f ∙ ap (printOf names b) (eqb-true (lengthOf lengths i) (lengthOf lengths j) e)))
+  where
+    either : (x y : Bool) → (x ≡ true → y ≡ true → ⊥) → not (x && y) ≡ true
+    either true true g = absurd (g refl refl)
+    either true false g = refl
+    either false y g = refl
+
+pub prints-differ : (r : ℕ) (lengths names : List ℕ) → r ≤ 16 → numbersDiffer r (printsOf r lengths names) ≡ true → namesDiffer r lengths names ≡ true
+unfolding numbersDiffer numberNew namesDiffer nameNew
+prints-differ r lengths names h t =
+    let l : List ℕ = printsOf r lengths names in
+    all-from r (nameNew lengths names)
+    (λ i p. all-from i (λ j. differ lengths names i j (startOf lengths i) (startOf lengths j))
+    (λ j q. print-differ lengths names i j (startOf lengths i) (startOf lengths j)
+    (λ e. eqb-false (getD l i 0) (getD l j 0) (not-true _ (all-at i j (λ k. not (eqb (getD l i 0) (getD l k 0))) (all-at r i (numberNew l) t p) q)) (print-at r i lengths names p h ∙ e ∙ sym (print-at r j lengths names (omega arith) h)))))

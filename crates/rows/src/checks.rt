@@ -7,6 +7,7 @@ ghost use mathlib.Core.Bool.{true};
 ghost use Prim.Native.Nat.{ℕ, _+_, _≤_, _<_};
 ghost use lib.ListN.{length, getD};
 ghost use Rattle.folds.specs.Below.{sumBelow};
+ghost use Rattle.rows.specs.Prints.{printOf, printsOf, numberNew, numbersDiffer};
 ghost use Rattle.rows.specs.Rules.{tasksOk, uniqueOk, lengthOf, lengthsOk, bytesOk, sameBytes, differ, namesDiffer, nameNew, namesOk, sectionsOk, sumsOk, sectionSum};
 
 // 5: whether each task row keeps its rule.
@@ -131,8 +132,71 @@ fn name_is_new(lengths: [u8; 16], names: &[u8], i: usize, at: usize) -> bool
     ok
 }
 
-// Whether all names differ.
-fn names_differ(lengths: [u8; 16], r: usize, names: &[u8]) -> bool
+// A number that equal names have in common: the sum of the bytes, each times its place.
+fn print_of(names: &[u8], at: usize, len: u8) -> u32
+    requires { ⌜ at + len ≤ length (now names) ⌝ }
+    ensures { λ r. ⌜ r ≡ printOf (now (names .entry)) at len ⌝ }
+{
+    let end = folds::wide(len);
+    let mut sum: u32 = 0;
+    let mut place: u32 = 1;
+    let mut k = 0;
+    while k < end {
+        sum += place * names[at + k] as u32;
+        place += 1;
+        k += 1;
+    }
+    sum
+}
+
+// Those numbers of all names.
+fn prints(lengths: [u8; 16], r: usize, names: &[u8]) -> [u32; 16]
+    requires { ⌜ (r ≤ 16) × (sumBelow r (lengthOf lengths) ≡ length (now names)) ⌝ }
+    ensures { λ l. ⌜ l ≡ printsOf r lengths (now (names .entry)) ⌝ }
+{
+    let mut found = [0u32; 16];
+    let mut at = 0;
+    let mut i = 0;
+    while i < r {
+        let len = lengths[i];
+        found[i] = print_of(names, at, len);
+        at += folds::wide(len);
+        i += 1;
+    }
+    found
+}
+
+// Whether number i differs from all before it.
+fn print_is_new(found: [u32; 16], i: usize) -> bool
+    requires { ⌜ i < 16 ⌝ }
+    ensures { λ r. ⌜ r ≡ numberNew found i ⌝ }
+{
+    let own = found[i];
+    let mut ok = true;
+    let mut j = 0;
+    while j < i {
+        ok = ok & (own != found[j]);
+        j += 1;
+    }
+    ok
+}
+
+// Whether the first r numbers differ.
+fn prints_differ(found: [u32; 16], r: usize) -> bool
+    requires { ⌜ r ≤ 16 ⌝ }
+    ensures { λ b. ⌜ b ≡ numbersDiffer r found ⌝ }
+{
+    let mut ok = true;
+    let mut i = 0;
+    while i < r {
+        ok = ok & print_is_new(found, i);
+        i += 1;
+    }
+    ok
+}
+
+// Whether all names differ, compared byte by byte.
+fn bytes_differ(lengths: [u8; 16], r: usize, names: &[u8]) -> bool
     requires { ⌜ (r ≤ 16) × (sumBelow r (lengthOf lengths) ≡ length (now names)) ⌝ }
     ensures { λ b. ⌜ b ≡ namesDiffer r lengths (now (names .entry)) ⌝ }
 {
@@ -145,6 +209,18 @@ fn names_differ(lengths: [u8; 16], r: usize, names: &[u8]) -> bool
         i += 1;
     }
     ok
+}
+
+// Whether all names differ. Where their numbers differ, so do they; only else are they compared.
+fn names_differ(lengths: [u8; 16], r: usize, names: &[u8]) -> bool
+    requires { ⌜ (r ≤ 16) × (sumBelow r (lengthOf lengths) ≡ length (now names)) ⌝ }
+    ensures { λ b. ⌜ b ≡ namesDiffer r lengths (now (names .entry)) ⌝ }
+{
+    let found = prints(lengths, r, names);
+    if prints_differ(found, r) {
+        return true;
+    }
+    bytes_differ(lengths, r, names)
 }
 
 // 7: whether lengths and names keep their rules: lengths in range that add up to the bytes, bytes in range, names that differ.

@@ -5,13 +5,14 @@ ghost use mathlib.Core.Bool.{true};
 
 pub mod checks;
 
-// A task: its processor, tag, priority, period T and execution time C.
+// A task: its tag, period T, execution time C, processor and priority. The wide fields stand first, so that no byte is lost
+// between them.
 pub struct TaskRow {
-    pub processor: u8,
     pub tag: u16,
-    pub priority: u8,
     pub period: u16,
     pub execution: u16,
+    pub processor: u8,
+    pub priority: u8,
 }
 
 // A section: a task holds a resource for so many ticks.

@@ -1,35 +1,29 @@
--- The rows passed are loaded, and the test is that of all of them.
+-- The invariant: the rows passed are loaded.
 use Prim.Native.Nat.{_≤_, _-_}
-use mathlib.Core.Path.{_≡_, refl, sym, ap, _∙_}
+use mathlib.Core.Path.{_≡_, refl}
 use borrow.Author.Needs.{needs}
 use native.Mathlib.Omega.{arith}
-use Rattle.folds.specs.Below.{allBelow}
 use Rattle.folds.specs.Bytes.{placedBelow}
-use Rattle.folds.proofs.Tests.{all-step, all-done}
 use Rattle.folds.proofs.Arrays.{placed-step, placed-done}
-use Rattle.parts.specs.Layout.{sectionRows, sectionRowsOk}
+use Rattle.parts.specs.Layout.{sectionRows}
 use Rattle.parts.proofs.load_sections.Statement.{statement}
 use Rattle.parts.proofs.load_sections.Tie as tie
 
 abbrev Inv-loop : tie.InvT-loop
-Inv-loop part s n r rows₀ ok₀ i₀ rows ok i =
-    (i ≤ s) × (ok ≡ sectionRowsOk i n r part) × (rows ≡ sectionRows i part)
+Inv-loop part s rows₀ i₀ rows i = (i ≤ s) × (rows ≡ sectionRows i part)
 
 abbrev μ-loop : tie.MeasureT-loop
-μ-loop part s n r rows₀ ok₀ i₀ rows ok i = s - i
+μ-loop part s rows₀ i₀ rows i = s - i
 
 no-section-requires : tie.Need-no-section-requires Inv-loop μ-loop
 no-section-requires c κs = search needs
 
 loop-holds : tie.Need-loop-holds Inv-loop μ-loop
-unfolding sectionRowsOk sectionRows allBelow placedBelow
-loop-holds c = (omega arith, refl, rw (c .no-section .ensures))
+unfolding sectionRows placedBelow
+loop-holds c = (omega arith, rw (c .no-section .ensures))
 
 section-at-requires : tie.Need-section-at-requires Inv-loop μ-loop
 section-at-requires c κs = omega arith
-
-section-ok-requires : tie.Need-section-ok-requires Inv-loop μ-loop
-section-ok-requires c κs = omega arith
 
 mul-rows : tie.Need-mul-rows Inv-loop μ-loop
 mul-rows c = omega arith
@@ -44,12 +38,12 @@ loop-less : tie.Need-loop-less Inv-loop μ-loop
 loop-less c = omega arith
 
 loop-again : tie.Need-loop-again Inv-loop μ-loop
-unfolding sectionRowsOk sectionRows
-loop-again c = (omega arith, all-step _ _ (c .before .before .before .loop .inv .1) (rw (c .section-ok .ensures, c .before .section-at .ensures)), placed-step _ _ _ (c .before .before .before .loop .inv .2) (c .before .section-at .ensures))
+unfolding sectionRows
+loop-again c = (omega arith, placed-step _ _ _ (c .before .before .loop .inv .1) (c .section-at .ensures))
 
 returns : tie.Need-returns Inv-loop μ-loop
-unfolding sectionRowsOk sectionRows
-returns c = (all-done _ (c .before .loop .i) _ (omega arith) (c .before .loop .inv .1), placed-done _ (c .before .loop .i) _ _ (omega arith) (c .before .loop .inv .2))
+unfolding sectionRows
+returns c = placed-done _ (c .before .loop .i) _ _ (omega arith) (c .before .loop .inv .1)
 
 pub load-sections-spec : {M : Type 1} → statement M
 load-sections-spec =
@@ -60,7 +54,6 @@ load-sections-spec =
     no-section-requires
     loop-holds
     section-at-requires
-    section-ok-requires
     mul-rows
     array-set-from-rows
     add-i

@@ -1,18 +1,26 @@
--- The number is what the answer tells.
-use mathlib.Core.Path.{_≡_, ap, _∙_}
+-- Each return is the branch of the definition.
+use mathlib.Core.Path.{_≡_, sym, _∙_}
 use borrow.Author.Needs.{needs}
-use Rattle.plan.specs.Reading.{Told}
+use Rattle.plan.proofs.Laws.{header-facts, header-fails, header-holds}
 use Rattle.plan.proofs.check.Statement.{statement}
 use Rattle.plan.proofs.check.Tie as tie
 
-read-requires : tie.Need-read-requires
-read-requires c κs = search needs
-
-number-requires : tie.Need-number-requires
-number-requires c κs = search needs
+header-code-requires : tie.Need-header-code-requires
+header-code-requires c κs = search needs
 
 returns : tie.Need-returns
-returns c = c .number .ensures ∙ ap (λ (t : Told). t .number) (c .before .read .ensures .1)
+returns c = sym (header-fails _ (c .before .header-code .ensures) (c .if1 .taken))
+
+counts-at-requires : tie.Need-counts-at-requires
+counts-at-requires c κs = header-facts _ (sym (c .before .header-code .ensures) ∙ c .if1 .left) .long
+
+rows-code-requires : tie.Need-rows-code-requires
+rows-code-requires c κs = search needs
+
+returns-2 : tie.Need-returns-2
+returns-2 c = c .rows-code .ensures ∙ sym (header-holds _ (c .before .before .before .header-code .ensures) (c .before .before .if1 .left))
 
 pub check-spec : {M : Type 1} → statement M
-check-spec = tie.close (tie.spec read-requires number-requires returns)
+check-spec =
+    tie.close
+    (tie.spec header-code-requires returns counts-at-requires rows-code-requires returns-2)

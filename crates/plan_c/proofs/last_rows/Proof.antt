@@ -25,20 +25,20 @@ last-requires-3 c κs = search needs
 mul-task : tie.Need-mul-task
 mul-task c = search needs
 
-array-copy-out-task : tie.Need-array-copy-out-task
-array-copy-out-task c = search needs
+element-copy-out-task : tie.Need-element-copy-out-task
+element-copy-out-task c = search needs
 
 mul-section : tie.Need-mul-section
 mul-section c = search needs
 
-array-copy-out-section : tie.Need-array-copy-out-section
-array-copy-out-section c = search needs
+element-copy-out-section : tie.Need-element-copy-out-section
+element-copy-out-section c = search needs
 
 task-sum-requires : tie.Need-task-sum-requires
 task-sum-requires c κs = search needs
 
-array-read-byte : tie.Need-array-read-byte
-array-read-byte c = search needs
+element-copy-out-byte : tie.Need-element-copy-out-byte
+element-copy-out-byte c = search needs
 
 byte-requires : tie.Need-byte-requires
 byte-requires c κs = search needs
@@ -67,11 +67,11 @@ last-rows-spec =
     last-requires-2
     last-requires-3
     mul-task
-    array-copy-out-task
+    element-copy-out-task
     mul-section
-    array-copy-out-section
+    element-copy-out-section
     task-sum-requires
-    array-read-byte
+    element-copy-out-byte
     byte-requires
     add-result
     section-sum-requires

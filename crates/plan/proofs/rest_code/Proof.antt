@@ -3,14 +3,14 @@ use mathlib.Core.Path.{_≡_, sym, ap, _∙_}
 use native.Mathlib.Omega.{arith}
 use borrow.Author.Needs.{needs}
 use lib.ListN.{drop, length-drop}
-use Rattle.folds.proofs.Tests.{held, failed}
 use Rattle.folds.proofs.Parts.{part-rest}
+use Rattle.folds.proofs.Tests.{held, failed}
 use Rattle.rows.specs.declared.Counts.{Counts}
 use Rattle.rows.specs.Rules.{namesOk}
 use Rattle.parts.specs.Layout.{countsOf, resourcesAt, namesAt, lengthsOf, namesOf, lengthRowsOk}
-use Rattle.plan.proofs.Laws.{header-facts, rest-7, rest-names, rest-held}
-use Rattle.plan.proofs.read_rest.Statement.{statement}
-use Rattle.plan.proofs.read_rest.Tie as tie
+use Rattle.plan.proofs.Laws.{header-facts, starts-fail, names-fail, names-hold}
+use Rattle.plan.proofs.rest_code.Statement.{statement}
+use Rattle.plan.proofs.rest_code.Tie as tie
 
 -- what was loaded, said of the file
 ok-read : (c : tie.After-load-lengths) → c .load-lengths .result .ok ≡ lengthRowsOk (countsOf (c .before .before .before .before .before .args .file .now) .resources) (drop (resourcesAt (countsOf (c .before .before .before .before .before .args .file .now))) (c .before .before .before .before .before .args .file .now))
@@ -55,11 +55,8 @@ load-lengths-requires c κs =
     let e = c .before .before .resources-at .ensures ∙ ap resourcesAt (a .pre .1) in
     simp (part-rest, length-drop) (omega (arith, h .ranges .resources, h .ends))
 
-refused-requires : tie.Need-refused-requires
-refused-requires c κs = search needs
-
 returns : tie.Need-returns
-returns c = c .refused .ensures ∙ sym (rest-7 _ (failed (ok-read (c .before .before .before)) (c .before .if1 .taken)))
+returns c = sym (starts-fail _ (failed (ok-read (c .before .before)) (c .if1 .taken)))
 
 names-at-requires : tie.Need-names-at-requires
 names-at-requires c κs = search needs
@@ -88,27 +85,21 @@ names-ok-requires c κs =
     let n = q .before .before .wide .ensures .0 ∙ ap (λ (k : Counts). k .resources) (a .pre .1) in
     omega (arith, header-facts _ (a .pre .0) .ranges .resources)
 
-refused-requires-2 : tie.Need-refused-requires-2
-refused-requires-2 c κs = search needs
-
 returns-2 : tie.Need-returns-2
 returns-2 c =
-    let u = c .before .before in
-    c .refused2 .ensures ∙ sym (rest-names _ (held (ok-read (u .before .before .before .before .before .before)) (u .before .before .before .before .if1 .left)) (failed (names-read u) (c .before .if2 .taken)))
+    let u = c .before in
+    sym (names-fail _ (held (ok-read (u .before .before .before .before .before .before)) (u .before .before .before .before .if1 .left)) (failed (names-read u) (c .if2 .taken)))
 
-read-last-requires : tie.Need-read-last-requires
-read-last-requires c κs =
-    let q = c .before .before .before .before .before .before .before in
-    let a = q .before .before .before .before .before in
-    (a .pre .0, a .pre .1, a .pre .2, rows-read q)
+last-code-requires : tie.Need-last-code-requires
+last-code-requires c κs = (c .before .before .before .before .before .before .before .before .before .before .before .before .pre .0, c .before .before .before .before .before .before .before .before .before .before .before .before .pre .1)
 
 returns-3 : tie.Need-returns-3
 returns-3 c =
     let u = c .before .before in
-    c .read-last .ensures ∙ sym (rest-held _ (held (ok-read (u .before .before .before .before .before .before)) (u .before .before .before .before .if1 .left)) (held (names-read u) (c .before .if2 .left)))
+    c .last-code .ensures ∙ sym (names-hold _ (held (ok-read (u .before .before .before .before .before .before)) (u .before .before .before .before .if1 .left)) (held (names-read u) (c .before .if2 .left)))
 
-pub read-rest-spec : {M : Type 1} → statement M
-read-rest-spec =
+pub rest-code-spec : {M : Type 1} → statement M
+rest-code-spec =
     tie.close
     (tie.spec
     resources-at-requires
@@ -117,14 +108,12 @@ read-rest-spec =
     part-load-lengths-start
     part-load-lengths-end
     load-lengths-requires
-    refused-requires
     returns
     names-at-requires
     sub-names-ok
     part-names-ok-start
     part-names-ok-end
     names-ok-requires
-    refused-requires-2
     returns-2
-    read-last-requires
+    last-code-requires
     returns-3)

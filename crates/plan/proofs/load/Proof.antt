@@ -1,0 +1,118 @@
+-- Each group is loaded from the part that begins at its offset.
+use mathlib.Core.Path.{_≡_, sym, ap, _∙_}
+use native.Mathlib.Omega.{arith}
+use borrow.Author.Needs.{needs}
+use lib.ListN.{length-drop}
+use Rattle.folds.proofs.Parts.{part-rest}
+use Rattle.rows.specs.declared.Counts.{Counts}
+use Rattle.parts.specs.Layout.{resourcesAt, sectionsAt}
+use Rattle.plan.proofs.Laws.{header-facts}
+use Rattle.plan.proofs.load.Statement.{statement}
+use Rattle.plan.proofs.load.Tie as tie
+
+wide-requires : tie.Need-wide-requires
+wide-requires c κs = search needs
+
+wide-requires-2 : tie.Need-wide-requires-2
+wide-requires-2 c κs = search needs
+
+cast-s : tie.Need-cast-s
+cast-s c = search needs
+
+resources-at-requires : tie.Need-resources-at-requires
+resources-at-requires c κs = search needs
+
+sections-at-requires : tie.Need-sections-at-requires
+sections-at-requires c κs = search needs
+
+sub-load-lengths : tie.Need-sub-load-lengths
+sub-load-lengths c =
+    let a = c .before .before .before .before .before .before in
+    let h = header-facts _ (a .pre .0) in
+    let e = c .before .resources-at .ensures ∙ ap resourcesAt (a .pre .1) in
+    omega (arith, h .ends)
+
+part-load-lengths-start : tie.Need-part-load-lengths-start
+part-load-lengths-start c =
+    let a = c .before .before .before .before .before .before in
+    let h = header-facts _ (a .pre .0) in
+    let e = c .before .resources-at .ensures ∙ ap resourcesAt (a .pre .1) in
+    omega (arith, h .ends)
+
+part-load-lengths-end : tie.Need-part-load-lengths-end
+part-load-lengths-end c = search needs
+
+load-lengths-requires : tie.Need-load-lengths-requires
+load-lengths-requires c κs =
+    let a = c .before .before .before .before .before .before .before in
+    let h = header-facts _ (a .pre .0) in
+    let n = c .before .before .before .before .wide2 .ensures .0 ∙ ap (λ (k : Counts). k .resources) (a .pre .1) in
+    let e = c .before .before .resources-at .ensures ∙ ap resourcesAt (a .pre .1) in
+    simp (part-rest, length-drop) (omega (arith, h .ranges .resources, h .ends))
+
+sub-load-tasks : tie.Need-sub-load-tasks
+sub-load-tasks c = omega (arith, header-facts _ (c .before .before .before .before .before .before .before .before .before .pre .0) .long)
+
+part-load-tasks-start : tie.Need-part-load-tasks-start
+part-load-tasks-start c = omega (arith, header-facts _ (c .before .before .before .before .before .before .before .before .before .pre .0) .long)
+
+part-load-tasks-end : tie.Need-part-load-tasks-end
+part-load-tasks-end c = search needs
+
+load-tasks-requires : tie.Need-load-tasks-requires
+load-tasks-requires c κs =
+    let a = c .before .before .before .before .before .before .before .before .before .before in
+    let h = header-facts _ (a .pre .0) in
+    let n = c .before .before .before .before .before .before .before .before .wide .ensures .0 ∙ ap (λ (k : Counts). k .tasks) (a .pre .1) in
+    simp (part-rest, length-drop) (omega (arith, h .ranges .tasks, h .ends))
+
+sub-load-sections : tie.Need-sub-load-sections
+sub-load-sections c =
+    let a = c .before .before .before .before .before .before .before .before .before .before .before in
+    let h = header-facts _ (a .pre .0) in
+    let e = c .before .before .before .before .before .sections-at .ensures ∙ ap sectionsAt (a .pre .1) in
+    omega (arith, h .ends)
+
+part-load-sections-start : tie.Need-part-load-sections-start
+part-load-sections-start c =
+    let a = c .before .before .before .before .before .before .before .before .before .before .before in
+    let h = header-facts _ (a .pre .0) in
+    let e = c .before .before .before .before .before .sections-at .ensures ∙ ap sectionsAt (a .pre .1) in
+    omega (arith, h .ends)
+
+part-load-sections-end : tie.Need-part-load-sections-end
+part-load-sections-end c = search needs
+
+load-sections-requires : tie.Need-load-sections-requires
+load-sections-requires c κs =
+    let a = c .before .before .before .before .before .before .before .before .before .before .before .before in
+    let h = header-facts _ (a .pre .0) in
+    let n = ap (λ (k : Counts). k .sections) (a .pre .1) in
+    let e = c .before .before .before .before .before .before .sections-at .ensures ∙ ap sectionsAt (a .pre .1) in
+    simp (part-rest, length-drop) (omega (arith, h .ranges .sections, h .ends))
+
+returns : tie.Need-returns
+returns c = rw (c .load-sections .ensures, c .before .before .load-tasks .ensures, c .before .before .before .before .before .load-lengths .ensures .1, part-rest, part-rest, part-rest, c .before .before .before .before .before .before .before .sections-at .ensures, c .before .before .before .before .before .before .before .before .resources-at .ensures, c .before .before .before .before .before .before .before .before .before .before .wide2 .ensures .0, c .before .before .before .before .before .before .before .before .before .before .before .wide .ensures .0, c .before .before .before .before .before .before .before .before .before .before .before .before .before .pre .1)
+
+pub load-spec : {M : Type 1} → statement M
+load-spec =
+    tie.close
+    (tie.spec
+    wide-requires
+    wide-requires-2
+    cast-s
+    resources-at-requires
+    sections-at-requires
+    sub-load-lengths
+    part-load-lengths-start
+    part-load-lengths-end
+    load-lengths-requires
+    sub-load-tasks
+    part-load-tasks-start
+    part-load-tasks-end
+    load-tasks-requires
+    sub-load-sections
+    part-load-sections-start
+    part-load-sections-end
+    load-sections-requires
+    returns)
