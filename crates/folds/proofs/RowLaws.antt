@@ -60,6 +60,15 @@ pub number-byte : (s : List ℕ) (at : ℕ) → number 1 s at ≡ getD s at 0
 unfolding number
 number-byte s at = refl
 
+-- the same bytes make the same number
+pub number-same : (w : ℕ) (s : List ℕ) (a b : ℕ) → ((k : ℕ) → k < w → getD s (a + k) 0 ≡ getD s (b + k) 0) → number w s a ≡ number w s b
+unfolding number
+number-same zero s a b h = refl
+number-same (suc zero) s a b h = simp add-zero at (h 0 (omega arith))
+number-same (suc (suc w)) s a b h =
+    ap₂ (λ (x y : ℕ). x + 256 * y) (simp add-zero at (h 0 (omega arith)))
+    (number-same (suc w) s (a + 1) (b + 1) (λ k l. ap (λ (n : ℕ). getD s n 0) (omega arith) ∙ h (k + 1) (omega arith) ∙ ap (λ (n : ℕ). getD s n 0) (omega arith)))
+
 -- written and then read
 pub number-back : (w v : ℕ) (r : List ℕ) → number (suc w) (digits (suc w) v ++ r) 0 ≡ v
 unfolding number digits

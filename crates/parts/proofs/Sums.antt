@@ -62,13 +62,13 @@ module _ (n s r : ℕ) (part : List ℕ) where
       all-same n _ _ (λ t less. rw (sum-read t h m ok (omega arith), task-read n tasks t less h))
 
   -- what the code is where a row breaks its rule, and where none does
-  pub code-rows : (i : ℕ) (tasks : List ℕ) {ok : Bool} → i ≡ s → ok ≡ sectionRowsOk i n r part → not ok ≡ true → 8 ≡ sectionCode n s r tasks part
+  pub code-rows : (tasks : List ℕ) {ok : Bool} → ok ≡ sectionRowsOk s n r part → not ok ≡ true → 8 ≡ sectionCode n s r tasks part
   unfolding sectionCode
-  code-rows i tasks {ok} e p h = rw (← e, ← p, not-true ok h)
+  code-rows tasks {ok} p h = rw (← p, not-true ok h)
 
-  pub code-sums : (i m : ℕ) (tasks : List ℕ) (b : Bool) {ok : Bool} {sums : List ℕ} {fit : Bool} → n ≤ 64 → s ≤ 255 → i ≡ s → ok ≡ sectionRowsOk i n r part → not ok ≡ false → sums ≡ sumsBelow i part → m ≡ n → fit ≡ sumsFit m sums tasks → fit ≡ b → cond b 0 9 ≡ sectionCode n s r tasks part
+  pub code-sums : (i m : ℕ) (tasks : List ℕ) (b : Bool) {ok : Bool} {sums : List ℕ} {fit : Bool} → n ≤ 64 → s ≤ 255 → i ≡ s → ok ≡ sectionRowsOk s n r part → not ok ≡ false → sums ≡ sumsBelow i part → m ≡ n → fit ≡ sumsFit m sums tasks → fit ≡ b → cond b 0 9 ≡ sectionCode n s r tasks part
   unfolding sectionCode
   code-sums i m tasks b {ok} {sums} {fit} l k e p h q f g t =
-      let rows : sectionRowsOk s n r part ≡ true = rw (← e, ← p) (not-false ok h) in
+      let rows : sectionRowsOk s n r part ≡ true = rw (← p) (not-false ok h) in
       let same : fit ≡ sumsOk n s (taskRows n tasks) (sectionRows s part) = g ∙ rw (q, e, f) (sums-read tasks l k rows) in
       rw (rows, ← same, t)

@@ -8,7 +8,7 @@ ghost use Prim.Native.Nat.{_+_, _*_, _≤_, _<_};
 ghost use lib.ListN.{length, replicate};
 ghost use Rattle.folds.specs.Bytes.{number, placedBelow};
 ghost use Rattle.rows.specs.Rules.{noTask, noSection};
-ghost use Rattle.parts.specs.Layout.{countsOf, offsetsOk, resourcesAt, sectionsAt, namesAt, taskOf, taskAt, taskSpare, sectionAt, startAt, lengthAt, resourceSpare, taskCode, lengthRowsOk, sumsFit, sectionCode, taskRows, lengthRows, sectionRows};
+ghost use Rattle.parts.specs.Layout.{countsOf, offsetsOk, resourcesAt, sectionsAt, namesAt, taskOf, taskAt, taskSpare, sectionAt, startAt, lengthAt, resourceSpare, taskCode, lengthRowsOk, sectionRowsOk, sumsFit, sectionCode, taskRows, lengthRows, sectionRows};
 
 // The name lengths of a part, and whether its rows follow one another as they should.
 pub struct LoadedLengths {
@@ -239,25 +239,38 @@ fn sums_fit(tasks: &[u8], sums: [u32; 64], n: usize) -> bool
     ok
 }
 
-// 8 and 9, on the parts of the file that begin at the task rows and at the section rows, in one pass over the sections: 8
-// where a row breaks its rule, else 9 where the sections of a task are longer than its execution time, else 0. A task of 64
-// and more, whose row is refused anyway, is taken modulo 64.
-pub fn section_code(tasks: &[u8], part: &[u8], s: usize, n: u8, r: u8) -> u8
-    requires { ⌜ (s ≤ 255) × (n ≤ 64) × (n * 8 ≤ length (now tasks)) × (s * 4 ≤ length (now part)) ⌝ }
-    ensures { λ k. ⌜ k ≡ sectionCode n s r (now (tasks .entry)) (now (part .entry)) ⌝ }
+// Whether each section row of the part that begins at them keeps its rule.
+fn section_rows_ok(part: &[u8], s: usize, n: u8, r: u8) -> bool
+    requires { ⌜ (s ≤ 255) × (s * 4 ≤ length (now part)) ⌝ }
+    ensures { λ b. ⌜ b ≡ sectionRowsOk s n r (now (part .entry)) ⌝ }
 {
-    let mut sums = [0u32; 64];
     let mut ok = true;
     let mut i = 0;
     while i < s {
         let row = section_at(part, i);
-        let task = folds::wide(part[i * 4]) % 64;
         ok = ok & rows::section_ok(row, n, r);
-        sums[task] += row.length as u32;
         i += 1;
     }
-    if !ok {
+    ok
+}
+
+// 8 and 9, on the parts of the file that begin at the task rows and at the section rows: 8 where a row breaks its rule, else 9
+// where the sections of a task are longer than its execution time, else 0. The sums are gathered in one pass; the test of
+// the rows has its own, which runs many rows at a time. A task number is below 64 here, and taken modulo 64 all the same.
+pub fn section_code(tasks: &[u8], part: &[u8], s: usize, n: u8, r: u8) -> u8
+    requires { ⌜ (s ≤ 255) × (n ≤ 64) × (n * 8 ≤ length (now tasks)) × (s * 4 ≤ length (now part)) ⌝ }
+    ensures { λ k. ⌜ k ≡ sectionCode n s r (now (tasks .entry)) (now (part .entry)) ⌝ }
+{
+    if !section_rows_ok(part, s, n, r) {
         return 8;
+    }
+    let mut sums = [0u32; 64];
+    let mut i = 0;
+    while i < s {
+        let row = section_at(part, i);
+        let task = folds::wide(part[i * 4]) % 64;
+        sums[task] += row.length as u32;
+        i += 1;
     }
     if !sums_fit(tasks, sums, folds::wide(n)) {
         return 9;

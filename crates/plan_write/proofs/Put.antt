@@ -4,21 +4,21 @@ use mathlib.Core.Bool.{true}
 use mathlib.Core.List.{List, [], _∷_, _++_}
 use mathlib.Core.Path.{_≡_, ap, _∙_}
 use native.Mathlib.Omega.{arith}
-use borrow.Author.Tests.{leb-true, eqb-true}
-use lib.Dec.{eqb, leb}
+use borrow.Author.Tests.{eqb-true}
+use lib.Dec.{eqb}
 use lib.ListN.{length, take, drop, length-append}
 use Rattle.folds.specs.Below.{sumBelow}
 use Rattle.folds.specs.Bytes.{bytesBelow, width}
-use Rattle.folds.proofs.Tests.{all-at, and-parts}
+use Rattle.folds.proofs.Tests.{and-parts}
 use Rattle.folds.proofs.Figures.{sum-bound}
 use Rattle.folds.proofs.Parts.{put-part, put-length, bytes-length, bytes-step}
 use Rattle.folds.proofs.RowLaws.{row-length}
-use Rattle.rows.specs.Rules.{taskOf, sectionOf, lengthOf, startOf, lengthsOk, bytesOk, namesOk, valuesCode}
+use Rattle.rows.specs.Rules.{taskOf, sectionOf, lengthOf, startOf, lengthsOk, namesOk, valuesCode}
 use Rattle.rows.specs.declared.TaskRow.{TaskRow}
 use Rattle.rows.specs.declared.SectionRow.{SectionRow}
 use Rattle.rows.specs.declared.Counts.{Counts}
 use Rattle.rows.specs.declared.Rows.{Rows}
-use Rattle.rows.proofs.Laws.{InRange, counts-facts}
+use Rattle.rows.proofs.Laws.{InRange, counts-facts, length-facts}
 use Rattle.parts.specs.Layout.{taskWidths, resourceWidths, sectionWidths}
 use Rattle.plan_write.specs.Encode.{headerWidths, headerNumbers, headerBytes, taskNumbers, taskBytes, resourceBytes, sectionNumbers, sectionBytes}
 use Rattle.plan_write.proofs.Same.{Kept, kept-facts}
@@ -68,12 +68,11 @@ section-length sections i = row-length sectionWidths (sectionNumbers (sectionOf 
 
 -- a name has at most 12 bytes
 names-length : (r : ℕ) (lengths names : List ℕ) → namesOk r lengths names ≡ true → length names ≤ r * 12
-unfolding namesOk lengthsOk
+unfolding namesOk
 names-length r lengths names e =
     let a = and-parts (eqb (sumBelow r (lengthOf lengths)) (length names)) _ e in
-    let b = and-parts (lengthsOk r lengths) (bytesOk names) (and-parts _ _ (a .1) .0) in
-    let each : (k : ℕ) → k < r → lengthOf lengths k ≤ 12 = λ k l. leb-true _ _ (and-parts (leb 1 (lengthOf lengths k)) _ (all-at r k _ (b .0) l) .1) in
-    omega (arith, eqb-true (sumBelow r (lengthOf lengths)) (length names) (a .0), sum-bound r 12 (lengthOf lengths) each)
+    let b = and-parts (lengthsOk r lengths) _ (a .1) in
+    omega (arith, eqb-true (sumBelow r (lengthOf lengths)) (length names) (a .0), sum-bound r 12 (lengthOf lengths) (λ k l. length-facts r k lengths (b .0) l .high))
 
 -- values that keep every rule, and how much they are
 pub record Sized (c : Counts) (rows : Rows) (names : List ℕ) : Type 0 where

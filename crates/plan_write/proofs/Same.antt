@@ -79,7 +79,7 @@ module _ (r : ℕ) (x y : List ℕ) (same : (i : ℕ) → i < r → lengthOf x i
   unfolding namesOk lengthsOk namesDiffer nameNew differ
   names-same names =
       ap₂ (λ (s : ℕ) (b : Bool). eqb s (length names) && b) (start-same r (omega arith))
-      (ap₂ (λ (a b : Bool). a && bytesOk names && b)
+      (ap₂ (λ (a b : Bool). a && (bytesOk names && b))
       (all-same r _ _ (λ i l. ap (λ (k : ℕ). leb 1 k && leb k 12) (same i l)))
       (all-same r _ _ (λ i l. all-same i _ _ (λ j m. rw (same i l, same j (omega arith), start-same i (omega arith), start-same j (omega arith))))))
 

@@ -1,19 +1,22 @@
 -- What counts and rows that keep their rules have, and the laws of the tables of tags and places seen, of sums by task and of the numbers of names.
-use Prim.Native.Nat.{ℕ, _+_, _*_, _<_, _≤_}
+use Prim.Native.Nat.{ℕ, _+_, _-_, _*_, _/_, _<_, _≤_}
 use mathlib.Core.Bool.{Bool, true, false, cond, _&&_, not}
 use mathlib.Core.List.{List}
 use mathlib.Core.Path.{_≡_, refl, sym, ap, ap₂, _∙_}
+use native.Mathlib.Nat.{add-zero, add-assoc}
 use native.Mathlib.Omega.{arith}
-use borrow.Author.Tests.{ltb-true, leb-true, eq-eqb, ne-eqb, eqb-true, eqb-false, not-true}
+use borrow.Author.Tests.{ltb-true, ltb-false, leb-true, eq-eqb, ne-eqb, eqb-true, eqb-false, not-true}
 use lib.Dec.{leb, ltb, eqb}
 use lib.ListN.{length, getD, replicate}
 use Rattle.folds.proofs.Tests.{and-parts, all-at, all-from, all-same}
-use Rattle.folds.proofs.Figures.{sum-bound, sum-same}
+use Rattle.folds.specs.Bytes.{number}
+use Rattle.folds.proofs.Figures.{sum-bound}
+use Rattle.folds.proofs.RowLaws.{number-same}
 use Rattle.folds.proofs.Arrays.{by-eq, placed-at, markedBelow, marked-new, gatheredBelow, gathered-length, gathered-at}
 use Rattle.rows.specs.declared.Counts.{Counts}
 use Rattle.rows.specs.declared.TaskRow.{TaskRow}
 use Rattle.rows.specs.declared.SectionRow.{SectionRow}
-use Rattle.rows.specs.Rules.{taskOf, sectionOf, countsOk, taskOk, tasksOk, sectionOk, sectionsOk, tagNew, priorityNew, sectionSum, lengthOf, startOf, sameBytes, differ, nameNew, namesDiffer}
+use Rattle.rows.specs.Rules.{taskOf, sectionOf, countsOk, taskOk, tasksOk, sectionOk, sectionsOk, tagNew, priorityNew, sectionSum, lengthOf, startOf, lengthsOk, sameBytes, differ, nameNew, namesDiffer}
 use Rattle.rows.specs.Prints.{printOf, printsOf, numberNew, numbersDiffer}
 
 -- counts in their ranges
@@ -158,6 +161,17 @@ place-seen i tasks l h =
 pub both-seen : (i : ℕ) (tasks : List TaskRow) {tags places : List ℕ} → tags ≡ tagsBelow i tasks → places ≡ placesBelow i tasks → taskOf tasks i .tag < 256 → placeOf tasks i < 2048 → ((k : ℕ) → k < i + 1 → taskOf tasks k .priority < 256) → (eqb (getD tags (taskOf tasks i .tag) 0) 0 && eqb (getD places (placeOf tasks i) 0) 0) ≡ (tagNew tasks i && priorityNew tasks i)
 both-seen i tasks p q l m h = rw (p, q) (ap₂ _&&_ (tag-seen i tasks l) (place-seen i tasks m h))
 
+-- a name length that keeps its rule
+pub record Length (l : ℕ) : Type 0 where
+  pub low : 1 ≤ l
+  pub high : l ≤ 12
+
+pub length-facts : (r i : ℕ) (lengths : List ℕ) → lengthsOk r lengths ≡ true → i < r → Length (lengthOf lengths i)
+unfolding lengthsOk
+length-facts r i lengths h l =
+    let a = and-parts (leb 1 (lengthOf lengths i)) (leb (lengthOf lengths i) 12) (all-at r i _ h l) in
+    record { low = leb-true _ _ (a .0); high = leb-true _ _ (a .1) }
+
 -- the number of name i among those of r names
 pub print-at : (r i : ℕ) (lengths names : List ℕ) → i < r → r ≤ 16 → getD (printsOf r lengths names) i 0 ≡ printOf names (startOf lengths i) (lengthOf lengths i)
 unfolding printsOf
@@ -165,29 +179,41 @@ print-at r i lengths names l h =
     placed-at r i (λ k. printOf names (startOf lengths k) (lengthOf lengths k)) (replicate 16 0) 0 l h
 
 -- the same bytes have one number
-pub print-same : (names : List ℕ) (a b len : ℕ) → sameBytes names a b len ≡ true → printOf names a len ≡ printOf names b len
+pub print-same : (names : List ℕ) (a b len : ℕ) → 1 ≤ len → sameBytes names a b len ≡ true → printOf names a len ≡ printOf names b len
 unfolding sameBytes printOf
-print-same names a b len h =
-    sum-same len (λ k. (k + 1) * getD names (a + k) 0) (λ k. (k + 1) * getD names (b + k) 0)
-    (λ k l. ap (λ (x : ℕ). (k + 1) * x) (eqb-true _ _ (all-at len k (λ j. eqb (getD names (a + j) 0) (getD names (b + j) 0)) h l)))
+print-same names a b len h e = go (ltb len 4) refl
+  where
+    same : (k : ℕ) → k < len → getD names (a + k) 0 ≡ getD names (b + k) 0
+    same k l = eqb-true _ _ (all-at len k (λ j. eqb (getD names (a + j) 0) (getD names (b + j) 0)) e l)
+
+    four : (o : ℕ) → o + 4 ≤ len → number 4 names (a + o) ≡ number 4 names (b + o)
+    four o l =
+        number-same 4 names (a + o) (b + o)
+        (λ k m. ap (λ (n : ℕ). getD names n 0) (add-assoc a o k) ∙ same (o + k) (omega arith) ∙ sym (ap (λ (n : ℕ). getD names n 0) (add-assoc b o k)))
+
+    go : (t : Bool) → ltb len 4 ≡ t → cond t (getD names a 0 + 256 * getD names (a + len / 2) 0 + 65536 * getD names (a + (len - 1)) 0) (number 4 names a + 3 * number 4 names (a + (len - 4) / 2) + 5 * number 4 names (a + (len - 4))) ≡ cond t (getD names b 0 + 256 * getD names (b + len / 2) 0 + 65536 * getD names (b + (len - 1)) 0) (number 4 names b + 3 * number 4 names (b + (len - 4) / 2) + 5 * number 4 names (b + (len - 4)))
+    go true t = omega (arith, simp add-zero at (same 0 (omega arith)), same (len / 2) (omega arith), same (len - 1) (omega arith))
+    go false t =
+        let l : 4 ≤ len = ltb-false len 4 t in
+        omega (arith, simp add-zero at (four 0 (omega arith)), four ((len - 4) / 2) (omega arith), four (len - 4) (omega arith))
 
 -- names whose numbers differ are not equal
-pub print-differ : (lengths names : List ℕ) (i j a b : ℕ) → (printOf names a (lengthOf lengths i) ≡ printOf names b (lengthOf lengths j) → ⊥) → differ lengths names i j a b ≡ true
+pub print-differ : (lengths names : List ℕ) (i j a b : ℕ) → 1 ≤ lengthOf lengths i → (printOf names a (lengthOf lengths i) ≡ printOf names b (lengthOf lengths j) → ⊥) → differ lengths names i j a b ≡ true
 unfolding differ
-print-differ lengths names i j a b d =
+print-differ lengths names i j a b h d =
     either (eqb (lengthOf lengths i) (lengthOf lengths j)) (sameBytes names a b (lengthOf lengths i))
-    (λ e f. d (print-same names a b (lengthOf lengths i) f ∙ ap (printOf names b) (eqb-true (lengthOf lengths i) (lengthOf lengths j) e)))
+    (λ e f. d (print-same names a b (lengthOf lengths i) h f ∙ ap (printOf names b) (eqb-true (lengthOf lengths i) (lengthOf lengths j) e)))
   where
     either : (x y : Bool) → (x ≡ true → y ≡ true → ⊥) → not (x && y) ≡ true
     either true true g = absurd (g refl refl)
     either true false g = refl
     either false y g = refl
 
-pub prints-differ : (r : ℕ) (lengths names : List ℕ) → r ≤ 16 → numbersDiffer r (printsOf r lengths names) ≡ true → namesDiffer r lengths names ≡ true
+pub prints-differ : (r : ℕ) (lengths names : List ℕ) → r ≤ 16 → lengthsOk r lengths ≡ true → numbersDiffer r (printsOf r lengths names) ≡ true → namesDiffer r lengths names ≡ true
 unfolding numbersDiffer numberNew namesDiffer nameNew
-prints-differ r lengths names h t =
+prints-differ r lengths names h ok t =
     let l : List ℕ = printsOf r lengths names in
     all-from r (nameNew lengths names)
     (λ i p. all-from i (λ j. differ lengths names i j (startOf lengths i) (startOf lengths j))
-    (λ j q. print-differ lengths names i j (startOf lengths i) (startOf lengths j)
+    (λ j q. print-differ lengths names i j (startOf lengths i) (startOf lengths j) (length-facts r i lengths ok p .low)
     (λ e. eqb-false (getD l i 0) (getD l j 0) (not-true _ (all-at i j (λ k. not (eqb (getD l i 0) (getD l k 0))) (all-at r i (numberNew l) t p) q)) (print-at r i lengths names p h ∙ e ∙ sym (print-at r j lengths names (omega arith) h)))))

@@ -1,16 +1,19 @@
 -- Numbers that tell names apart quickly. No rule of document 01: equal names have equal numbers, and that is all that is used of them.
-use Prim.Native.Nat.{ℕ, _+_, _*_}
-use mathlib.Core.Bool.{Bool, not}
+use Prim.Native.Nat.{ℕ, _+_, _-_, _*_, _/_}
+use mathlib.Core.Bool.{Bool, cond, not}
 use mathlib.Core.List.{List}
-use lib.Dec.{eqb}
+use lib.Dec.{ltb, eqb}
 use lib.ListN.{getD, replicate}
-use Rattle.folds.specs.Below.{allBelow, sumBelow}
-use Rattle.folds.specs.Bytes.{placedBelow}
+use Rattle.folds.specs.Below.{allBelow}
+use Rattle.folds.specs.Bytes.{number, placedBelow}
 use Rattle.rows.specs.Rules.{lengthOf, startOf}
 
--- the sum of the len bytes at `at`, each times its place from 1
+-- of up to 3 bytes the first, the middle and the last, each times its factor; of more the first, middle and last four bytes
 unfoldable pub printOf : List ℕ → ℕ → ℕ → ℕ
-printOf names at len = sumBelow len (λ k. (k + 1) * getD names (at + k) 0)
+printOf names at len =
+    cond (ltb len 4)
+    (getD names at 0 + 256 * getD names (at + len / 2) 0 + 65536 * getD names (at + (len - 1)) 0)
+    (number 4 names at + 3 * number 4 names (at + (len - 4) / 2) + 5 * number 4 names (at + (len - 4)))
 
 -- that of each of r names
 unfoldable pub printsOf : ℕ → List ℕ → List ℕ → List ℕ

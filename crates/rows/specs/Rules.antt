@@ -99,7 +99,7 @@ namesDiffer r lengths names = allBelow r (nameNew lengths names)
 unfoldable pub namesOk : ℕ → List ℕ → List ℕ → Bool
 namesOk r lengths names =
     eqb (sumBelow r (lengthOf lengths)) (length names)
-    && (lengthsOk r lengths && bytesOk names && namesDiffer r lengths names)
+    && (lengthsOk r lengths && (bytesOk names && namesDiffer r lengths names))
 
 -- 8. A section of a plan of n tasks and r resources: task below n, resource below r, length 1 to 1,000
 abbrev pub sectionOk : ℕ → ℕ → SectionRow → Bool

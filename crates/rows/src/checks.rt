@@ -7,6 +7,7 @@ ghost use mathlib.Core.Bool.{true};
 ghost use Prim.Native.Nat.{ℕ, _+_, _≤_, _<_};
 ghost use lib.ListN.{length, getD};
 ghost use Rattle.folds.specs.Below.{sumBelow};
+ghost use Rattle.folds.specs.Bytes.{number};
 ghost use Rattle.rows.specs.Prints.{printOf, printsOf, numberNew, numbersDiffer};
 ghost use Rattle.rows.specs.Rules.{tasksOk, uniqueOk, lengthOf, lengthsOk, bytesOk, sameBytes, differ, namesDiffer, nameNew, namesOk, sectionsOk, sumsOk, sectionSum};
 
@@ -132,42 +133,50 @@ fn name_is_new(lengths: [u8; 16], names: &[u8], i: usize, at: usize) -> bool
     ok
 }
 
-// A number that equal names have in common: the sum of the bytes, each times its place.
-fn print_of(names: &[u8], at: usize, len: u8) -> u32
-    requires { ⌜ at + len ≤ length (now names) ⌝ }
+// Four bytes as a number, low byte first.
+fn quad(s: &[u8], at: usize) -> u64
+    requires { ⌜ at + 3 < length (now s) ⌝ }
+    ensures { λ r. ⌜ (r ≡ number 4 (now (s .entry)) at) × (r < 4294967296) ⌝ }
+{
+    let low = folds::wide(s[at]) + 256 * folds::wide(s[at + 1]);
+    let high = folds::wide(s[at + 2]) + 256 * folds::wide(s[at + 3]);
+    low as u64 + 65536 * high as u64
+}
+
+// A number that equal names have in common: of up to 3 bytes their sum, each times its place; of 4 to 12 bytes the sum of the
+// first four, the middle four and the last four, each times its own factor.
+fn print_of(names: &[u8], at: usize, len: usize) -> u64
+    requires { ⌜ (1 ≤ len) × (len ≤ 12) × (at + len ≤ length (now names)) ⌝ }
     ensures { λ r. ⌜ r ≡ printOf (now (names .entry)) at len ⌝ }
 {
-    let end = folds::wide(len);
-    let mut sum: u32 = 0;
-    let mut place: u32 = 1;
-    let mut k = 0;
-    while k < end {
-        sum += place * names[at + k] as u32;
-        place += 1;
-        k += 1;
+    if len < 4 {
+        let first = folds::wide(names[at]);
+        let middle = folds::wide(names[at + len / 2]);
+        let last = folds::wide(names[at + (len - 1)]);
+        return (first + 256 * middle + 65536 * last) as u64;
     }
-    sum
+    quad(names, at) + 3 * quad(names, at + (len - 4) / 2) + 5 * quad(names, at + (len - 4))
 }
 
 // Those numbers of all names.
-fn prints(lengths: [u8; 16], r: usize, names: &[u8]) -> [u32; 16]
-    requires { ⌜ (r ≤ 16) × (sumBelow r (lengthOf lengths) ≡ length (now names)) ⌝ }
+fn prints(lengths: [u8; 16], r: usize, names: &[u8]) -> [u64; 16]
+    requires { ⌜ (r ≤ 16) × (lengthsOk r lengths ≡ true) × (sumBelow r (lengthOf lengths) ≡ length (now names)) ⌝ }
     ensures { λ l. ⌜ l ≡ printsOf r lengths (now (names .entry)) ⌝ }
 {
-    let mut found = [0u32; 16];
+    let mut found = [0u64; 16];
     let mut at = 0;
     let mut i = 0;
     while i < r {
-        let len = lengths[i];
+        let len = folds::wide(lengths[i]);
         found[i] = print_of(names, at, len);
-        at += folds::wide(len);
+        at += len;
         i += 1;
     }
     found
 }
 
 // Whether number i differs from all before it.
-fn print_is_new(found: [u32; 16], i: usize) -> bool
+fn print_is_new(found: [u64; 16], i: usize) -> bool
     requires { ⌜ i < 16 ⌝ }
     ensures { λ r. ⌜ r ≡ numberNew found i ⌝ }
 {
@@ -182,7 +191,7 @@ fn print_is_new(found: [u32; 16], i: usize) -> bool
 }
 
 // Whether the first r numbers differ.
-fn prints_differ(found: [u32; 16], r: usize) -> bool
+fn prints_differ(found: [u64; 16], r: usize) -> bool
     requires { ⌜ r ≤ 16 ⌝ }
     ensures { λ b. ⌜ b ≡ numbersDiffer r found ⌝ }
 {
@@ -213,7 +222,7 @@ fn bytes_differ(lengths: [u8; 16], r: usize, names: &[u8]) -> bool
 
 // Whether all names differ. Where their numbers differ, so do they; only else are they compared.
 fn names_differ(lengths: [u8; 16], r: usize, names: &[u8]) -> bool
-    requires { ⌜ (r ≤ 16) × (sumBelow r (lengthOf lengths) ≡ length (now names)) ⌝ }
+    requires { ⌜ (r ≤ 16) × (lengthsOk r lengths ≡ true) × (sumBelow r (lengthOf lengths) ≡ length (now names)) ⌝ }
     ensures { λ b. ⌜ b ≡ namesDiffer r lengths (now (names .entry)) ⌝ }
 {
     let found = prints(lengths, r, names);
@@ -231,7 +240,10 @@ pub fn names_ok(lengths: [u8; 16], r: usize, names: &[u8]) -> bool
     if total_length(lengths, r) != names.len() {
         return false;
     }
-    lengths_ok(lengths, r) & bytes_ok(names) & names_differ(lengths, r, names)
+    if !lengths_ok(lengths, r) {
+        return false;
+    }
+    bytes_ok(names) & names_differ(lengths, r, names)
 }
 
 // 8: whether each section row keeps its rule.

@@ -12,7 +12,8 @@ prints-differ-requires : tie.Need-prints-differ-requires
 prints-differ-requires c κs = search needs
 
 returns : tie.Need-returns
-returns c = sym (prints-differ _ _ _ (c .before .before .before .before .pre .0) cc)
+returns c =
+    sym (prints-differ _ _ _ (c .before .before .before .before .pre .0) (c .before .before .before .before .pre .1) cc)
 
 bytes-differ-requires : tie.Need-bytes-differ-requires
 bytes-differ-requires c κs = search needs

@@ -1,5 +1,7 @@
--- Lengths that do not add up break the rule; else the other tests decide.
+-- Lengths that do not add up or are out of range break the rule; else the other tests decide.
+use mathlib.Core.Path.{_≡_, sym, _∙_}
 use borrow.Author.Tests.{eq-eqb, ne-eqb}
+use Rattle.folds.proofs.Tests.{held, failed}
 use Rattle.rows.specs.Rules.{namesOk}
 use borrow.Author.Needs.{needs}
 use Rattle.rows.proofs.checks.names_ok.Statement.{statement}
@@ -15,16 +17,22 @@ returns c = simp (← c .before .total-length .ensures .0, ne-eqb _ _ (c .if1 .t
 lengths-ok-requires : tie.Need-lengths-ok-requires
 lengths-ok-requires c κs = search needs
 
+returns-2 : tie.Need-returns-2
+unfolding namesOk
+returns-2 c =
+    simp (← c .before .before .before .total-length .ensures .0, eq-eqb _ _ (c .before .before .if1 .left), failed (c .before .lengths-ok .ensures) (c .if2 .taken))
+
 bytes-ok-requires : tie.Need-bytes-ok-requires
 bytes-ok-requires c κs = search needs
 
 names-differ-requires : tie.Need-names-differ-requires
-names-differ-requires c κs = search needs
+names-differ-requires c κs =
+    (c .before .before .before .before .before .before .pre, held (c .before .before .lengths-ok .ensures) (c .before .if2 .left), sym (c .before .before .before .before .total-length .ensures .0) ∙ c .before .before .before .if1 .left)
 
-returns-2 : tie.Need-returns-2
+returns-3 : tie.Need-returns-3
 unfolding namesOk
-returns-2 c =
-    simp (← c .before .before .before .before .total-length .ensures .0, eq-eqb _ _ (c .before .before .before .if1 .left), ← c .before .before .lengths-ok .ensures, ← c .before .bytes-ok .ensures, ← c .names-differ .ensures)
+returns-3 c =
+    simp (← c .before .before .before .before .before .total-length .ensures .0, eq-eqb _ _ (c .before .before .before .before .if1 .left), held (c .before .before .before .lengths-ok .ensures) (c .before .before .if2 .left), ← c .before .bytes-ok .ensures, ← c .names-differ .ensures)
 
 pub names-ok-spec : {M : Type 1} → statement M
 names-ok-spec =
@@ -33,6 +41,7 @@ names-ok-spec =
     total-length-requires
     returns
     lengths-ok-requires
+    returns-2
     bytes-ok-requires
     names-differ-requires
-    returns-2)
+    returns-3)

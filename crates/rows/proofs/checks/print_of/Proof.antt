@@ -1,90 +1,109 @@
--- The loop's invariant: `place` is one more than `k`, and `sum` is the sum of the bytes below `k`, each times its place, and at most 65025 for each.
-use Prim.Native.Nat.{ℕ, _+_, _*_, _-_, _≤_}
-use mathlib.Core.Path.{_≡_, refl}
-use native.Mathlib.Nat.{mul-le-mul}
-use native.Mathlib.Omega.{arith}
-use lib.ListN.{getD}
-use Rattle.folds.specs.Below.{sumBelow}
-use Rattle.folds.proofs.Figures.{sum-step, sum-done}
+-- Each return is the branch of the definition.
+use borrow.Author.Tests.{lt-ltb, le-ltb}
 use Rattle.rows.specs.Prints.{printOf}
+use borrow.Author.Needs.{needs}
 use Rattle.rows.proofs.checks.print_of.Statement.{statement}
 use Rattle.rows.proofs.checks.print_of.Tie as tie
 
-abbrev Inv-loop : tie.InvT-loop
-Inv-loop names at len end sum₀ place₀ k₀ sum place k =
-    (k ≤ end)
-    × (place ≡ k + 1)
-    × (sum ≤ k * 65025)
-    × (sum ≡ sumBelow k (λ j. (j + 1) * getD names (at + j) 0))
+shared-slice-read-wide : tie.Need-shared-slice-read-wide
+shared-slice-read-wide c = search needs
 
-abbrev μ-loop : tie.MeasureT-loop
-μ-loop names at len end sum₀ place₀ k₀ sum place k = end - k
+wide-requires : tie.Need-wide-requires
+wide-requires c κs = search needs
 
--- the byte of a turn, and it times its place
-abbrev byte : tie.After-shared-slice-known2 Inv-loop μ-loop → ℕ
-byte c = getD (c .before .before .before .before .before .args .names .now) (c .before .before .before .before .before .args .at + c .before .before .loop .k) 0
+add-wide : tie.Need-add-wide
+add-wide c = search needs
 
-product : (c : tie.After-shared-slice-known2 Inv-loop μ-loop) → c .before .before .loop .place * byte c ≤ 65025
-product c = mul-le-mul {n₂ = 255} {m₂ = 255} (omega arith) (omega (arith, c .shared-slice-known2 .given (c .before .before .before .before .before .args .at + c .before .before .loop .k)))
+shared-slice-read-wide-2 : tie.Need-shared-slice-read-wide-2
+shared-slice-read-wide-2 c = search needs
 
-wide-requires : tie.Need-wide-requires Inv-loop μ-loop
-wide-requires c κs = omega arith
+wide-requires-2 : tie.Need-wide-requires-2
+wide-requires-2 c κs = search needs
 
-loop-holds : tie.Need-loop-holds Inv-loop μ-loop
-unfolding sumBelow
-loop-holds c = (omega arith, omega arith, omega arith, refl)
+sub-wide : tie.Need-sub-wide
+sub-wide c = search needs
 
-add-sum : tie.Need-add-sum Inv-loop μ-loop
-add-sum c = omega arith
+add-wide-2 : tie.Need-add-wide-2
+add-wide-2 c = search needs
 
-shared-slice-read-sum : tie.Need-shared-slice-read-sum Inv-loop μ-loop
-shared-slice-read-sum c = omega arith
+shared-slice-read-wide-3 : tie.Need-shared-slice-read-wide-3
+shared-slice-read-wide-3 c = search needs
 
-cast-sum : tie.Need-cast-sum Inv-loop μ-loop
-cast-sum c = omega (arith, c .shared-slice-known2 .given (c .before .before .before .before .before .args .at + c .before .before .loop .k))
+wide-requires-3 : tie.Need-wide-requires-3
+wide-requires-3 c κs = search needs
 
-mul-sum : tie.Need-mul-sum Inv-loop μ-loop
-mul-sum c = omega (arith, product c)
+mul-result : tie.Need-mul-result
+mul-result c = search needs
 
-add-sum-2 : tie.Need-add-sum-2 Inv-loop μ-loop
-add-sum-2 c = omega (arith, product c)
+add-result : tie.Need-add-result
+add-result c = search needs
 
-add-place : tie.Need-add-place Inv-loop μ-loop
-add-place c = omega arith
+mul-result-2 : tie.Need-mul-result-2
+mul-result-2 c = search needs
 
-add-k : tie.Need-add-k Inv-loop μ-loop
-add-k c = omega arith
+add-result-2 : tie.Need-add-result-2
+add-result-2 c = search needs
 
-loop-less : tie.Need-loop-less Inv-loop μ-loop
-loop-less c = omega arith
-
-loop-again : tie.Need-loop-again Inv-loop μ-loop
-loop-again c = (
-  omega arith,
-  omega arith,
-  omega (arith, product c),
-  sum-step _ _ (c .before .before .loop .inv .3) (rw (c .before .before .loop .inv .1)),
-)
-
-returns : tie.Need-returns Inv-loop μ-loop
+returns : tie.Need-returns
 unfolding printOf
-returns c = sum-done _ (c .before .loop .k) _ (omega arith) (c .before .loop .inv .3)
+returns c = rw (lt-ltb _ _ (c .before .before .before .before .before .before .if1 .taken), c .wide3 .ensures .0, c .before .before .wide2 .ensures .0, c .before .before .before .before .wide .ensures .0)
+
+quad-requires : tie.Need-quad-requires
+quad-requires c κs = search needs
+
+add-quad : tie.Need-add-quad
+add-quad c = search needs
+
+quad-requires-2 : tie.Need-quad-requires-2
+quad-requires-2 c κs = search needs
+
+mul-result-3 : tie.Need-mul-result-3
+mul-result-3 c = search needs
+
+add-result-3 : tie.Need-add-result-3
+add-result-3 c = search needs
+
+add-quad-2 : tie.Need-add-quad-2
+add-quad-2 c = search needs
+
+quad-requires-3 : tie.Need-quad-requires-3
+quad-requires-3 c κs = search needs
+
+mul-result-4 : tie.Need-mul-result-4
+mul-result-4 c = search needs
+
+add-result-4 : tie.Need-add-result-4
+add-result-4 c = search needs
+
+returns-2 : tie.Need-returns-2
+unfolding printOf
+returns-2 c = rw (le-ltb _ _ (c .before .before .before .if1 .left), c .quad3 .ensures .0, c .before .quad2 .ensures .0, c .before .before .quad .ensures .0)
 
 pub print-of-spec : {M : Type 1} → statement M
 print-of-spec =
     tie.close
     (tie.spec
-    Inv-loop
-    μ-loop
+    shared-slice-read-wide
     wide-requires
-    loop-holds
-    add-sum
-    shared-slice-read-sum
-    cast-sum
-    mul-sum
-    add-sum-2
-    add-place
-    add-k
-    loop-less
-    loop-again
-    returns)
+    add-wide
+    shared-slice-read-wide-2
+    wide-requires-2
+    sub-wide
+    add-wide-2
+    shared-slice-read-wide-3
+    wide-requires-3
+    mul-result
+    add-result
+    mul-result-2
+    add-result-2
+    returns
+    quad-requires
+    add-quad
+    quad-requires-2
+    mul-result-3
+    add-result-3
+    add-quad-2
+    quad-requires-3
+    mul-result-4
+    add-result-4
+    returns-2)

@@ -9,6 +9,7 @@ use Rattle.folds.proofs.Arrays.{placed-step, placed-done}
 use Rattle.folds.proofs.Figures.{sum-step, sum-at}
 use Rattle.rows.specs.Prints.{printOf, printsOf}
 use Rattle.rows.specs.Rules.{lengthOf, startOf}
+use Rattle.rows.proofs.Laws.{length-facts}
 use Rattle.rows.proofs.checks.prints.Statement.{statement}
 use Rattle.rows.proofs.checks.prints.Tie as tie
 
@@ -25,11 +26,14 @@ loop-holds : tie.Need-loop-holds Inv-loop μ-loop
 unfolding sumBelow placedBelow
 loop-holds c = (omega arith, refl, refl)
 
-array-read-len : tie.Need-array-read-len Inv-loop μ-loop
-array-read-len c = omega arith
+array-read-wide : tie.Need-array-read-wide Inv-loop μ-loop
+array-read-wide c = omega arith
 
 print-of-requires : tie.Need-print-of-requires Inv-loop μ-loop
-print-of-requires c κs = omega (arith, sum-at _ _ (lengthOf (c .before .before .before .args .t1)) (c .loop-test .taken))
+print-of-requires c κs =
+    let a = c .before .before .before .before in
+    let f = length-facts _ _ (a .args .t1) (a .pre .1) (c .before .loop-test .taken) in
+    omega (arith, f .low, f .high, c .wide .ensures, sum-at _ _ (lengthOf (a .args .t1)) (c .before .loop-test .taken))
 
 mul-found : tie.Need-mul-found Inv-loop μ-loop
 mul-found c = omega arith
@@ -41,7 +45,7 @@ wide-requires : tie.Need-wide-requires Inv-loop μ-loop
 wide-requires c κs = omega arith
 
 add-at : tie.Need-add-at Inv-loop μ-loop
-add-at c = omega (arith, sum-at _ _ (lengthOf (c .before .before .before .before .before .args .t1)) (c .before .before .loop-test .taken))
+add-at c = omega (arith, c .before .wide .ensures, sum-at _ _ (lengthOf (c .before .before .before .before .before .args .t1)) (c .before .before .loop-test .taken))
 
 add-i : tie.Need-add-i Inv-loop μ-loop
 add-i c = omega arith
@@ -52,7 +56,7 @@ loop-less c = omega arith
 loop-again : tie.Need-loop-again Inv-loop μ-loop
 loop-again c = (
   omega arith,
-  sum-step _ _ (c .before .before .before .loop .inv .1) (c .wide .ensures .0),
+  sum-step _ _ (c .before .before .before .loop .inv .1) (c .before .wide .ensures .0),
   placed-step _ _ _ (c .before .before .before .loop .inv .2) cc,
 )
 
@@ -67,11 +71,11 @@ prints-spec =
     Inv-loop
     μ-loop
     loop-holds
-    array-read-len
+    array-read-wide
+    wide-requires
     print-of-requires
     mul-found
     array-write-found
-    wide-requires
     add-at
     add-i
     loop-less
