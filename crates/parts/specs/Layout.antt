@@ -6,7 +6,7 @@ use lib.Dec.{leb, eqb}
 use lib.ListN.{length, getD, drop, replicate}
 use Rattle.folds.specs.Below.{allBelow, sumBelow}
 use Rattle.folds.specs.Bytes.{number, rowAt, placedBelow}
-use Rattle.rows.specs.Rules.{noTask, noSection, taskOk, uniqueOk, sectionOk, sumsOk}
+use Rattle.rows.specs.Rules.{noTask, noSection, taskOk, uniqueOk, namesOk, sectionOk, sumsOk}
 use Rattle.rows.specs.declared.TaskRow.{TaskRow}
 use Rattle.rows.specs.declared.SectionRow.{SectionRow}
 use Rattle.rows.specs.declared.Counts.{Counts}
@@ -121,6 +121,22 @@ sumsFit n sums tasks = allBelow n (λ t. leb (getD sums t 0) (taskAt tasks t .ex
 unfoldable pub sectionCode : ℕ → ℕ → ℕ → List ℕ → List ℕ → ℕ
 sectionCode n s r tasks part =
     cond (sectionRowsOk s n r part) (cond (sumsOk n s (taskRows n tasks) (sectionRows s part)) 0 9) 8
+
+-- 7, of the part that begins at the resource rows and of the names; then 8 and 9
+unfoldable pub restCode : Counts → List ℕ → List ℕ → List ℕ → List ℕ → ℕ
+restCode c tasks resources sections names =
+    cond (lengthRowsOk (c .resources) resources)
+    (cond (namesOk (c .resources) (lengthRows (c .resources) resources) names)
+    (sectionCode (c .tasks) (c .sections) (c .resources) tasks sections)
+    7)
+    7
+
+-- the first of 5 to 9 that the parts fail, 0 for none
+unfoldable pub partsCode : Counts → List ℕ → List ℕ → List ℕ → List ℕ → ℕ
+partsCode c tasks resources sections names =
+    cond (taskRowsOk (c .tasks) (c .processors) tasks)
+    (cond (uniqueOk (c .tasks) (taskRows (c .tasks) tasks)) (restCode c tasks resources sections names) 6)
+    5
 
 -- a file's task rows
 abbrev pub tasksOf : List ℕ → List TaskRow

@@ -7,8 +7,9 @@ ghost use mathlib.Core.Path.{_≡_};
 ghost use Prim.Native.Nat.{_+_, _*_, _≤_, _<_};
 ghost use lib.ListN.{length, replicate};
 ghost use Rattle.folds.specs.Bytes.{number, placedBelow};
-ghost use Rattle.rows.specs.Rules.{noTask, noSection};
-ghost use Rattle.parts.specs.Layout.{countsOf, offsetsOk, resourcesAt, sectionsAt, namesAt, taskOf, taskAt, taskSpare, sectionAt, startAt, lengthAt, resourceSpare, taskCode, lengthRowsOk, sectionRowsOk, sumsFit, sectionCode, taskRows, lengthRows, sectionRows};
+ghost use mathlib.Core.Bool.{true};
+ghost use Rattle.rows.specs.Rules.{countsOk, noTask, noSection};
+ghost use Rattle.parts.specs.Layout.{countsOf, offsetsOk, resourcesAt, sectionsAt, namesAt, taskOf, taskAt, taskSpare, sectionAt, startAt, lengthAt, resourceSpare, taskCode, lengthRowsOk, sectionRowsOk, sumsFit, sectionCode, restCode, partsCode, taskRows, lengthRows, sectionRows};
 
 // The name lengths of a part, and whether its rows follow one another as they should.
 pub struct LoadedLengths {
@@ -133,7 +134,7 @@ fn task_at(part: &[u8], i: usize) -> TaskRow
 // 5 and 6, on the part of the file that begins at the task rows, in one pass: 5 where a row breaks its rule, else 6 where a
 // tag is repeated, or a priority on a processor, else 0. Tables say which tags and which places, a processor with a
 // priority, were seen; a processor of 8 and more, whose row is refused anyway, is taken modulo 8.
-pub fn task_code(part: &[u8], n: usize, p: u8) -> u8
+fn task_code(part: &[u8], n: usize, p: u8) -> u8
     requires { ⌜ (n ≤ 64) × (p ≤ 8) × (n * 8 ≤ length (now part)) ⌝ }
     ensures { λ r. ⌜ r ≡ taskCode n p (now (part .entry)) ⌝ }
 {
@@ -257,7 +258,7 @@ fn section_rows_ok(part: &[u8], s: usize, n: u8, r: u8) -> bool
 // 8 and 9, on the parts of the file that begin at the task rows and at the section rows: 8 where a row breaks its rule, else 9
 // where the sections of a task are longer than its execution time, else 0. The sums are gathered in one pass; the test of
 // the rows has its own, which runs many rows at a time. A task number is below 64 here, and taken modulo 64 all the same.
-pub fn section_code(tasks: &[u8], part: &[u8], s: usize, n: u8, r: u8) -> u8
+fn section_code(tasks: &[u8], part: &[u8], s: usize, n: u8, r: u8) -> u8
     requires { ⌜ (s ≤ 255) × (n ≤ 64) × (n * 8 ≤ length (now tasks)) × (s * 4 ≤ length (now part)) ⌝ }
     ensures { λ k. ⌜ k ≡ sectionCode n s r (now (tasks .entry)) (now (part .entry)) ⌝ }
 {
@@ -292,4 +293,34 @@ pub fn load_sections(part: &[u8], s: usize) -> [SectionRow; 255]
         i += 1;
     }
     rows
+}
+
+// 7, then 8 and 9, on the parts of the file that begin at their offsets: the first that fails, 0 for none.
+fn rest_code(tasks: &[u8], resources: &[u8], sections: &[u8], names: &[u8], c: Counts) -> u8
+    requires { ⌜ (countsOk c ≡ true) × (c .tasks * 8 ≤ length (now tasks)) × (c .resources * 4 ≤ length (now resources)) × (c .sections * 4 ≤ length (now sections)) ⌝ }
+    ensures { λ k. ⌜ k ≡ restCode c (now (tasks .entry)) (now (resources .entry)) (now (sections .entry)) (now (names .entry)) ⌝ }
+{
+    let r = folds::wide(c.resources);
+    let loaded = load_lengths(resources, r);
+    if !loaded.ok {
+        return 7;
+    }
+    let lengths = loaded.lengths;
+    if !rows::names::names_ok(lengths, r, names) {
+        return 7;
+    }
+    let s = c.sections as usize;
+    section_code(tasks, sections, s, c.tasks, c.resources)
+}
+
+// 5 to 9, on the parts of the file that begin at their offsets: the first that fails, 0 for none.
+pub fn parts_code(tasks: &[u8], resources: &[u8], sections: &[u8], names: &[u8], c: Counts) -> u8
+    requires { ⌜ (countsOk c ≡ true) × (c .tasks * 8 ≤ length (now tasks)) × (c .resources * 4 ≤ length (now resources)) × (c .sections * 4 ≤ length (now sections)) ⌝ }
+    ensures { λ k. ⌜ k ≡ partsCode c (now (tasks .entry)) (now (resources .entry)) (now (sections .entry)) (now (names .entry)) ⌝ }
+{
+    let code = task_code(tasks, folds::wide(c.tasks), c.processors);
+    if code != 0 {
+        return code;
+    }
+    rest_code(tasks, resources, sections, names, c)
 }

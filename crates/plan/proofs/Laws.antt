@@ -14,25 +14,15 @@ use Rattle.folds.proofs.Figures.{sum-at}
 use Rattle.folds.proofs.Arrays.{by-eq}
 use Rattle.rows.specs.Rules.{countsOk, uniqueOk, namesOk, sumsOk, lengthOf}
 use Rattle.rows.specs.declared.Counts.{Counts}
-use Rattle.parts.specs.Layout.{countsOf, tasksAt, resourcesAt, sectionsAt, namesAt, offsetsOk, taskRowsOk, taskCode, lengthRowsOk, sectionRowsOk, sectionCode, tasksOf, lengthsOf, sectionsOf, rowsOf, namesOf, startAt, lengthAt, resourceSpare}
+use Rattle.parts.specs.Layout.{countsOf, tasksAt, resourcesAt, sectionsAt, namesAt, offsetsOk, taskRowsOk, lengthRowsOk, sectionRowsOk, sectionCode, restCode, partsCode, tasksOf, lengthsOf, sectionsOf, rowsOf, namesOf, startAt, lengthAt, resourceSpare}
 use Rattle.rows.proofs.Laws.{InRange, counts-facts}
 use Rattle.parts.proofs.Laws.{start-read}
 use Rattle.plan.specs.declared.Reading.{Reading}
 use Rattle.plan.specs.declared.ReadAnswer.{ReadAnswer}
 use Rattle.plan.specs.declared.ReadAnswer.the-variants.{Accepted, Refused}
-use Rattle.plan.specs.Reading.{headerCode, lastCode, restCode, rowsCode, refusal, given, reading, refusedWith, told, readTold, nameRefusal}
+use Rattle.plan.specs.Reading.{headerCode, rowsCode, refusal, given, reading, refusedWith, told, readTold, nameRefusal}
 
--- the number of a check that fails is that of the whole, and one that holds passes it on
-stop : (a b : Bool) (x m l : ℕ) {k : ℕ} → k ≡ cond a (cond b 0 (suc m)) (suc l) → (k ≡ 0 → ⊥) → cond a (cond b x (suc m)) (suc l) ≡ k
-stop true true x m l e d = absurd (d e)
-stop true false x m l e d = sym e
-stop false b x m l e d = sym e
-
-pass : (a b : Bool) (x m l : ℕ) {k : ℕ} → k ≡ cond a (cond b 0 (suc m)) (suc l) → k ≡ 0 → cond a (cond b x (suc m)) (suc l) ≡ x
-pass true true x m l e z = refl
-pass true false x m l e z = let bad : ⊥ = omega arith in absurd bad
-pass false b x m l e z = let bad : ⊥ = omega arith in absurd bad
-
+-- what the number of a file is after each check that fails or holds
 module _ (f : List ℕ) where
   pub header-fails : {k : ℕ} → k ≡ headerCode f → (k ≡ 0 → ⊥) → refusal f ≡ k
   unfolding refusal
@@ -41,26 +31,6 @@ module _ (f : List ℕ) where
   pub header-holds : {k : ℕ} → k ≡ headerCode f → k ≡ 0 → refusal f ≡ rowsCode f
   unfolding refusal
   header-holds e z = rw (eq-eqb (headerCode f) 0 (sym e ∙ z))
-
-  pub tasks-fail : {k : ℕ} → k ≡ taskCode (countsOf f .tasks) (countsOf f .processors) (drop tasksAt f) → (k ≡ 0 → ⊥) → rowsCode f ≡ k
-  unfolding rowsCode taskCode
-  tasks-fail e d = stop (taskRowsOk (countsOf f .tasks) (countsOf f .processors) (drop tasksAt f)) (uniqueOk (countsOf f .tasks) (tasksOf f)) (restCode f) 5 4 e d
-
-  pub tasks-hold : {k : ℕ} → k ≡ taskCode (countsOf f .tasks) (countsOf f .processors) (drop tasksAt f) → k ≡ 0 → rowsCode f ≡ restCode f
-  unfolding rowsCode taskCode
-  tasks-hold e z = pass (taskRowsOk (countsOf f .tasks) (countsOf f .processors) (drop tasksAt f)) (uniqueOk (countsOf f .tasks) (tasksOf f)) (restCode f) 5 4 e z
-
-  pub starts-fail : lengthRowsOk (countsOf f .resources) (drop (resourcesAt (countsOf f)) f) ≡ false → restCode f ≡ 7
-  unfolding restCode
-  starts-fail a = rw a
-
-  pub names-fail : lengthRowsOk (countsOf f .resources) (drop (resourcesAt (countsOf f)) f) ≡ true → namesOk (countsOf f .resources) (lengthsOf f) (namesOf f) ≡ false → restCode f ≡ 7
-  unfolding restCode
-  names-fail a b = rw (a, b)
-
-  pub names-hold : lengthRowsOk (countsOf f .resources) (drop (resourcesAt (countsOf f)) f) ≡ true → namesOk (countsOf f .resources) (lengthsOf f) (namesOf f) ≡ true → restCode f ≡ lastCode f
-  unfolding restCode
-  names-hold a b = rw (a, b)
 
   -- and what a reading then is
   pub read-refused : {k : ℕ} → k ≡ refusal f → (k ≡ 0 → ⊥) → reading f ≡ refusedWith k
@@ -138,7 +108,7 @@ unfolding refusal
 header-clear f e = header-zero (headerCode f) (rowsCode f) e
 
 pub whole-facts : (f : List ℕ) → refusal f ≡ 0 → Whole f
-unfolding refusal rowsCode restCode sectionCode
+unfolding refusal partsCode restCode sectionCode
 whole-facts f e =
     let h : headerCode f ≡ 0 = header-zero (headerCode f) _ e in
     let r1 = header-next (headerCode f) _ e in

@@ -5,13 +5,13 @@ use mathlib.Core.List.{List, [], _∷_}
 use lib.Dec.{leb, ltb, eqb}
 use lib.ListN.{length, getD, take, drop, replicate}
 use Rattle.folds.specs.Bytes.{number}
-use Rattle.rows.specs.Rules.{countsOk, uniqueOk, namesOk, noTask, noSection}
+use Rattle.rows.specs.Rules.{countsOk, noTask, noSection}
 use Rattle.rows.specs.declared.Counts.{Counts}
 use Rattle.rows.specs.declared.Rows.{Rows}
 use Rattle.plan.specs.declared.Reading.{Reading}
 use Rattle.plan.specs.declared.ReadAnswer.{ReadAnswer}
 use Rattle.plan.specs.declared.ReadAnswer.the-variants.{Accepted, Refused}
-use Rattle.parts.specs.Layout.{countsOf, tasksAt, resourcesAt, sectionsAt, namesAt, offsetsOk, taskRowsOk, lengthRowsOk, sectionCode, tasksOf, lengthsOf, rowsOf, namesOf, startAt, lengthAt}
+use Rattle.parts.specs.Layout.{countsOf, tasksAt, resourcesAt, sectionsAt, namesAt, offsetsOk, partsCode, rowsOf, namesOf, startAt, lengthAt}
 
 -- 1, fewer than 16 bytes or not the length in bytes 14-15; 2, edition; 3, a count beyond its range; 4, an offset
 unfoldable pub headerCode : List ℕ → ℕ
@@ -21,24 +21,11 @@ headerCode f =
     (cond (eqb (getD f 0 0) 1) (cond (countsOk (countsOf f)) (cond (offsetsOk (countsOf f) f) 0 4) 3) 2)
     1)
 
--- 8, a section against its rule; 9, sections above C
-abbrev pub lastCode : List ℕ → ℕ
-lastCode f =
-    sectionCode (countsOf f .tasks) (countsOf f .sections) (countsOf f .resources) (drop tasksAt f) (drop (sectionsAt (countsOf f)) f)
-
--- 7, a resource row or name against its rule, or two equal names; then the last
-unfoldable pub restCode : List ℕ → ℕ
-restCode f =
-    cond (lengthRowsOk (countsOf f .resources) (drop (resourcesAt (countsOf f)) f))
-    (cond (namesOk (countsOf f .resources) (lengthsOf f) (namesOf f)) (lastCode f) 7)
-    7
-
--- 5, a task row; 6, a repeated tag, or a priority repeated on a processor; then the rest
-unfoldable pub rowsCode : List ℕ → ℕ
+-- 5, a task row; 6, a repeated tag, or a priority repeated on a processor; 7, a resource row or name, or two equal names;
+-- 8, a section; 9, sections above C: each group of rows as the part of the file that begins at its offset
+abbrev pub rowsCode : List ℕ → ℕ
 rowsCode f =
-    cond (taskRowsOk (countsOf f .tasks) (countsOf f .processors) (drop tasksAt f))
-    (cond (uniqueOk (countsOf f .tasks) (tasksOf f)) (restCode f) 6)
-    5
+    partsCode (countsOf f) (drop tasksAt f) (drop (resourcesAt (countsOf f)) f) (drop (sectionsAt (countsOf f)) f) (namesOf f)
 
 -- the first check that a file fails, 0 for none: each check is made over the whole file before the next
 unfoldable pub refusal : List ℕ → ℕ

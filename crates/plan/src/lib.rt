@@ -8,7 +8,7 @@ ghost use mathlib.Core.Bool.{true};
 ghost use Prim.Native.Nat.{_≤_};
 ghost use lib.ListN.{length};
 ghost use Rattle.parts.specs.Layout.{countsOf, rowsOf};
-ghost use Rattle.plan.specs.Reading.{headerCode, lastCode, restCode, rowsCode, reading, refusal, told, readTold, nameRefusal, nameOf, refusedWith, planLength};
+ghost use Rattle.plan.specs.Reading.{headerCode, rowsCode, reading, refusal, told, readTold, nameRefusal, nameOf, refusedWith, planLength};
 
 // A read plan's counts, or the number of the first check that it fails.
 pub enum ReadAnswer {
@@ -61,46 +61,22 @@ pub fn refused(k: u8) -> Reading
     }
 }
 
-// Checks 8 and 9, of a file that passed those before: the first that fails, 0 for none.
-fn last_code(file: &[u8], c: Counts) -> u8
-    requires { ⌜ (headerCode (now file) ≡ 0) × (c ≡ countsOf (now file)) ⌝ }
-    ensures { λ r. ⌜ r ≡ lastCode (now (file .entry)) ⌝ }
-{
-    let at = parts::sections_at(c);
-    let s = c.sections as usize;
-    parts::section_code(&file[16..], &file[at..], s, c.tasks, c.resources)
-}
-
-// Checks 7 to 9, of a file that passed those before: the first that fails, 0 for none.
-fn rest_code(file: &[u8], c: Counts) -> u8
-    requires { ⌜ (headerCode (now file) ≡ 0) × (c ≡ countsOf (now file)) ⌝ }
-    ensures { λ r. ⌜ r ≡ restCode (now (file .entry)) ⌝ }
-{
-    let at = parts::resources_at(c);
-    let r = folds::wide(c.resources);
-    let loaded = parts::load_lengths(&file[at..], r);
-    if !loaded.ok {
-        return 7;
-    }
-    let lengths = loaded.lengths;
-    let names_at = parts::names_at(c);
-    if !rows::checks::names_ok(lengths, r, &file[names_at..]) {
-        return 7;
-    }
-    last_code(file, c)
-}
-
-// Checks 5 to 9, of a file that passed those before: the first that fails, 0 for none.
+// Checks 5 to 9, of a file that passed those before: the first that fails, 0 for none. Each group of rows is handed on as the
+// part of the file that begins at its offset.
 fn rows_code(file: &[u8], c: Counts) -> u8
     requires { ⌜ (headerCode (now file) ≡ 0) × (c ≡ countsOf (now file)) ⌝ }
     ensures { λ r. ⌜ r ≡ rowsCode (now (file .entry)) ⌝ }
 {
-    let n = folds::wide(c.tasks);
-    let code = parts::task_code(&file[16..], n, c.processors);
-    if code != 0 {
-        return code;
-    }
-    rest_code(file, c)
+    let resources_at = parts::resources_at(c);
+    let sections_at = parts::sections_at(c);
+    let names_at = parts::names_at(c);
+    parts::parts_code(
+        &file[16..],
+        &file[resources_at..],
+        &file[sections_at..],
+        &file[names_at..],
+        c,
+    )
 }
 
 // The number of the first check that the file fails, 0 for none.

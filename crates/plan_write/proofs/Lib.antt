@@ -1,4 +1,5 @@
 pub mod Same
+pub mod Values
 pub mod RoundTrip
 pub mod Put
 pub mod Outcome

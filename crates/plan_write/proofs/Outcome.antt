@@ -1,11 +1,11 @@
 -- What writing, reading back and copying come to, by the number of the refusal.
 use Prim.Native.Nat.{ℕ, suc, _<_, _≤_}
-use mathlib.Core.Bool.{Bool, true, false, cond}
+use mathlib.Core.Bool.{Bool, cond}
 use mathlib.Core.List.{List, [], _∷_, _++_}
 use mathlib.Core.Path.{_≡_, refl, sym, ap, _∙_}
 use native.Mathlib.Omega.{arith}
 use borrow.Author.Tests.{eq-eqb, ne-eqb, le-leb, lt-leb, leb-true}
-use lib.Dec.{leb, eqb}
+use lib.Dec.{leb}
 use lib.ListN.{length, getD, take, drop}
 use lib.Seq.{take-at}
 use Rattle.folds.proofs.Tests.{code-zero}
@@ -14,7 +14,6 @@ use Rattle.rows.specs.Rules.{valuesCode}
 use Rattle.rows.specs.declared.Counts.{Counts}
 use Rattle.rows.specs.declared.Rows.{Rows}
 use Rattle.parts.specs.Layout.{countsOf, rowsOf, namesOf}
-use Rattle.plan.specs.declared.Reading.{Reading}
 use Rattle.plan.specs.declared.ReadAnswer.the-variants.{Accepted}
 use Rattle.plan.specs.Reading.{refusal, given, reading, refusedWith, told as readSaid}
 use Rattle.plan_write.specs.declared.WriteAnswer.{WriteAnswer}

@@ -4,23 +4,23 @@ use mathlib.Core.Bool.{true}
 use mathlib.Core.List.{List, [], _∷_, _++_}
 use mathlib.Core.Path.{_≡_, ap, _∙_}
 use native.Mathlib.Omega.{arith}
-use borrow.Author.Tests.{eqb-true}
-use lib.Dec.{eqb}
+use borrow.Author.Tests.{eqb-true, leb-true}
+use lib.Dec.{leb, eqb}
 use lib.ListN.{length, take, drop, length-append}
 use Rattle.folds.specs.Below.{sumBelow}
 use Rattle.folds.specs.Bytes.{bytesBelow, width}
-use Rattle.folds.proofs.Tests.{and-parts}
+use Rattle.folds.proofs.Tests.{and-parts, all-at}
 use Rattle.folds.proofs.Figures.{sum-bound}
 use Rattle.folds.proofs.Parts.{put-part, put-length, bytes-length, bytes-step}
 use Rattle.folds.proofs.RowLaws.{row-length}
-use Rattle.rows.specs.Rules.{taskOf, sectionOf, lengthOf, startOf, lengthsOk, namesOk, valuesCode}
+use Rattle.rows.specs.Rules.{taskOf, sectionOf, lengthOf, startOf, tagsOk, lengthsOk, namesOk, valuesCode}
 use Rattle.rows.specs.declared.TaskRow.{TaskRow}
 use Rattle.rows.specs.declared.SectionRow.{SectionRow}
 use Rattle.rows.specs.declared.Counts.{Counts}
 use Rattle.rows.specs.declared.Rows.{Rows}
 use Rattle.rows.proofs.Laws.{InRange, counts-facts, length-facts}
 use Rattle.parts.specs.Layout.{taskWidths, resourceWidths, sectionWidths}
-use Rattle.plan_write.specs.Encode.{headerWidths, headerNumbers, headerBytes, taskNumbers, taskBytes, resourceBytes, sectionNumbers, sectionBytes}
+use Rattle.plan_write.specs.Encode.{taskNumbers, taskBytes, resourceBytes, sectionNumbers, sectionBytes}
 use Rattle.plan_write.proofs.Same.{Kept, kept-facts}
 
 -- m is l with the o bytes of x at its front
@@ -49,11 +49,7 @@ rows-more w f each n {l} {m} {y} p q h = put-front (bytes-step w f each n l m y 
 pub rows-all : (w : ℕ) (f : ℕ → List ℕ) (n i : ℕ) {l m : List ℕ} → i ≡ n → Front (bytesBelow i f) (i * w) l m → m ≡ bytesBelow n f ++ drop (n * w) l
 rows-all w f n i e p = rw (← e) (p .bytes)
 
--- how long the header and the rows are
-pub header-length : (c : Counts) (len : ℕ) → length (headerBytes c len) ≡ 16
-unfolding headerBytes width
-header-length c len = row-length headerWidths (headerNumbers c len)
-
+-- how long the rows are
 pub task-length : (tasks : List TaskRow) (i : ℕ) → length (taskBytes tasks i) ≡ 8
 unfolding taskBytes width
 task-length tasks i = row-length taskWidths (taskNumbers (taskOf tasks i))
@@ -65,6 +61,11 @@ resource-length lengths i = row-length resourceWidths (startOf lengths i ∷ len
 pub section-length : (sections : List SectionRow) (i : ℕ) → length (sectionBytes sections i) ≡ 4
 unfolding sectionBytes width
 section-length sections i = row-length sectionWidths (sectionNumbers (sectionOf sections i))
+
+-- the tag of a task has one byte
+pub tag-at : (n i : ℕ) (tasks : List TaskRow) → tagsOk n tasks ≡ true → i < n → taskOf tasks i .tag ≤ 255
+unfolding tagsOk
+tag-at n i tasks h l = leb-true _ _ (all-at n i (λ k. leb (taskOf tasks k .tag) 255) h l)
 
 -- a name has at most 12 bytes
 names-length : (r : ℕ) (lengths names : List ℕ) → namesOk r lengths names ≡ true → length names ≤ r * 12

@@ -1,6 +1,6 @@
 -- Demand 2: a file and the values that it holds. Both round trips go by what the file has at each place.
-use Prim.Native.Nat.{ℕ, _*_, _<_}
-use mathlib.Core.Bool.{true, _&&_}
+use Prim.Native.Nat.{ℕ, _<_}
+use mathlib.Core.Bool.{true}
 use mathlib.Core.List.{List, [], _∷_, _++_, append-assoc}
 use mathlib.Core.Path.{_≡_, refl, sym, ap, ap₂, subst, _∙_}
 use native.Mathlib.Omega.{arith}
@@ -10,89 +10,55 @@ use lib.ListN.{length, getD, take, drop, replicate, length-append, length-drop, 
 use lib.Seq.{drop-at}
 use Rattle.folds.specs.Below.{sumBelow}
 use Rattle.folds.specs.Bytes.{number, width, fields, rowAt, rowBytes, bytesBelow}
-use Rattle.folds.proofs.Tests.{all-at, all-from, all-same, and-parts}
-use Rattle.folds.proofs.Figures.{sum-same}
+use Rattle.folds.proofs.Tests.{all-at, and-parts}
 use Rattle.folds.proofs.Arrays.{placed-same}
-use Rattle.folds.proofs.RowLaws.{Bytes, solid, row-length, fields-back, fields-forth}
-use Rattle.rows.specs.Rules.{noTask, noSection, taskOf, sectionOf, lengthOf, startOf, taskOk, sectionOk, tasksOk, sectionsOk, namesOk}
+use Rattle.folds.proofs.RowLaws.{Bytes, solid, fields-back, fields-forth}
+use Rattle.rows.specs.Rules.{noTask, noSection, taskOk, namesOk}
 use Rattle.rows.specs.declared.Counts.{Counts}
 use Rattle.rows.specs.declared.Rows.{Rows}
-use Rattle.parts.specs.Layout.{countsOf, tasksAt, resourcesAt, sectionsAt, namesAt, taskWidths, resourceWidths, sectionWidths, taskAt, taskSpare, startAt, lengthAt, resourceSpare, sectionAt, taskRows, lengthRows, sectionRows, taskRowsOk, lengthRowsOk, sectionRowsOk, sectionCode, tasksOf, lengthsOf, sectionsOf, rowsOf, namesOf}
-use Rattle.parts.specs.Layout.{taskOf as taskIn, sectionOf as sectionIn}
+use Rattle.parts.specs.Layout.{countsOf, tasksAt, resourcesAt, sectionsAt, namesAt, taskWidths, resourceWidths, sectionWidths, taskAt, taskSpare, startAt, lengthAt, resourceSpare, sectionAt, taskRows, lengthRows, sectionRows, taskRowsOk, lengthRowsOk, sectionCode, restCode, partsCode, rowsOf, namesOf}
 use Rattle.rows.proofs.Laws.{InRange, counts-facts}
 use Rattle.parts.proofs.Laws.{task-read, length-read, section-read, start-read, tasks-kept, sections-kept}
-use Rattle.plan.specs.Reading.{headerCode, restCode, rowsCode, refusal}
+use Rattle.plan.specs.Reading.{headerCode, refusal}
 use Rattle.plan.proofs.Laws.{Header, Whole, whole-facts}
 use Rattle.plan_write.specs.Encode.{headerWidths, headerNumbers, headerBytes, taskNumbers, taskBytes, resourceBytes, sectionNumbers, sectionBytes, fileLength, fileOf}
 use Rattle.plan_write.specs.RoundTrip.{trimmed, WrittenThenRead, ReadThenWritten}
-use Rattle.plan_write.proofs.Same.{Kept, kept-facts, kept-code, unique-same, sums-same, names-same, Stand, rows-length, rows-stand, rows-joined}
-
--- the numbers in row i of each group
-abbrev taskRow : Rows → ℕ → List ℕ
-taskRow rows i = taskNumbers (taskOf (rows .tasks) i)
-
-abbrev resourceRow : Rows → ℕ → List ℕ
-resourceRow rows i = startOf (rows .lengths) i ∷ lengthOf (rows .lengths) i ∷ 0 ∷ []
-
-abbrev sectionRow : Rows → ℕ → List ℕ
-sectionRow rows i = sectionNumbers (sectionOf (rows .sections) i)
-
--- number j of a row
-abbrev at : ℕ → List ℕ → ℕ
-at j v = getD v j 0
+use Rattle.plan_write.proofs.Same.{Kept, kept-facts, kept-code, rows-joined}
+use Rattle.plan_write.proofs.Values.{taskRow, resourceRow, sectionRow, at, RowsIn, headed, sections-end, rows-in, header-length, task-same, length-same, section-same, tasks-checked, unique-checked, starts-checked, names-checked, sections-checked, sums-checked}
 
 -- the file f has the numbers of these values at their places, and ends with the names
 pub record Holds (f : List ℕ) (c : Counts) (rows : Rows) (names : List ℕ) : Type 0 where
   pub size : length f ≡ fileLength c names
   pub header : fields headerWidths f 0 ≡ headerNumbers c (fileLength c names)
-  pub task : Stand taskWidths (taskRow rows) (c .tasks) f tasksAt
-  pub resource : Stand resourceWidths (resourceRow rows) (c .resources) f (resourcesAt c)
-  pub section : Stand sectionWidths (sectionRow rows) (c .sections) f (sectionsAt c)
+  pub stand : RowsIn f c rows
   pub rest : drop (namesAt c) f ≡ names
 
 -- the file of values holds them
 pub file-holds : (c : Counts) (rows : Rows) (names : List ℕ) → Holds (fileOf c rows names) c rows names
-unfolding fileOf headerBytes taskBytes resourceBytes sectionBytes solid width
+unfolding fileOf headerBytes solid
 file-holds c rows names =
+    let v : List ℕ = headerNumbers c (fileLength c names) in
     let h : List ℕ = headerBytes c (fileLength c names) in
     let t : List ℕ = bytesBelow (c .tasks) (taskBytes (rows .tasks)) in
     let r : List ℕ = bytesBelow (c .resources) (resourceBytes (rows .lengths)) in
     let s : List ℕ = bytesBelow (c .sections) (sectionBytes (rows .sections)) in
-    let f : List ℕ = (((h ++ t) ++ r) ++ s) ++ names in
-    let lh : length h ≡ 16 = row-length headerWidths (headerNumbers c (fileLength c names)) in
-    let lt : length t ≡ c .tasks * 8 = rows-length taskWidths (taskRow rows) (c .tasks) in
-    let lr : length r ≡ c .resources * 4 = rows-length resourceWidths (resourceRow rows) (c .resources) in
-    let ls : length s ≡ c .sections * 4 = rows-length sectionWidths (sectionRow rows) (c .sections) in
-    let behind : f ≡ h ++ (t ++ (r ++ (s ++ names))) = simp append-assoc in
+    let lh : length h ≡ 16 = header-length c (fileLength c names) in
+    let behind : headed h c rows ++ names ≡ h ++ (t ++ (r ++ (s ++ names))) = simp append-assoc in
     record {
-      size = simp length-append (omega arith);
-      header = rw behind (fields-back headerWidths (headerNumbers c (fileLength c names)) (t ++ (r ++ (s ++ names))) refl refl);
-      task = rows-stand taskWidths (taskRow rows) (c .tasks) f h (r ++ (s ++ names)) 16 refl (λ i. refl) behind lh;
-      resource = rows-stand resourceWidths (resourceRow rows) (c .resources) f (h ++ t) (s ++ names) (resourcesAt c) refl (λ i. refl) (simp append-assoc) (simp length-append (omega arith));
-      section = rows-stand sectionWidths (sectionRow rows) (c .sections) f ((h ++ t) ++ r) names (sectionsAt c) refl (λ i. refl) (simp append-assoc) (simp length-append (omega arith));
-      rest = drop-at (((h ++ t) ++ r) ++ s) names (namesAt c) (simp length-append (omega arith));
+      size = length-append (headed h c rows) names ∙ omega (arith, sections-end c rows h lh);
+      header = rw behind (fields-back headerWidths v (t ++ (r ++ (s ++ names))) refl refl);
+      stand = rows-in c rows h lh names;
+      rest = drop-at (headed h c rows) names (namesAt c) (sections-end c rows h lh);
     }
 
 -- a file that holds values of its own counts: its rows are theirs
 module _ (f : List ℕ) (rows : Rows) (names : List ℕ) (h : Holds f (countsOf f) rows names) where
-  task-same : (i : ℕ) → i < countsOf f .tasks → taskAt (drop tasksAt f) i ≡ taskOf (rows .tasks) i
-  unfolding taskAt
-  task-same i l = ap taskIn (h .task i l)
-
-  length-same : (i : ℕ) → i < countsOf f .resources → lengthAt (drop (resourcesAt (countsOf f)) f) i ≡ lengthOf (rows .lengths) i
-  unfolding lengthAt
-  length-same i l = ap (at 1) (h .resource i l)
-
-  section-same : (i : ℕ) → i < countsOf f .sections → sectionAt (drop (sectionsAt (countsOf f)) f) i ≡ sectionOf (rows .sections) i
-  unfolding sectionAt
-  section-same i l = ap sectionIn (h .section i l)
-
   rows-held : rowsOf f ≡ trimmed (countsOf f) rows
   unfolding trimmed taskRows lengthRows sectionRows
   rows-held =
-      let t = placed-same _ _ _ (replicate 64 noTask) task-same in
-      let l = placed-same _ _ _ (replicate 16 0) length-same in
-      let s = placed-same _ _ _ (replicate 255 noSection) section-same in
+      let t = placed-same _ _ _ (replicate 64 noTask) (task-same f (countsOf f) rows (h .stand)) in
+      let l = placed-same _ _ _ (replicate 16 0) (length-same f (countsOf f) rows (h .stand)) in
+      let s = placed-same _ _ _ (replicate 255 noSection) (section-same f (countsOf f) rows (h .stand)) in
       λ i. record { tasks = t i; lengths = l i; sections = s i }
 
   -- and it passes every check where they keep their rules
@@ -114,25 +80,17 @@ module _ (f : List ℕ) (rows : Rows) (names : List ℕ) (h : Holds f (countsOf 
       }
 
   whole-held : Kept (countsOf f) rows names → Whole f
-  unfolding tasksOk taskRowsOk taskSpare lengthRowsOk startAt resourceSpare sectionsOk sectionRowsOk
   whole-held k =
-      let g : InRange (countsOf f) = counts-facts (countsOf f) (k .counts) in
-      let n : ℕ = countsOf f .tasks in
-      let r : ℕ = countsOf f .resources in
-      let s : ℕ = countsOf f .sections in
-      let resources : List ℕ = drop (resourcesAt (countsOf f)) f in
-      let sections : List ℕ = drop (sectionsAt (countsOf f)) f in
-      let task : (i : ℕ) → i < n → taskOf (tasksOf f) i ≡ taskOf (rows .tasks) i = λ i l. task-read n (drop tasksAt f) i l (g .tasks) ∙ task-same i l in
-      let long : (i : ℕ) → i < r → lengthOf (lengthsOf f) i ≡ lengthOf (rows .lengths) i = λ i l. length-read r resources i l (g .resources) ∙ length-same i l in
-      let section : (i : ℕ) → i < s → sectionOf (sectionsOf f) i ≡ sectionOf (rows .sections) i = λ i l. section-read s sections i l (g .sections) ∙ section-same i l in
+      let c : Counts = countsOf f in
+      let g : InRange c = counts-facts c (k .counts) in
       record {
         header = header-held k;
-        tasks = all-from n _ (λ i l. ap₂ _&&_ (ap (taskOk (countsOf f .processors)) (task-same i l) ∙ all-at n i _ (k .tasks) l) (eq-eqb _ _ (ap (at 3) (h .task i l))));
-        unique = unique-same n _ _ task ∙ k .unique;
-        starts = all-from r _ (λ i l. ap₂ _&&_ (eq-eqb _ _ (ap (at 0) (h .resource i l) ∙ sym (sum-same i _ _ (λ j m. length-same j (omega arith))))) (eq-eqb _ _ (ap (at 2) (h .resource i l))));
-        names = names-same r _ _ long (namesOf f) ∙ ap (namesOk r (rows .lengths)) (h .rest) ∙ k .named;
-        sections = all-same s _ _ (λ i l. ap (sectionOk n r) (section-same i l)) ∙ k .sections;
-        sums = sums-same n _ _ task s _ _ section ∙ k .sums;
+        tasks = tasks-checked f c rows (h .stand) ∙ k .tasks;
+        unique = unique-checked f c rows (h .stand) g ∙ k .unique;
+        starts = starts-checked f c rows (h .stand);
+        names = names-checked f c rows (h .stand) g (namesOf f) ∙ ap (namesOk (c .resources) (rows .lengths)) (h .rest) ∙ k .named;
+        sections = sections-checked f c rows (h .stand) ∙ k .sections;
+        sums = sums-checked f c rows (h .stand) g ∙ k .sums;
       }
 
 -- a file that passes every check is not refused
@@ -142,7 +100,7 @@ header-read f h =
     rw (le-ltb _ _ (h .long), eq-eqb _ _ (h .whole), eq-eqb _ _ (h .edition), h .counts, eq-eqb _ _ (h .tasks-at), eq-eqb _ _ (h .resources-at), eq-eqb _ _ (h .sections-at), eq-eqb _ _ (h .names-at), le-leb _ _ (h .ends))
 
 whole-read : (f : List ℕ) → Whole f → refusal f ≡ 0
-unfolding refusal rowsCode restCode sectionCode
+unfolding refusal partsCode restCode sectionCode
 whole-read f w =
     rw (header-read f (w .header), w .tasks, w .unique, w .starts, w .names, w .sections, w .sums)
 
@@ -199,11 +157,13 @@ read-holds f w =
     record {
       size = size;
       header = rw (one-byte f 0, h .edition, one-byte f 1, one-byte f 2, one-byte f 3, h .tasks-at, h .resources-at, h .sections-at, h .names-at, h .whole, size);
-      task = λ i l. task-row tasks i (eqb-true _ _ (and-parts (taskOk (countsOf f .processors) (taskAt tasks i)) _ (all-at n i _ (w .tasks) l) .1)) ∙ ap taskNumbers (sym (task-read n tasks i l (g .tasks)));
-      resource = λ i l.
-          resource-row resources i (eqb-true _ _ (start i l .1))
-          ∙ ap₂ (λ (a b : ℕ). a ∷ b ∷ 0 ∷ []) (eqb-true _ _ (start i l .0) ∙ sym (start-read r resources i (omega arith) (g .resources))) (sym (length-read r resources i l (g .resources)));
-      section = λ i l. section-row sections i ∙ ap sectionNumbers (sym (section-read s sections i l (g .sections)));
+      stand = record {
+        task = λ i l. task-row tasks i (eqb-true _ _ (and-parts (taskOk (countsOf f .processors) (taskAt tasks i)) _ (all-at n i _ (w .tasks) l) .1)) ∙ ap taskNumbers (sym (task-read n tasks i l (g .tasks)));
+        resource = λ i l.
+            resource-row resources i (eqb-true _ _ (start i l .1))
+            ∙ ap₂ (λ (a b : ℕ). a ∷ b ∷ 0 ∷ []) (eqb-true _ _ (start i l .0) ∙ sym (start-read r resources i (omega arith) (g .resources))) (sym (length-read r resources i l (g .resources)));
+        section = λ i l. section-row sections i ∙ ap sectionNumbers (sym (section-read s sections i l (g .sections)));
+      };
       rest = refl;
     }
 
@@ -226,9 +186,9 @@ holds-file : (f : List ℕ) (c : Counts) (rows : Rows) (names : List ℕ) → By
 unfolding fileOf headerBytes taskBytes resourceBytes sectionBytes width
 holds-file f c rows names b h =
     let head : headerBytes c (fileLength c names) ≡ take 16 f = ap (rowBytes headerWidths) (sym (h .header)) ∙ fields-forth headerWidths f 0 b (omega (arith, h .size)) in
-    let tasks = rows-joined taskWidths (taskRow rows) (c .tasks) f 16 (resourcesAt c) b (h .task) (omega arith) (omega (arith, h .size)) head in
-    let resources = rows-joined resourceWidths (resourceRow rows) (c .resources) f (resourcesAt c) (sectionsAt c) b (h .resource) (omega arith) (omega (arith, h .size)) tasks in
-    let sections = rows-joined sectionWidths (sectionRow rows) (c .sections) f (sectionsAt c) (namesAt c) b (h .section) (omega arith) (omega (arith, h .size)) resources in
+    let tasks = rows-joined taskWidths (taskRow rows) (c .tasks) f 16 (resourcesAt c) b (h .stand .task) (omega arith) (omega (arith, h .size)) head in
+    let resources = rows-joined resourceWidths (resourceRow rows) (c .resources) f (resourcesAt c) (sectionsAt c) b (h .stand .resource) (omega arith) (omega (arith, h .size)) tasks in
+    let sections = rows-joined sectionWidths (sectionRow rows) (c .sections) f (sectionsAt c) (namesAt c) b (h .stand .section) (omega arith) (omega (arith, h .size)) resources in
     ap₂ _++_ sections (sym (h .rest)) ∙ take-append-drop (namesAt c) f
 
 pub read-then-written : ReadThenWritten

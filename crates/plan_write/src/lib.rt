@@ -10,10 +10,9 @@ ghost use mathlib.Core.Bool.{true};
 ghost use mathlib.Core.List.{[], _∷_, _++_};
 ghost use Prim.Native.Nat.{_+_, _*_, _/_, _%_, _≤_, _<_};
 ghost use lib.ListN.{length, drop};
-ghost use Rattle.folds.specs.Below.{sumBelow};
 ghost use Rattle.folds.specs.Bytes.{rowBytes, bytesBelow};
-ghost use Rattle.rows.specs.Rules.{lengthOf, tasksOk, valuesCode};
-ghost use Rattle.parts.specs.Layout.{taskWidths, resourceWidths, sectionWidths};
+ghost use Rattle.rows.specs.Rules.{countsOk, tagsOk, valuesCode};
+ghost use Rattle.parts.specs.Layout.{tasksAt, resourcesAt, sectionsAt, namesAt, taskWidths, resourceWidths, sectionWidths, partsCode};
 ghost use Rattle.plan_write.specs.Encode.{headerBytes, taskNumbers, taskBytes, resourceBytes, sectionNumbers, sectionBytes, fileLength, fileOf, writing, written, told, writeTold};
 ghost use Rattle.plan_write.specs.RoundTrip.{readBack, readBackTold, copying, copied, copyTold};
 ghost use Rattle.plan.specs.Reading.{told as readSaid};
@@ -41,7 +40,7 @@ fn high(v: usize) -> u8
 
 // The header of a file of len bytes, at the front of the buffer.
 fn put_header(buf: &mut [u8], c: Counts, len: usize)
-    requires { ⌜ (16 ≤ length (now buf)) × (len < 65536) × (Rattle.rows.specs.Rules.countsOk c ≡ true) ⌝ }
+    requires { ⌜ (16 ≤ length (now buf)) × (len < 65536) × (countsOk c ≡ true) ⌝ }
     ensures { λ r. ⌜ now (buf .exit) ≡ headerBytes c len ++ drop 16 (now (buf .entry)) ⌝ }
 {
     let sections = c.sections as usize;
@@ -83,9 +82,24 @@ fn put_task(buf: &mut [u8], t: TaskRow)
     buf[7] = high(execution);
 }
 
+// Whether the tag of each of the first n tasks has one byte.
+fn tags_ok(tasks: [TaskRow; 64], n: usize) -> bool
+    requires { ⌜ n ≤ 64 ⌝ }
+    ensures { λ r. ⌜ r ≡ tagsOk n tasks ⌝ }
+{
+    let mut ok = true;
+    let mut i = 0;
+    while i < n {
+        let task = tasks[i];
+        ok = ok & (task.tag <= 255);
+        i += 1;
+    }
+    ok
+}
+
 // The first n task rows at the front of the buffer.
-fn put_tasks(buf: &mut [u8], tasks: [TaskRow; 64], n: usize, p: u8)
-    requires { ⌜ (n ≤ 64) × (n * 8 ≤ length (now buf)) × (tasksOk n p tasks ≡ true) ⌝ }
+fn put_tasks(buf: &mut [u8], tasks: [TaskRow; 64], n: usize)
+    requires { ⌜ (n ≤ 64) × (n * 8 ≤ length (now buf)) × (tagsOk n tasks ≡ true) ⌝ }
     ensures { λ r. ⌜ now (buf .exit) ≡ bytesBelow n (taskBytes tasks) ++ drop (n * 8) (now (buf .entry)) ⌝ }
 {
     let mut i = 0;
@@ -164,7 +178,7 @@ fn put_names(buf: &mut [u8], names: &[u8])
 
 // The file at the front of the buffer.
 fn put_file(c: Counts, rows: Rows, names: &[u8], buf: &mut [u8])
-    requires { ⌜ (valuesCode c rows (now names) ≡ 0) × (fileLength c (now names) ≤ length (now buf)) ⌝ }
+    requires { ⌜ (countsOk c ≡ true) × (tagsOk (c .tasks) (rows .tasks) ≡ true) × (fileLength c (now names) ≤ length (now buf)) × (length (now names) ≤ 192) ⌝ }
     ensures { λ r. ⌜ now (buf .exit) ≡ fileOf c rows (now (names .entry)) ++ drop (fileLength c (now (names .entry))) (now (buf .entry)) ⌝ }
 {
     let resources_at = parts::resources_at(c);
@@ -175,10 +189,43 @@ fn put_file(c: Counts, rows: Rows, names: &[u8], buf: &mut [u8])
     let sections = rows.sections;
     let s = c.sections as usize;
     put_header(buf, c, names_at + names.len());
-    put_tasks(&mut buf[16..], tasks, folds::wide(c.tasks), c.processors);
+    put_tasks(&mut buf[16..], tasks, folds::wide(c.tasks));
     put_resources(&mut buf[resources_at..], lengths, folds::wide(c.resources));
     put_sections(&mut buf[sections_at..], sections, s);
     put_names(&mut buf[names_at..], names);
+}
+
+// 5 to 9, on the rows of a file and on names that may stand elsewhere: the first that fails, 0 for none.
+fn file_code(file: &[u8], names: &[u8], c: Counts) -> u8
+    requires { ⌜ (countsOk c ≡ true) × (namesAt c ≤ length (now file)) ⌝ }
+    ensures { λ k. ⌜ k ≡ partsCode c (drop tasksAt (now (file .entry))) (drop (resourcesAt c) (now (file .entry))) (drop (sectionsAt c) (now (file .entry))) (now (names .entry)) ⌝ }
+{
+    let resources_at = parts::resources_at(c);
+    let sections_at = parts::sections_at(c);
+    parts::parts_code(
+        &file[16..],
+        &file[resources_at..],
+        &file[sections_at..],
+        names,
+        c,
+    )
+}
+
+// The first of 3 and 5 to 9 that values break, 0 for none. The rows are put into a file of their own, with no names, and
+// checked there as the parts of any file are; a tag that has no room in a row breaks 5, which comes before all but 3.
+pub fn values_code(c: Counts, rows: Rows, names: &[u8]) -> u8
+    ensures { λ k. ⌜ k ≡ valuesCode c rows (now (names .entry)) ⌝ }
+{
+    if !rows::counts_ok(c) {
+        return 3;
+    }
+    let tasks = rows.tasks;
+    if !tags_ok(tasks, folds::wide(c.tasks)) {
+        return 5;
+    }
+    let mut file = [0u8; 1612];
+    put_file(c, rows, &names[0..0], &mut file);
+    file_code(&file, names, c)
 }
 
 // Writes the plan of these values at the front of the buffer, or refuses it and leaves the buffer as it was.
@@ -187,7 +234,7 @@ pub fn write(c: Counts, rows: Rows, names: &[u8], buf: &mut [u8]) -> WriteAnswer
     ensures { λ r. ⌜ now (buf .exit) ≡ written c rows (now (names .entry)) (now (buf .entry)) ⌝ }
     ensures { λ r. ⌜ told r ≡ writeTold c rows (now (names .entry)) (length (now (buf .entry))) ⌝ }
 {
-    let code = rows::values_code(c, rows, names);
+    let code = values_code(c, rows, names);
     if code != 0 {
         return WriteAnswer::Refused(code);
     }

@@ -1,22 +1,21 @@
--- What counts and rows that keep their rules have, and the laws of the tables of tags and places seen, of sums by task and of the numbers of names.
+-- What counts, rows and lengths that keep their rules have, and the laws of the numbers of names.
 use Prim.Native.Nat.{ℕ, _+_, _-_, _*_, _/_, _<_, _≤_}
 use mathlib.Core.Bool.{Bool, true, false, cond, _&&_, not}
 use mathlib.Core.List.{List}
 use mathlib.Core.Path.{_≡_, refl, sym, ap, ap₂, _∙_}
 use native.Mathlib.Nat.{add-zero, add-assoc}
 use native.Mathlib.Omega.{arith}
-use borrow.Author.Tests.{ltb-true, ltb-false, leb-true, eq-eqb, ne-eqb, eqb-true, eqb-false, not-true}
+use borrow.Author.Tests.{le-leb, ltb-true, ltb-false, leb-true, eq-eqb, ne-eqb, eqb-true, eqb-false, not-true}
 use lib.Dec.{leb, ltb, eqb}
 use lib.ListN.{length, getD, replicate}
-use Rattle.folds.proofs.Tests.{and-parts, all-at, all-from, all-same}
+use Rattle.folds.proofs.Tests.{and-parts, all-at, all-from}
 use Rattle.folds.specs.Bytes.{number}
-use Rattle.folds.proofs.Figures.{sum-bound}
 use Rattle.folds.proofs.RowLaws.{number-same}
-use Rattle.folds.proofs.Arrays.{by-eq, placed-at, markedBelow, marked-new, gatheredBelow, gathered-length, gathered-at}
+use Rattle.folds.proofs.Arrays.{by-eq, placed-at}
 use Rattle.rows.specs.declared.Counts.{Counts}
 use Rattle.rows.specs.declared.TaskRow.{TaskRow}
 use Rattle.rows.specs.declared.SectionRow.{SectionRow}
-use Rattle.rows.specs.Rules.{taskOf, sectionOf, countsOk, taskOk, tasksOk, sectionOk, sectionsOk, tagNew, priorityNew, sectionSum, lengthOf, startOf, lengthsOk, sameBytes, differ, nameNew, namesDiffer}
+use Rattle.rows.specs.Rules.{taskOf, countsOk, taskOk, tasksOk, tagsOk, sectionOk, lengthOf, startOf, lengthsOk, sameBytes, differ, nameNew, namesDiffer}
 use Rattle.rows.specs.Prints.{printOf, printsOf, numberNew, numbersDiffer}
 
 -- counts in their ranges
@@ -73,6 +72,11 @@ pub task-at : (n p i : ℕ) (tasks : List TaskRow) → tasksOk n p tasks ≡ tru
 unfolding tasksOk
 task-at n p i tasks h l = task-facts p (taskOf tasks i) (all-at n i (λ k. taskOk p (taskOf tasks k)) h l)
 
+-- tasks that keep their rule have tags of one byte
+pub tags-kept : (n p : ℕ) (tasks : List TaskRow) → tasksOk n p tasks ≡ true → tagsOk n tasks ≡ true
+unfolding tagsOk
+tags-kept n p tasks h = all-from n _ (λ i l. le-leb _ _ (task-at n p i tasks h l .tag))
+
 -- a section that keeps its rule in a plan of n tasks and r resources
 pub record Section (n r : ℕ) (s : SectionRow) : Type 0 where
   pub task : s .task < n
@@ -92,74 +96,12 @@ section-facts n r s h =
       high = leb-true _ _ (d .1);
     }
 
-pub section-at : (s n r i : ℕ) (sections : List SectionRow) → sectionsOk s n r sections ≡ true → i < s → Section n r (sectionOf sections i)
-unfolding sectionsOk
-section-at s n r i sections h l =
-    section-facts n r (sectionOf sections i) (all-at s i (λ k. sectionOk n r (sectionOf sections k)) h l)
-
--- the table of the sums of lengths by task, of the sections below i
-abbrev pub sumsBelow : ℕ → List SectionRow → List ℕ
-sumsBelow i sections =
-    gatheredBelow i (λ k. sectionOf sections k .task) (λ k. sectionOf sections k .length) (replicate 64 0)
-
-pub sums-at : (i t : ℕ) (sections : List SectionRow) → t < 64 → getD (sumsBelow i sections) t 0 ≡ sectionSum i sections t
-unfolding sectionSum
-sums-at i t sections l =
-    gathered-at i 64 (λ k. sectionOf sections k .task) (λ k. sectionOf sections k .length) t l
-
--- what stands in it is small where the sections keep their rule
-pub sums-small : (s n r i t : ℕ) (sections : List SectionRow) {l : List ℕ} → sectionsOk s n r sections ≡ true → i ≤ s → l ≡ sumsBelow i sections → t < 64 → getD l t 0 ≤ i * 1000
-unfolding sectionSum
-sums-small s n r i t sections h le e less =
-    rw (e, sums-at i t sections less)
-    (sum-bound i 1000 (λ k. cond (eqb (sectionOf sections k .task) t) (sectionOf sections k .length) 0)
-    (λ k lt. part (eqb (sectionOf sections k .task) t) (sectionOf sections k .length) (section-at s n r k sections h (omega arith) .high)))
-  where
-    part : (b : Bool) (m : ℕ) → m ≤ 1000 → cond b m 0 ≤ 1000
-    part true m h = h
-    part false m h = omega arith
-
--- what the loop returns
-pub sums-done : (s i : ℕ) (sections : List SectionRow) {l : List ℕ} → i ≡ s → l ≡ sumsBelow i sections → (length l ≡ 64) × ((t : ℕ) → t < 64 → getD l t 0 ≡ sectionSum s sections t)
-sums-done s i sections e p = (
-  rw p (gathered-length i (λ k. sectionOf sections k .task) (λ k. sectionOf sections k .length) (replicate 64 0)),
-  λ t less. rw (p, e) (sums-at s t sections less),
-)
-
 -- a processor and a priority below 256 as one number
 pub place-eqb : (p q a b : ℕ) → a < 256 → b < 256 → eqb (p * 256 + a) (q * 256 + b) ≡ (eqb p q && eqb a b)
 place-eqb p q a b la lb =
     by-eq (λ (t : Bool). eqb (p * 256 + a) (q * 256 + b) ≡ (t && eqb a b)) p q
     (λ e. by-eq (λ (t : Bool). eqb (p * 256 + a) (q * 256 + b) ≡ t) a b (λ f. eq-eqb (p * 256 + a) (q * 256 + b) (omega arith)) (λ d. ne-eqb (p * 256 + a) (q * 256 + b) (λ f. d (omega arith))))
     (λ d. ne-eqb (p * 256 + a) (q * 256 + b) (λ f. d (omega arith)))
-
--- the place of task k's processor and priority in the table of those seen
-abbrev pub placeOf : List TaskRow → ℕ → ℕ
-placeOf tasks k = taskOf tasks k .processor * 256 + taskOf tasks k .priority
-
--- the tables of the tags and of the places of the tasks below i
-abbrev pub tagsBelow : ℕ → List TaskRow → List ℕ
-tagsBelow i tasks = markedBelow i (λ k. taskOf tasks k .tag) (replicate 256 0)
-
-abbrev pub placesBelow : ℕ → List TaskRow → List ℕ
-placesBelow i tasks = markedBelow i (placeOf tasks) (replicate 2048 0)
-
-pub tag-seen : (i : ℕ) (tasks : List TaskRow) → taskOf tasks i .tag < 256 → eqb (getD (tagsBelow i tasks) (taskOf tasks i .tag) 0) 0 ≡ tagNew tasks i
-unfolding tagNew
-tag-seen i tasks l = marked-new i 256 (λ k. taskOf tasks k .tag) (taskOf tasks i .tag) l
-
-pub place-seen : (i : ℕ) (tasks : List TaskRow) → placeOf tasks i < 2048 → ((k : ℕ) → k < i + 1 → taskOf tasks k .priority < 256) → eqb (getD (placesBelow i tasks) (placeOf tasks i) 0) 0 ≡ priorityNew tasks i
-unfolding priorityNew
-place-seen i tasks l h =
-    marked-new i 2048 (placeOf tasks) (placeOf tasks i) l
-    ∙ all-same i
-    (λ k. not (eqb (placeOf tasks i) (placeOf tasks k)))
-    (λ k. not (eqb (taskOf tasks i .processor) (taskOf tasks k .processor) && eqb (taskOf tasks i .priority) (taskOf tasks k .priority)))
-    (λ k less. ap not (place-eqb (taskOf tasks i .processor) (taskOf tasks k .processor) (taskOf tasks i .priority) (taskOf tasks k .priority) (h i (omega arith)) (h k (omega arith))))
-
--- the test that a turn of the loop makes
-pub both-seen : (i : ℕ) (tasks : List TaskRow) {tags places : List ℕ} → tags ≡ tagsBelow i tasks → places ≡ placesBelow i tasks → taskOf tasks i .tag < 256 → placeOf tasks i < 2048 → ((k : ℕ) → k < i + 1 → taskOf tasks k .priority < 256) → (eqb (getD tags (taskOf tasks i .tag) 0) 0 && eqb (getD places (placeOf tasks i) 0) 0) ≡ (tagNew tasks i && priorityNew tasks i)
-both-seen i tasks p q l m h = rw (p, q) (ap₂ _&&_ (tag-seen i tasks l) (place-seen i tasks m h))
 
 -- a name length that keeps its rule
 pub record Length (l : ℕ) : Type 0 where

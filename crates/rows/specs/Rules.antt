@@ -54,6 +54,10 @@ taskOk p t =
 unfoldable pub tasksOk : ℕ → ℕ → List TaskRow → Bool
 tasksOk n p tasks = allBelow n (λ i. taskOk p (taskOf tasks i))
 
+-- 5. The tag of each of n tasks has one byte
+unfoldable pub tagsOk : ℕ → List TaskRow → Bool
+tagsOk n tasks = allBelow n (λ i. leb (taskOf tasks i .tag) 255)
+
 -- 6. Task i's tag is that of no earlier task
 unfoldable pub tagNew : List TaskRow → ℕ → Bool
 tagNew tasks i = allBelow i (λ j. not (eqb (taskOf tasks i .tag) (taskOf tasks j .tag)))

@@ -1,9 +1,8 @@
 // A plan's rows by value, and the rules that they keep, whether they come from a file or go into one.
 ghost use mathlib.Core.Path.{_≡_};
-ghost use Rattle.rows.specs.Rules.{countsOk, taskOk, sectionOk, rowsCode, valuesCode};
-ghost use mathlib.Core.Bool.{true};
+ghost use Rattle.rows.specs.Rules.{countsOk, taskOk, sectionOk};
 
-pub mod checks;
+pub mod names;
 
 // A task: its tag, period T, execution time C, processor and priority. The wide fields stand first, so that no byte is lost
 // between them.
@@ -66,42 +65,4 @@ pub fn section_ok(s: SectionRow, n: u8, r: u8) -> bool
     ensures { λ b. ⌜ b ≡ sectionOk n r s ⌝ }
 {
     (s.task < n) & (s.resource < r) & (1 <= s.length) & (s.length <= 1000)
-}
-
-// The first of 5 to 9 that rows and names break, 0 for none.
-fn rows_code(c: Counts, rows: Rows, names: &[u8]) -> u8
-    requires { ⌜ countsOk c ≡ true ⌝ }
-    ensures { λ k. ⌜ k ≡ rowsCode c rows (now (names .entry)) ⌝ }
-{
-    let n = folds::wide(c.tasks);
-    let tasks = rows.tasks;
-    if !checks::tasks_ok(tasks, n, c.processors) {
-        return 5;
-    }
-    if !checks::unique_ok(tasks, n, c.processors) {
-        return 6;
-    }
-    let lengths = rows.lengths;
-    if !checks::names_ok(lengths, folds::wide(c.resources), names) {
-        return 7;
-    }
-    let s = c.sections as usize;
-    let sections = rows.sections;
-    if !checks::sections_ok(sections, s, c.tasks, c.resources) {
-        return 8;
-    }
-    if !checks::sums_ok(tasks, sections, c.tasks, s, c.resources) {
-        return 9;
-    }
-    0
-}
-
-// The first of 3 and 5 to 9 that values break, 0 for none.
-pub fn values_code(c: Counts, rows: Rows, names: &[u8]) -> u8
-    ensures { λ k. ⌜ k ≡ valuesCode c rows (now (names .entry)) ⌝ }
-{
-    if !counts_ok(c) {
-        return 3;
-    }
-    rows_code(c, rows, names)
 }

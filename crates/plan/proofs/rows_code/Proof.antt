@@ -1,57 +1,117 @@
--- Each return is the branch of the definition; what a callee requires is what the checks before it gave.
-use mathlib.Core.Path.{_≡_, sym, ap, _∙_}
+-- Each part begins where the counts say, and the header's checks gave that it lies in the file.
+use mathlib.Core.Path.{_≡_, ap, _∙_}
 use native.Mathlib.Omega.{arith}
 use borrow.Author.Needs.{needs}
-use lib.ListN.{drop, length-drop}
+use lib.ListN.{length-drop}
 use Rattle.folds.proofs.Parts.{part-rest}
 use Rattle.rows.specs.declared.Counts.{Counts}
-use Rattle.parts.specs.Layout.{countsOf, tasksAt, taskCode}
-use Rattle.plan.proofs.Laws.{header-facts, tasks-fail, tasks-hold}
+use Rattle.parts.specs.Layout.{resourcesAt, sectionsAt, namesAt}
+use Rattle.plan.proofs.Laws.{header-facts}
 use Rattle.plan.proofs.rows_code.Statement.{statement}
 use Rattle.plan.proofs.rows_code.Tie as tie
 
--- what the task rows gave, said of the file
-code-read : (c : tie.After-task-code) → c .task-code .result ≡ taskCode (countsOf (c .before .before .before .before .args .file .now) .tasks) (countsOf (c .before .before .before .before .args .file .now) .processors) (drop tasksAt (c .before .before .before .before .args .file .now))
-code-read c = rw (part-rest, c .before .before .wide .ensures .0, c .before .before .before .before .pre .1) at (c .task-code .ensures)
+resources-at-requires : tie.Need-resources-at-requires
+resources-at-requires c κs = search needs
 
-wide-requires : tie.Need-wide-requires
-wide-requires c κs = search needs
+sections-at-requires : tie.Need-sections-at-requires
+sections-at-requires c κs = search needs
 
-sub-task-code : tie.Need-sub-task-code
-sub-task-code c = omega (arith, header-facts _ (c .before .before .pre .0) .long)
+names-at-requires : tie.Need-names-at-requires
+names-at-requires c κs = search needs
 
-part-task-code-start : tie.Need-part-task-code-start
-part-task-code-start c = omega (arith, header-facts _ (c .before .before .pre .0) .long)
+sub-parts-code : tie.Need-sub-parts-code
+sub-parts-code c = omega (arith, header-facts _ (c .before .before .before .before .pre .0) .long)
 
-part-task-code-end : tie.Need-part-task-code-end
-part-task-code-end c = search needs
+part-parts-code-start : tie.Need-part-parts-code-start
+part-parts-code-start c = omega (arith, header-facts _ (c .before .before .before .before .pre .0) .long)
 
-task-code-requires : tie.Need-task-code-requires
-task-code-requires c κs =
-    let a = c .before .before .before in
+part-parts-code-end : tie.Need-part-parts-code-end
+part-parts-code-end c = search needs
+
+sub-parts-code-2 : tie.Need-sub-parts-code-2
+sub-parts-code-2 c =
+    let a = c .before .before .before .before .before in
     let h = header-facts _ (a .pre .0) in
-    let t = c .before .wide .ensures .0 ∙ ap (λ (k : Counts). k .tasks) (a .pre .1) in
-    let p = ap (λ (k : Counts). k .processors) (a .pre .1) in
-    simp (part-rest, length-drop) (omega (arith, h .ranges .tasks, h .ranges .processors, h .ends))
+    let e = c .before .before .before .resources-at .ensures ∙ ap resourcesAt (a .pre .1) in
+    omega (arith, h .ends)
+
+part-parts-code-start-2 : tie.Need-part-parts-code-start-2
+part-parts-code-start-2 c =
+    let a = c .before .before .before .before .before in
+    let h = header-facts _ (a .pre .0) in
+    let e = c .before .before .before .resources-at .ensures ∙ ap resourcesAt (a .pre .1) in
+    omega (arith, h .ends)
+
+part-parts-code-end-2 : tie.Need-part-parts-code-end-2
+part-parts-code-end-2 c = search needs
+
+sub-parts-code-3 : tie.Need-sub-parts-code-3
+sub-parts-code-3 c =
+    let a = c .before .before .before .before .before .before in
+    let h = header-facts _ (a .pre .0) in
+    let e = c .before .before .before .sections-at .ensures ∙ ap sectionsAt (a .pre .1) in
+    omega (arith, h .ends)
+
+part-parts-code-start-3 : tie.Need-part-parts-code-start-3
+part-parts-code-start-3 c =
+    let a = c .before .before .before .before .before .before in
+    let h = header-facts _ (a .pre .0) in
+    let e = c .before .before .before .sections-at .ensures ∙ ap sectionsAt (a .pre .1) in
+    omega (arith, h .ends)
+
+part-parts-code-end-3 : tie.Need-part-parts-code-end-3
+part-parts-code-end-3 c = search needs
+
+sub-parts-code-4 : tie.Need-sub-parts-code-4
+sub-parts-code-4 c =
+    let a = c .before .before .before .before .before .before .before in
+    let h = header-facts _ (a .pre .0) in
+    let e = c .before .before .before .names-at .ensures ∙ ap namesAt (a .pre .1) in
+    omega (arith, h .ends)
+
+part-parts-code-start-4 : tie.Need-part-parts-code-start-4
+part-parts-code-start-4 c =
+    let a = c .before .before .before .before .before .before .before in
+    let h = header-facts _ (a .pre .0) in
+    let e = c .before .before .before .names-at .ensures ∙ ap namesAt (a .pre .1) in
+    omega (arith, h .ends)
+
+part-parts-code-end-4 : tie.Need-part-parts-code-end-4
+part-parts-code-end-4 c = search needs
+
+parts-code-requires : tie.Need-parts-code-requires
+parts-code-requires c κs =
+    let a = c .before .before .before .before .before .before .before .before in
+    let h = header-facts _ (a .pre .0) in
+    let t = ap (λ (k : Counts). k .tasks) (a .pre .1) in
+    let q = ap (λ (k : Counts). k .resources) (a .pre .1) in
+    let s = ap (λ (k : Counts). k .sections) (a .pre .1) in
+    let r = c .before .before .before .before .before .before .resources-at .ensures ∙ ap resourcesAt (a .pre .1) in
+    let w = c .before .before .before .before .before .sections-at .ensures ∙ ap sectionsAt (a .pre .1) in
+    (rw (a .pre .1) (h .counts), simp (part-rest, length-drop) (omega (arith, h .ends)), simp (part-rest, length-drop) (omega (arith, h .ends)), simp (part-rest, length-drop) (omega (arith, h .ends)))
 
 returns : tie.Need-returns
-returns c = sym (tasks-fail _ (code-read (c .before)) (c .if1 .taken))
-
-rest-code-requires : tie.Need-rest-code-requires
-rest-code-requires c κs = search needs
-
-returns-2 : tie.Need-returns-2
-returns-2 c = c .rest-code .ensures ∙ sym (tasks-hold _ (code-read (c .before .before)) (c .before .if1 .left))
+returns c =
+    rw (part-rest, part-rest, part-rest, part-rest, c .before .before .before .before .before .names-at .ensures, c .before .before .before .before .before .before .sections-at .ensures, c .before .before .before .before .before .before .before .resources-at .ensures, c .before .before .before .before .before .before .before .before .before .pre .1) at (c .parts-code .ensures)
 
 pub rows-code-spec : {M : Type 1} → statement M
 rows-code-spec =
     tie.close
     (tie.spec
-    wide-requires
-    sub-task-code
-    part-task-code-start
-    part-task-code-end
-    task-code-requires
-    returns
-    rest-code-requires
-    returns-2)
+    resources-at-requires
+    sections-at-requires
+    names-at-requires
+    sub-parts-code
+    part-parts-code-start
+    part-parts-code-end
+    sub-parts-code-2
+    part-parts-code-start-2
+    part-parts-code-end-2
+    sub-parts-code-3
+    part-parts-code-start-3
+    part-parts-code-end-3
+    sub-parts-code-4
+    part-parts-code-start-4
+    part-parts-code-end-4
+    parts-code-requires
+    returns)

@@ -4,8 +4,10 @@ use mathlib.Core.Path.{refl, _∙_}
 use native.Mathlib.Omega.{arith}
 use borrow.Author.Needs.{needs}
 use lib.ListN.{length, length-take, length-drop}
+use Rattle.rows.proofs.Laws.{counts-facts}
 use Rattle.plan_write.specs.Encode.{headerBytes, fileOf}
-use Rattle.plan_write.proofs.Put.{Front, put-front, part-more, rows-part, header-length, task-length, resource-length, section-length, sized}
+use Rattle.plan_write.proofs.Put.{Front, put-front, part-more, rows-part, task-length, resource-length, section-length}
+use Rattle.plan_write.proofs.Values.{header-length}
 use Rattle.plan_write.proofs.put_file.Statement.{statement}
 use Rattle.plan_write.proofs.put_file.Tie as tie
 
@@ -27,8 +29,8 @@ add-put-header c = search needs
 put-header-requires : tie.Need-put-header-requires
 put-header-requires c κs =
     let a = c .before .before .before .before .before .before .before .before .before .before in
-    let k = sized (a .args .c) (a .args .rows) (a .args .names .now) (a .pre .0) in
-    (omega arith, omega arith, k .rules .counts)
+    let g = counts-facts (a .args .c) (a .pre .0) in
+    (omega arith, omega arith, a .pre .0)
 
 sub-put-tasks : tie.Need-sub-put-tasks
 sub-put-tasks c = search needs
@@ -45,8 +47,8 @@ wide-requires c κs = search needs
 put-tasks-requires : tie.Need-put-tasks-requires
 put-tasks-requires c κs =
     let a = c .before .before .before .before .before .before .before .before .before .before .before .before .before .before .before in
-    let k = sized (a .args .c) (a .args .rows) (a .args .names .now) (a .pre .0) in
-    (omega arith, simp (length-take, length-drop) (omega arith), rw (c .wide .ensures .0) (k .rules .tasks))
+    let g = counts-facts (a .args .c) (a .pre .0) in
+    (omega arith, simp (length-take, length-drop) (omega arith), rw (c .wide .ensures .0) (a .pre .1))
 
 sub-put-resources : tie.Need-sub-put-resources
 sub-put-resources c = search needs
@@ -63,7 +65,7 @@ wide-requires-2 c κs = search needs
 put-resources-requires : tie.Need-put-resources-requires
 put-resources-requires c κs =
     let a = c .before .before .before .before .before .before .before .before .before .before .before .before .before .before .before .before .before .before .before .before in
-    let k = sized (a .args .c) (a .args .rows) (a .args .names .now) (a .pre .0) in
+    let g = counts-facts (a .args .c) (a .pre .0) in
     (omega arith, search needs)
 
 sub-put-sections : tie.Need-sub-put-sections
@@ -79,8 +81,8 @@ put-sections-requires : tie.Need-put-sections-requires
 put-sections-requires c κs =
     let e = c .before .before .before .before .before .before .before .before .before .before .before .before .before .before .before .before .before .before .before .before .sections-at .ensures in
     let a = c .before .before .before .before .before .before .before .before .before .before .before .before .before .before .before .before .before .before .before .before .before .before .before .before in
-    let k = sized (a .args .c) (a .args .rows) (a .args .names .now) (a .pre .0) in
-    (omega arith, omega (arith, a .pre .1))
+    let g = counts-facts (a .args .c) (a .pre .0) in
+    (omega arith, omega (arith, a .pre .2))
 
 sub-put-names : tie.Need-sub-put-names
 sub-put-names c = search needs
@@ -109,7 +111,7 @@ returns c =
     let a = o .before .before .before .before .before in
     let rows = a .args .rows in
     let names = a .args .names .now in
-    let room = a .pre .1 in
+    let room = a .pre .2 in
     let names-at = o .names-at in
     let sections-at = o .before .sections-at in
     let resources-at = o .before .before .resources-at in

@@ -4,17 +4,16 @@ use mathlib.Core.Path.{refl}
 use native.Mathlib.Omega.{arith}
 use lib.ListN.{length-take, length-drop}
 use Rattle.folds.specs.Bytes.{bytesBelow}
-use Rattle.rows.proofs.Laws.{task-at}
 use Rattle.plan_write.specs.Encode.{taskBytes}
-use Rattle.plan_write.proofs.Put.{Front, put-front, rows-more, rows-all, task-length}
+use Rattle.plan_write.proofs.Put.{Front, put-front, rows-more, rows-all, task-length, tag-at}
 use Rattle.plan_write.proofs.put_tasks.Statement.{statement}
 use Rattle.plan_write.proofs.put_tasks.Tie as tie
 
 abbrev Inv-loop : tie.InvT-loop
-Inv-loop buf₀ n p tasks i₀ buf i = (i ≤ n) × Front (bytesBelow i (taskBytes tasks)) (i * 8) buf₀ buf
+Inv-loop buf₀ n tasks i₀ buf i = (i ≤ n) × Front (bytesBelow i (taskBytes tasks)) (i * 8) buf₀ buf
 
 abbrev μ-loop : tie.MeasureT-loop
-μ-loop buf₀ n p tasks i₀ buf i = n - i
+μ-loop buf₀ n tasks i₀ buf i = n - i
 
 loop-holds : tie.Need-loop-holds Inv-loop μ-loop
 unfolding bytesBelow
@@ -41,7 +40,7 @@ part-put-task-end c = omega arith
 put-task-requires : tie.Need-put-task-requires Inv-loop μ-loop
 put-task-requires c κs =
     let a = c .before .before .before .before .before in
-    (simp (length-take, length-drop) (omega arith), omega (arith, task-at _ _ _ _ (a .pre .2) (c .before .before .loop-test .taken) .tag))
+    (simp (length-take, length-drop) (omega arith), omega (arith, tag-at _ _ _ (a .pre .2) (c .before .before .loop-test .taken)))
 
 add-i : tie.Need-add-i Inv-loop μ-loop
 add-i c = omega arith

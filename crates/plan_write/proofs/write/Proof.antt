@@ -1,9 +1,10 @@
 -- Each return is the case of the definition; the length fits 16 bits, since the counts and the names do.
 use Prim.Native.Nat.{ℕ, _+_, _<_, _≤_}
-use mathlib.Core.Path.{_≡_, sym, ap, _∙_}
+use mathlib.Core.Path.{sym, ap, _∙_}
 use native.Mathlib.Omega.{arith}
 use borrow.Author.Needs.{needs}
 use lib.ListN.{length}
+use Rattle.rows.proofs.Laws.{tags-kept}
 use Rattle.plan_write.specs.declared.WriteAnswer.the-variants.{Written}
 use Rattle.plan_write.specs.Encode.{fileLength, told}
 use Rattle.plan_write.proofs.Put.{sized}
@@ -35,7 +36,9 @@ returns-2 c =
     (sym (o .0), (sym (o .1), ap told (sym (o .0)) ∙ writing-told _ _ _ _))
 
 put-file-requires : tie.Need-put-file-requires
-put-file-requires c κs = search needs
+put-file-requires c κs =
+    let z = sized _ _ _ (sym (c .before .before .before .before .values-code .ensures) ∙ c .before .before .before .if1 .left) in
+    (z .rules .counts, tags-kept _ _ _ (z .rules .tasks), omega arith, z .short)
 
 cast-t13 : tie.Need-cast-t13
 cast-t13 c =

@@ -1,0 +1,53 @@
+-- The invariant: the test is that of all tags passed.
+use Prim.Native.Nat.{_≤_, _-_}
+use mathlib.Core.Path.{_≡_, refl}
+use native.Mathlib.Omega.{arith}
+use Rattle.folds.specs.Below.{allBelow}
+use Rattle.folds.proofs.Tests.{all-step, all-done}
+use Rattle.rows.specs.Rules.{tagsOk}
+use Rattle.plan_write.proofs.tags_ok.Statement.{statement}
+use Rattle.plan_write.proofs.tags_ok.Tie as tie
+
+abbrev Inv-loop : tie.InvT-loop
+Inv-loop n tasks ok₀ i₀ ok i = (i ≤ n) × (ok ≡ tagsOk i tasks)
+
+abbrev μ-loop : tie.MeasureT-loop
+μ-loop n tasks ok₀ i₀ ok i = n - i
+
+loop-holds : tie.Need-loop-holds Inv-loop μ-loop
+unfolding tagsOk allBelow
+loop-holds c = (omega arith, refl)
+
+mul-task : tie.Need-mul-task Inv-loop μ-loop
+mul-task c = omega arith
+
+array-copy-out-task : tie.Need-array-copy-out-task Inv-loop μ-loop
+array-copy-out-task c = omega arith
+
+add-i : tie.Need-add-i Inv-loop μ-loop
+add-i c = omega arith
+
+loop-less : tie.Need-loop-less Inv-loop μ-loop
+loop-less c = omega arith
+
+loop-again : tie.Need-loop-again Inv-loop μ-loop
+unfolding tagsOk
+loop-again c = (omega arith, all-step _ _ (c .before .before .before .loop .inv .1) refl)
+
+returns : tie.Need-returns Inv-loop μ-loop
+unfolding tagsOk
+returns c = all-done _ (c .before .loop .i) _ (omega arith) (c .before .loop .inv .1)
+
+pub tags-ok-spec : {M : Type 1} → statement M
+tags-ok-spec =
+    tie.close
+    (tie.spec
+    Inv-loop
+    μ-loop
+    loop-holds
+    mul-task
+    array-copy-out-task
+    add-i
+    loop-less
+    loop-again
+    returns)

@@ -1,0 +1,63 @@
+-- The loop's invariant: `ok` says whether the number differs from those below `j`.
+use Prim.Native.Nat.{_-_, _≤_}
+use mathlib.Core.Bool.{not}
+use mathlib.Core.Path.{_≡_, refl}
+use native.Mathlib.Omega.{arith}
+use lib.Dec.{eqb}
+use lib.ListN.{getD}
+use Rattle.folds.specs.Below.{allBelow}
+use Rattle.folds.proofs.Tests.{all-step, all-done}
+use Rattle.rows.specs.Prints.{numberNew}
+use Rattle.rows.proofs.names.print_is_new.Statement.{statement}
+use Rattle.rows.proofs.names.print_is_new.Tie as tie
+
+abbrev Inv-loop : tie.InvT-loop
+Inv-loop i found own ok₀ j₀ ok j = (j ≤ i) × (ok ≡ allBelow j (λ k. not (eqb (getD found i 0) (getD found k 0))))
+
+abbrev μ-loop : tie.MeasureT-loop
+μ-loop i found own ok₀ j₀ ok j = i - j
+
+mul-own : tie.Need-mul-own Inv-loop μ-loop
+mul-own c = omega arith
+
+array-read-own : tie.Need-array-read-own Inv-loop μ-loop
+array-read-own c = omega arith
+
+loop-holds : tie.Need-loop-holds Inv-loop μ-loop
+unfolding allBelow
+loop-holds c = (omega arith, refl)
+
+mul-ok : tie.Need-mul-ok Inv-loop μ-loop
+mul-ok c = omega arith
+
+array-read-ok : tie.Need-array-read-ok Inv-loop μ-loop
+array-read-ok c = omega arith
+
+add-j : tie.Need-add-j Inv-loop μ-loop
+add-j c = omega arith
+
+loop-less : tie.Need-loop-less Inv-loop μ-loop
+loop-less c = omega arith
+
+loop-again : tie.Need-loop-again Inv-loop μ-loop
+loop-again c = (omega arith, all-step _ _ (c .before .loop .inv .1) refl)
+
+returns : tie.Need-returns Inv-loop μ-loop
+unfolding numberNew
+returns c = all-done _ (c .before .loop .j) _ (omega arith) (c .before .loop .inv .1)
+
+pub print-is-new-spec : {M : Type 1} → statement M
+print-is-new-spec =
+    tie.close
+    (tie.spec
+    Inv-loop
+    μ-loop
+    mul-own
+    array-read-own
+    loop-holds
+    mul-ok
+    array-read-ok
+    add-j
+    loop-less
+    loop-again
+    returns)
