@@ -138,6 +138,10 @@ partsCode c tasks resources sections names =
     (cond (uniqueOk (c .tasks) (taskRows (c .tasks) tasks)) (restCode c tasks resources sections names) 6)
     5
 
+-- the same of rows that stand in a file at their offsets: each group is the part of the file that begins at its offset
+abbrev pub fileCode : Counts → List ℕ → List ℕ → ℕ
+fileCode c f names = partsCode c (drop tasksAt f) (drop (resourcesAt c) f) (drop (sectionsAt c) f) names
+
 -- a file's task rows
 abbrev pub tasksOf : List ℕ → List TaskRow
 tasksOf f = taskRows (countsOf f .tasks) (drop tasksAt f)

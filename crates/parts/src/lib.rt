@@ -9,7 +9,7 @@ ghost use lib.ListN.{length, replicate};
 ghost use Rattle.folds.specs.Bytes.{number, placedBelow};
 ghost use mathlib.Core.Bool.{true};
 ghost use Rattle.rows.specs.Rules.{countsOk, noTask, noSection};
-ghost use Rattle.parts.specs.Layout.{countsOf, offsetsOk, resourcesAt, sectionsAt, namesAt, taskOf, taskAt, taskSpare, sectionAt, startAt, lengthAt, resourceSpare, taskCode, lengthRowsOk, sectionRowsOk, sumsFit, sectionCode, restCode, partsCode, taskRows, lengthRows, sectionRows};
+ghost use Rattle.parts.specs.Layout.{countsOf, offsetsOk, resourcesAt, sectionsAt, namesAt, taskOf, taskAt, taskSpare, sectionAt, startAt, lengthAt, resourceSpare, taskCode, lengthRowsOk, sectionRowsOk, sumsFit, sectionCode, restCode, partsCode, fileCode, taskRows, lengthRows, sectionRows};
 
 // The name lengths of a part, and whether its rows follow one another as they should.
 pub struct LoadedLengths {
@@ -314,7 +314,7 @@ fn rest_code(tasks: &[u8], resources: &[u8], sections: &[u8], names: &[u8], c: C
 }
 
 // 5 to 9, on the parts of the file that begin at their offsets: the first that fails, 0 for none.
-pub fn parts_code(tasks: &[u8], resources: &[u8], sections: &[u8], names: &[u8], c: Counts) -> u8
+fn parts_code(tasks: &[u8], resources: &[u8], sections: &[u8], names: &[u8], c: Counts) -> u8
     requires { ⌜ (countsOk c ≡ true) × (c .tasks * 8 ≤ length (now tasks)) × (c .resources * 4 ≤ length (now resources)) × (c .sections * 4 ≤ length (now sections)) ⌝ }
     ensures { λ k. ⌜ k ≡ partsCode c (now (tasks .entry)) (now (resources .entry)) (now (sections .entry)) (now (names .entry)) ⌝ }
 {
@@ -323,4 +323,21 @@ pub fn parts_code(tasks: &[u8], resources: &[u8], sections: &[u8], names: &[u8],
         return code;
     }
     rest_code(tasks, resources, sections, names, c)
+}
+
+// 5 to 9, of rows that stand in a file at their offsets, with these names: the first that fails, 0 for none. Each group of rows
+// is handed on as the part of the file that begins at its offset.
+pub fn file_code(file: &[u8], names: &[u8], c: Counts) -> u8
+    requires { ⌜ (countsOk c ≡ true) × (namesAt c ≤ length (now file)) ⌝ }
+    ensures { λ k. ⌜ k ≡ fileCode c (now (file .entry)) (now (names .entry)) ⌝ }
+{
+    let resources_at = resources_at(c);
+    let sections_at = sections_at(c);
+    parts_code(
+        &file[16..],
+        &file[resources_at..],
+        &file[sections_at..],
+        names,
+        c,
+    )
 }

@@ -11,7 +11,7 @@ use Rattle.rows.specs.declared.Rows.{Rows}
 use Rattle.plan.specs.declared.Reading.{Reading}
 use Rattle.plan.specs.declared.ReadAnswer.{ReadAnswer}
 use Rattle.plan.specs.declared.ReadAnswer.the-variants.{Accepted, Refused}
-use Rattle.parts.specs.Layout.{countsOf, tasksAt, resourcesAt, sectionsAt, namesAt, offsetsOk, partsCode, rowsOf, namesOf, startAt, lengthAt}
+use Rattle.parts.specs.Layout.{countsOf, tasksAt, resourcesAt, sectionsAt, namesAt, offsetsOk, fileCode, rowsOf, namesOf, startAt, lengthAt}
 
 -- 1, fewer than 16 bytes or not the length in bytes 14-15; 2, edition; 3, a count beyond its range; 4, an offset
 unfoldable pub headerCode : List ℕ → ℕ
@@ -22,10 +22,9 @@ headerCode f =
     1)
 
 -- 5, a task row; 6, a repeated tag, or a priority repeated on a processor; 7, a resource row or name, or two equal names;
--- 8, a section; 9, sections above C: each group of rows as the part of the file that begins at its offset
+-- 8, a section; 9, sections above C
 abbrev pub rowsCode : List ℕ → ℕ
-rowsCode f =
-    partsCode (countsOf f) (drop tasksAt f) (drop (resourcesAt (countsOf f)) f) (drop (sectionsAt (countsOf f)) f) (namesOf f)
+rowsCode f = fileCode (countsOf f) f (namesOf f)
 
 -- the first check that a file fails, 0 for none: each check is made over the whole file before the next
 unfoldable pub refusal : List ℕ → ℕ

@@ -61,22 +61,13 @@ pub fn refused(k: u8) -> Reading
     }
 }
 
-// Checks 5 to 9, of a file that passed those before: the first that fails, 0 for none. Each group of rows is handed on as the
-// part of the file that begins at its offset.
+// Checks 5 to 9, of a file that passed those before: the first that fails, 0 for none.
 fn rows_code(file: &[u8], c: Counts) -> u8
     requires { ⌜ (headerCode (now file) ≡ 0) × (c ≡ countsOf (now file)) ⌝ }
     ensures { λ r. ⌜ r ≡ rowsCode (now (file .entry)) ⌝ }
 {
-    let resources_at = parts::resources_at(c);
-    let sections_at = parts::sections_at(c);
-    let names_at = parts::names_at(c);
-    parts::parts_code(
-        &file[16..],
-        &file[resources_at..],
-        &file[sections_at..],
-        &file[names_at..],
-        c,
-    )
+    let at = parts::names_at(c);
+    parts::file_code(file, &file[at..], c)
 }
 
 // The number of the first check that the file fails, 0 for none.

@@ -12,7 +12,7 @@ ghost use Prim.Native.Nat.{_+_, _*_, _/_, _%_, _≤_, _<_};
 ghost use lib.ListN.{length, drop};
 ghost use Rattle.folds.specs.Bytes.{rowBytes, bytesBelow};
 ghost use Rattle.rows.specs.Rules.{countsOk, tagsOk, valuesCode};
-ghost use Rattle.parts.specs.Layout.{tasksAt, resourcesAt, sectionsAt, namesAt, taskWidths, resourceWidths, sectionWidths, partsCode};
+ghost use Rattle.parts.specs.Layout.{taskWidths, resourceWidths, sectionWidths};
 ghost use Rattle.plan_write.specs.Encode.{headerBytes, taskNumbers, taskBytes, resourceBytes, sectionNumbers, sectionBytes, fileLength, fileOf, writing, written, told, writeTold};
 ghost use Rattle.plan_write.specs.RoundTrip.{readBack, readBackTold, copying, copied, copyTold};
 ghost use Rattle.plan.specs.Reading.{told as readSaid};
@@ -195,22 +195,6 @@ fn put_file(c: Counts, rows: Rows, names: &[u8], buf: &mut [u8])
     put_names(&mut buf[names_at..], names);
 }
 
-// 5 to 9, on the rows of a file and on names that may stand elsewhere: the first that fails, 0 for none.
-fn file_code(file: &[u8], names: &[u8], c: Counts) -> u8
-    requires { ⌜ (countsOk c ≡ true) × (namesAt c ≤ length (now file)) ⌝ }
-    ensures { λ k. ⌜ k ≡ partsCode c (drop tasksAt (now (file .entry))) (drop (resourcesAt c) (now (file .entry))) (drop (sectionsAt c) (now (file .entry))) (now (names .entry)) ⌝ }
-{
-    let resources_at = parts::resources_at(c);
-    let sections_at = parts::sections_at(c);
-    parts::parts_code(
-        &file[16..],
-        &file[resources_at..],
-        &file[sections_at..],
-        names,
-        c,
-    )
-}
-
 // The first of 3 and 5 to 9 that values break, 0 for none. The rows are put into a file of their own, with no names, and
 // checked there as the parts of any file are; a tag that has no room in a row breaks 5, which comes before all but 3.
 pub fn values_code(c: Counts, rows: Rows, names: &[u8]) -> u8
@@ -225,7 +209,7 @@ pub fn values_code(c: Counts, rows: Rows, names: &[u8]) -> u8
     }
     let mut file = [0u8; 1612];
     put_file(c, rows, &names[0..0], &mut file);
-    file_code(&file, names, c)
+    parts::file_code(&file, names, c)
 }
 
 // Writes the plan of these values at the front of the buffer, or refuses it and leaves the buffer as it was.

@@ -1,8 +1,8 @@
 -- Each part begins where the counts say, and lies in the file.
 use borrow.Author.Needs.{needs}
 use Rattle.folds.proofs.Parts.{part-rest}
-use Rattle.plan_write.proofs.file_code.Statement.{statement}
-use Rattle.plan_write.proofs.file_code.Tie as tie
+use Rattle.parts.proofs.file_code.Statement.{statement}
+use Rattle.parts.proofs.file_code.Tie as tie
 
 resources-at-requires : tie.Need-resources-at-requires
 resources-at-requires c κs = search needs
