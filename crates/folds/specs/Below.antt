@@ -1,6 +1,6 @@
 -- Tests, sums, maxima, counts and searches over the numbers below a count.
 use Prim.Native.Nat.{ℕ, zero, suc, _+_, max}
-use mathlib.Core.Bool.{Bool, true, false, cond, _&&_, not}
+use mathlib.Core.Bool.{Bool, true, cond, _&&_}
 use lib.Dec.{ltb}
 
 -- f holds of each number below n

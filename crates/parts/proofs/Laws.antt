@@ -1,13 +1,13 @@
 -- What the rows of a part tell of the rows by value: the same rows, under the same rules.
 use Prim.Native.Nat.{ℕ, _+_, _*_, _<_, _≤_}
-use mathlib.Core.Bool.{Bool, true, _&&_}
+use mathlib.Core.Bool.{true}
 use mathlib.Core.List.{List}
-use mathlib.Core.Path.{_≡_, refl, sym, ap, _∙_}
+use mathlib.Core.Path.{_≡_, ap, _∙_}
 use native.Mathlib.Nat.{add-zero}
 use native.Mathlib.Omega.{arith}
 use lib.Dec.{eqb}
 use lib.ListN.{length, getD, replicate, length-replicate}
-use Rattle.folds.specs.Below.{allBelow, sumBelow}
+use Rattle.folds.specs.Below.{sumBelow}
 use Rattle.folds.proofs.Tests.{all-at, all-from, all-same, and-parts}
 use Rattle.folds.proofs.Figures.{sum-same}
 use Rattle.folds.specs.Bytes.{number, rowAt, fields, width}

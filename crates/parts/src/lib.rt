@@ -5,11 +5,11 @@ use rows::SectionRow;
 use rows::TaskRow;
 ghost use mathlib.Core.Path.{_≡_};
 ghost use Prim.Native.Nat.{_+_, _*_, _≤_, _<_};
-ghost use lib.ListN.{length, replicate};
-ghost use Rattle.folds.specs.Bytes.{number, placedBelow};
+ghost use lib.ListN.{length};
+ghost use Rattle.folds.specs.Bytes.{number};
 ghost use mathlib.Core.Bool.{true};
 ghost use Rattle.rows.specs.Rules.{countsOk, noTask, noSection};
-ghost use Rattle.parts.specs.Layout.{countsOf, offsetsOk, resourcesAt, sectionsAt, namesAt, taskOf, taskAt, taskSpare, sectionAt, startAt, lengthAt, resourceSpare, taskCode, lengthRowsOk, sectionRowsOk, sumsFit, sectionCode, restCode, partsCode, fileCode, taskRows, lengthRows, sectionRows};
+ghost use Rattle.parts.specs.Layout.{countsOf, offsetsOk, resourcesAt, sectionsAt, namesAt, taskAt, sectionAt, startAt, lengthAt, resourceSpare, taskCode, lengthRowsOk, sectionRowsOk, sumsFit, sectionCode, restCode, partsCode, fileCode, taskRows, lengthRows, sectionRows};
 
 // The name lengths of a part, and whether its rows follow one another as they should.
 pub struct LoadedLengths {

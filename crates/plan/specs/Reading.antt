@@ -1,17 +1,16 @@
 -- Document 01, "What each operation refuses, in order": reading a plan, and the question for a name.
 use Prim.Native.Nat.{ℕ, _+_, min}
-use mathlib.Core.Bool.{Bool, cond, _&&_}
+use mathlib.Core.Bool.{cond}
 use mathlib.Core.List.{List, [], _∷_}
-use lib.Dec.{leb, ltb, eqb}
+use lib.Dec.{ltb, eqb}
 use lib.ListN.{length, getD, take, drop, replicate}
 use Rattle.folds.specs.Bytes.{number}
 use Rattle.rows.specs.Rules.{countsOk, noTask, noSection}
-use Rattle.rows.specs.declared.Counts.{Counts}
 use Rattle.rows.specs.declared.Rows.{Rows}
 use Rattle.plan.specs.declared.Reading.{Reading}
 use Rattle.plan.specs.declared.ReadAnswer.{ReadAnswer}
 use Rattle.plan.specs.declared.ReadAnswer.the-variants.{Accepted, Refused}
-use Rattle.parts.specs.Layout.{countsOf, tasksAt, resourcesAt, sectionsAt, namesAt, offsetsOk, fileCode, rowsOf, namesOf, startAt, lengthAt}
+use Rattle.parts.specs.Layout.{countsOf, resourcesAt, namesAt, offsetsOk, fileCode, rowsOf, namesOf, startAt, lengthAt}
 
 -- 1, fewer than 16 bytes or not the length in bytes 14-15; 2, edition; 3, a count beyond its range; 4, an offset
 unfoldable pub headerCode : List ℕ → ℕ

@@ -1,10 +1,7 @@
 // The plan file: reading it, with checks 1 to 9 in order, and the names in it.
 use rows::Counts;
 use rows::Rows;
-use rows::SectionRow;
-use rows::TaskRow;
 ghost use mathlib.Core.Path.{_≡_};
-ghost use mathlib.Core.Bool.{true};
 ghost use Prim.Native.Nat.{_≤_};
 ghost use lib.ListN.{length};
 ghost use Rattle.parts.specs.Layout.{countsOf, rowsOf};

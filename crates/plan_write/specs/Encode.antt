@@ -1,9 +1,9 @@
 -- Document 01, "The plan file": a plan's values as the bytes of its file, and what writing them does.
 use Prim.Native.Nat.{ℕ, _+_}
-use mathlib.Core.Bool.{Bool, cond}
+use mathlib.Core.Bool.{cond}
 use mathlib.Core.List.{List, [], _∷_, _++_}
 use lib.Dec.{leb, eqb}
-use lib.ListN.{length, getD, drop}
+use lib.ListN.{length, drop}
 use Rattle.folds.specs.Bytes.{rowBytes, bytesBelow}
 use Rattle.rows.specs.Rules.{taskOf, sectionOf, lengthOf, startOf, valuesCode}
 use Rattle.rows.specs.declared.TaskRow.{TaskRow}

@@ -15,7 +15,7 @@ use Rattle.plan.specs.declared.ReadAnswer.the-variants.{Accepted}
 use Rattle.plan.specs.Reading.{Told, answered, refusal, refusedWith}
 use Rattle.plan_write.specs.declared.WriteAnswer.{WriteAnswer}
 use Rattle.plan_write.specs.declared.WriteAnswer.the-variants.{Written, Refused}
-use Rattle.plan_write.specs.Encode.{fileOf, fileLength, writeCode}
+use Rattle.plan_write.specs.Encode.{fileOf, writeCode}
 
 -- the rows of a plan, with whatever stands past the counts made zero, as a reader gives them
 unfoldable pub trimmed : Counts → Rows → Rows

@@ -2,7 +2,7 @@
 use Prim.Native.Nat.{ℕ, _+_, _-_, _*_, _/_, _<_, _≤_}
 use mathlib.Core.Bool.{Bool, true, false, cond, _&&_, not}
 use mathlib.Core.List.{List}
-use mathlib.Core.Path.{_≡_, refl, sym, ap, ap₂, _∙_}
+use mathlib.Core.Path.{_≡_, refl, sym, ap, _∙_}
 use native.Mathlib.Nat.{add-zero, add-assoc}
 use native.Mathlib.Omega.{arith}
 use borrow.Author.Tests.{le-leb, ltb-true, ltb-false, leb-true, eq-eqb, ne-eqb, eqb-true, eqb-false, not-true}
@@ -16,7 +16,7 @@ use Rattle.rows.specs.declared.Counts.{Counts}
 use Rattle.rows.specs.declared.TaskRow.{TaskRow}
 use Rattle.rows.specs.declared.SectionRow.{SectionRow}
 use Rattle.rows.specs.Rules.{taskOf, countsOk, taskOk, tasksOk, tagsOk, sectionOk, lengthOf, startOf, lengthsOk, sameBytes, differ, nameNew, namesDiffer}
-use Rattle.rows.specs.Prints.{printOf, printsOf, numberNew, numbersDiffer}
+use Rattle.rows.specs.Digests.{digestOf, digestsOf, numberNew, numbersDiffer}
 
 -- counts in their ranges
 pub record InRange (c : Counts) : Type 0 where
@@ -115,15 +115,15 @@ length-facts r i lengths h l =
     record { low = leb-true _ _ (a .0); high = leb-true _ _ (a .1) }
 
 -- the number of name i among those of r names
-pub print-at : (r i : ℕ) (lengths names : List ℕ) → i < r → r ≤ 16 → getD (printsOf r lengths names) i 0 ≡ printOf names (startOf lengths i) (lengthOf lengths i)
-unfolding printsOf
-print-at r i lengths names l h =
-    placed-at r i (λ k. printOf names (startOf lengths k) (lengthOf lengths k)) (replicate 16 0) 0 l h
+pub digest-at : (r i : ℕ) (lengths names : List ℕ) → i < r → r ≤ 16 → getD (digestsOf r lengths names) i 0 ≡ digestOf names (startOf lengths i) (lengthOf lengths i)
+unfolding digestsOf
+digest-at r i lengths names l h =
+    placed-at r i (λ k. digestOf names (startOf lengths k) (lengthOf lengths k)) (replicate 16 0) 0 l h
 
 -- the same bytes have one number
-pub print-same : (names : List ℕ) (a b len : ℕ) → 1 ≤ len → sameBytes names a b len ≡ true → printOf names a len ≡ printOf names b len
-unfolding sameBytes printOf
-print-same names a b len h e = go (ltb len 4) refl
+pub digest-same : (names : List ℕ) (a b len : ℕ) → 1 ≤ len → sameBytes names a b len ≡ true → digestOf names a len ≡ digestOf names b len
+unfolding sameBytes digestOf
+digest-same names a b len h e = go (ltb len 4) refl
   where
     same : (k : ℕ) → k < len → getD names (a + k) 0 ≡ getD names (b + k) 0
     same k l = eqb-true _ _ (all-at len k (λ j. eqb (getD names (a + j) 0) (getD names (b + j) 0)) e l)
@@ -140,22 +140,22 @@ print-same names a b len h e = go (ltb len 4) refl
         omega (arith, simp add-zero at (four 0 (omega arith)), four ((len - 4) / 2) (omega arith), four (len - 4) (omega arith))
 
 -- names whose numbers differ are not equal
-pub print-differ : (lengths names : List ℕ) (i j a b : ℕ) → 1 ≤ lengthOf lengths i → (printOf names a (lengthOf lengths i) ≡ printOf names b (lengthOf lengths j) → ⊥) → differ lengths names i j a b ≡ true
+pub digest-differ : (lengths names : List ℕ) (i j a b : ℕ) → 1 ≤ lengthOf lengths i → (digestOf names a (lengthOf lengths i) ≡ digestOf names b (lengthOf lengths j) → ⊥) → differ lengths names i j a b ≡ true
 unfolding differ
-print-differ lengths names i j a b h d =
+digest-differ lengths names i j a b h d =
     either (eqb (lengthOf lengths i) (lengthOf lengths j)) (sameBytes names a b (lengthOf lengths i))
-    (λ e f. d (print-same names a b (lengthOf lengths i) h f ∙ ap (printOf names b) (eqb-true (lengthOf lengths i) (lengthOf lengths j) e)))
+    (λ e f. d (digest-same names a b (lengthOf lengths i) h f ∙ ap (digestOf names b) (eqb-true (lengthOf lengths i) (lengthOf lengths j) e)))
   where
     either : (x y : Bool) → (x ≡ true → y ≡ true → ⊥) → not (x && y) ≡ true
     either true true g = absurd (g refl refl)
     either true false g = refl
     either false y g = refl
 
-pub prints-differ : (r : ℕ) (lengths names : List ℕ) → r ≤ 16 → lengthsOk r lengths ≡ true → numbersDiffer r (printsOf r lengths names) ≡ true → namesDiffer r lengths names ≡ true
+pub digests-differ : (r : ℕ) (lengths names : List ℕ) → r ≤ 16 → lengthsOk r lengths ≡ true → numbersDiffer r (digestsOf r lengths names) ≡ true → namesDiffer r lengths names ≡ true
 unfolding numbersDiffer numberNew namesDiffer nameNew
-prints-differ r lengths names h ok t =
-    let l : List ℕ = printsOf r lengths names in
+digests-differ r lengths names h ok t =
+    let l : List ℕ = digestsOf r lengths names in
     all-from r (nameNew lengths names)
     (λ i p. all-from i (λ j. differ lengths names i j (startOf lengths i) (startOf lengths j))
-    (λ j q. print-differ lengths names i j (startOf lengths i) (startOf lengths j) (length-facts r i lengths ok p .low)
-    (λ e. eqb-false (getD l i 0) (getD l j 0) (not-true _ (all-at i j (λ k. not (eqb (getD l i 0) (getD l k 0))) (all-at r i (numberNew l) t p) q)) (print-at r i lengths names p h ∙ e ∙ sym (print-at r j lengths names (omega arith) h)))))
+    (λ j q. digest-differ lengths names i j (startOf lengths i) (startOf lengths j) (length-facts r i lengths ok p .low)
+    (λ e. eqb-false (getD l i 0) (getD l j 0) (not-true _ (all-at i j (λ k. not (eqb (getD l i 0) (getD l k 0))) (all-at r i (numberNew l) t p) q)) (digest-at r i lengths names p h ∙ e ∙ sym (digest-at r j lengths names (omega arith) h)))))

@@ -6,11 +6,11 @@ ghost use Prim.Native.Nat.{_+_, _≤_, _<_};
 ghost use lib.ListN.{length};
 ghost use Rattle.folds.specs.Below.{sumBelow};
 ghost use Rattle.folds.specs.Bytes.{number};
-ghost use Rattle.rows.specs.Prints.{printOf, printsOf, numberNew, numbersDiffer};
+ghost use Rattle.rows.specs.Digests.{digestOf, digestsOf, numberNew, numbersDiffer};
 ghost use Rattle.rows.specs.Rules.{lengthOf, lengthsOk, bytesOk, sameBytes, differ, namesDiffer, nameNew, namesOk};
 
 // The sum of the first r name lengths.
-pub fn total_length(lengths: [u8; 16], r: usize) -> usize
+fn total_length(lengths: [u8; 16], r: usize) -> usize
     requires { ⌜ r ≤ 16 ⌝ }
     ensures { λ t. ⌜ (t ≡ sumBelow r (lengthOf lengths)) × (t ≤ 4080) ⌝ }
 {
@@ -105,11 +105,11 @@ fn quad(s: &[u8], at: usize) -> u64
     low as u64 + 65536 * high as u64
 }
 
-// A number that equal names have in common: of up to 3 bytes their sum, each times its place; of 4 to 12 bytes the sum of the
+// A number that equal names have in common, made of all their bytes: of up to 3 bytes their sum, of 4 to 12 bytes the sum of the
 // first four, the middle four and the last four, each times its own factor.
-fn print_of(names: &[u8], at: usize, len: usize) -> u64
+fn digest_of(names: &[u8], at: usize, len: usize) -> u64
     requires { ⌜ (1 ≤ len) × (len ≤ 12) × (at + len ≤ length (now names)) ⌝ }
-    ensures { λ r. ⌜ r ≡ printOf (now (names .entry)) at len ⌝ }
+    ensures { λ r. ⌜ r ≡ digestOf (now (names .entry)) at len ⌝ }
 {
     if len < 4 {
         let first = folds::wide(names[at]);
@@ -121,16 +121,16 @@ fn print_of(names: &[u8], at: usize, len: usize) -> u64
 }
 
 // Those numbers of all names.
-fn prints(lengths: [u8; 16], r: usize, names: &[u8]) -> [u64; 16]
+fn digests(lengths: [u8; 16], r: usize, names: &[u8]) -> [u64; 16]
     requires { ⌜ (r ≤ 16) × (lengthsOk r lengths ≡ true) × (sumBelow r (lengthOf lengths) ≡ length (now names)) ⌝ }
-    ensures { λ l. ⌜ l ≡ printsOf r lengths (now (names .entry)) ⌝ }
+    ensures { λ l. ⌜ l ≡ digestsOf r lengths (now (names .entry)) ⌝ }
 {
     let mut found = [0u64; 16];
     let mut at = 0;
     let mut i = 0;
     while i < r {
         let len = folds::wide(lengths[i]);
-        found[i] = print_of(names, at, len);
+        found[i] = digest_of(names, at, len);
         at += len;
         i += 1;
     }
@@ -138,7 +138,7 @@ fn prints(lengths: [u8; 16], r: usize, names: &[u8]) -> [u64; 16]
 }
 
 // Whether number i differs from all before it.
-fn print_is_new(found: [u64; 16], i: usize) -> bool
+fn digest_is_new(found: [u64; 16], i: usize) -> bool
     requires { ⌜ i < 16 ⌝ }
     ensures { λ r. ⌜ r ≡ numberNew found i ⌝ }
 {
@@ -153,14 +153,14 @@ fn print_is_new(found: [u64; 16], i: usize) -> bool
 }
 
 // Whether the first r numbers differ.
-fn prints_differ(found: [u64; 16], r: usize) -> bool
+fn digests_differ(found: [u64; 16], r: usize) -> bool
     requires { ⌜ r ≤ 16 ⌝ }
     ensures { λ b. ⌜ b ≡ numbersDiffer r found ⌝ }
 {
     let mut ok = true;
     let mut i = 0;
     while i < r {
-        ok = ok & print_is_new(found, i);
+        ok = ok & digest_is_new(found, i);
         i += 1;
     }
     ok
@@ -187,8 +187,8 @@ fn names_differ(lengths: [u8; 16], r: usize, names: &[u8]) -> bool
     requires { ⌜ (r ≤ 16) × (lengthsOk r lengths ≡ true) × (sumBelow r (lengthOf lengths) ≡ length (now names)) ⌝ }
     ensures { λ b. ⌜ b ≡ namesDiffer r lengths (now (names .entry)) ⌝ }
 {
-    let found = prints(lengths, r, names);
-    if prints_differ(found, r) {
+    let found = digests(lengths, r, names);
+    if digests_differ(found, r) {
         return true;
     }
     bytes_differ(lengths, r, names)

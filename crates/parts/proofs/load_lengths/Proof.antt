@@ -1,7 +1,6 @@
 -- The lengths passed are loaded, the test is that of all of them, and the last name passed ends at their sum.
 use Prim.Native.Nat.{_≤_, _-_, _*_}
-use mathlib.Core.Path.{_≡_, refl, sym, ap, _∙_}
-use borrow.Author.Needs.{needs}
+use mathlib.Core.Path.{_≡_, refl, sym}
 use native.Mathlib.Omega.{arith}
 use Rattle.folds.specs.Below.{allBelow, sumBelow}
 use Rattle.folds.specs.Bytes.{placedBelow}

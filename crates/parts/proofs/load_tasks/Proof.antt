@@ -1,6 +1,6 @@
 -- The invariant: the rows passed are loaded.
 use Prim.Native.Nat.{_≤_, _-_}
-use mathlib.Core.Path.{_≡_, refl}
+use mathlib.Core.Path.{_≡_}
 use borrow.Author.Needs.{needs}
 use native.Mathlib.Omega.{arith}
 use Rattle.folds.specs.Bytes.{placedBelow}

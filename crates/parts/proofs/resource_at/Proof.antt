@@ -1,5 +1,5 @@
 -- The fields stand where the layout says.
-use mathlib.Core.Path.{_≡_, refl, sym, ap, _∙_}
+use mathlib.Core.Path.{sym, _∙_}
 use Rattle.parts.proofs.Laws.{start-field, length-field, resource-spare}
 use borrow.Author.Needs.{needs}
 use Rattle.parts.proofs.resource_at.Statement.{statement}

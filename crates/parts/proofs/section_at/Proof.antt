@@ -1,5 +1,5 @@
 -- The fields stand where the layout says.
-use mathlib.Core.Path.{_≡_, refl, sym, ap, _∙_}
+use mathlib.Core.Path.{sym}
 use Rattle.parts.proofs.Laws.{section-fields}
 use borrow.Author.Needs.{needs}
 use Rattle.parts.proofs.section_at.Statement.{statement}

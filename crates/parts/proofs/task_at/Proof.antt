@@ -1,6 +1,6 @@
 -- The fields stand where the layout says.
 use Prim.Native.Nat.{_+_, _*_}
-use mathlib.Core.Path.{_≡_, refl, sym, ap, _∙_}
+use mathlib.Core.Path.{sym}
 use native.Mathlib.Omega.{arith}
 use Rattle.parts.proofs.Laws.{task-fields}
 use borrow.Author.Needs.{needs}

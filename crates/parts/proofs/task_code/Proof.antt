@@ -7,7 +7,7 @@ use borrow.Author.Needs.{needs}
 use lib.Dec.{eqb}
 use lib.ListN.{replicate}
 use Rattle.folds.specs.Below.{allBelow}
-use Rattle.folds.proofs.Tests.{all-step, all-done, held, failed}
+use Rattle.folds.proofs.Tests.{all-step, held, failed}
 use Rattle.folds.proofs.Arrays.{markedBelow, marked-step, marked-new}
 use Rattle.rows.specs.declared.TaskRow.{TaskRow}
 use Rattle.rows.specs.Rules.{taskOk}

@@ -1,5 +1,5 @@
 -- Each return is the branch of the definition.
-use mathlib.Core.Path.{_≡_, sym, _∙_}
+use mathlib.Core.Path.{sym, _∙_}
 use borrow.Author.Needs.{needs}
 use Rattle.plan.proofs.Laws.{header-facts, header-fails, header-holds}
 use Rattle.plan.proofs.check.Statement.{statement}

@@ -1,6 +1,5 @@
 -- Each return is the branch of the definition.
-use mathlib.Core.Path.{_≡_, refl, sym, ap, _∙_}
-use native.Mathlib.Omega.{arith}
+use mathlib.Core.Path.{ap, _∙_}
 use borrow.Author.Tests.{lt-ltb, le-ltb, eq-eqb, ne-eqb}
 use Rattle.folds.proofs.Tests.{held, failed}
 use Rattle.rows.specs.Rules.{countsOk}

@@ -1,8 +1,6 @@
 -- Each return is the branch of the definition.
-use mathlib.Core.Path.{_≡_, refl, sym, ap, _∙_}
 use native.Mathlib.Omega.{arith}
-use borrow.Author.Tests.{lt-ltb, le-ltb, eq-eqb, ne-eqb}
-use native.Mathlib.Nat.{min-eq-left, min-eq-right, le-of-lt}
+use borrow.Author.Tests.{lt-ltb, le-ltb}
 use Rattle.plan.specs.Reading.{planLength}
 use borrow.Author.Needs.{needs}
 use Rattle.plan.proofs.plan_length.Statement.{statement}

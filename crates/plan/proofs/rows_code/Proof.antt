@@ -1,5 +1,5 @@
 -- The names begin where the counts say, and the header's checks gave that this lies in the file.
-use mathlib.Core.Path.{_≡_, ap, _∙_}
+use mathlib.Core.Path.{ap, _∙_}
 use native.Mathlib.Omega.{arith}
 use borrow.Author.Needs.{needs}
 use Rattle.folds.proofs.Parts.{part-rest}

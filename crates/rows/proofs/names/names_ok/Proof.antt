@@ -1,5 +1,5 @@
 -- Lengths that do not add up or are out of range break the rule; else the other tests decide.
-use mathlib.Core.Path.{_≡_, sym, _∙_}
+use mathlib.Core.Path.{sym, _∙_}
 use borrow.Author.Tests.{eq-eqb, ne-eqb}
 use Rattle.folds.proofs.Tests.{held, failed}
 use Rattle.rows.specs.Rules.{namesOk}

@@ -7,9 +7,9 @@ use lib.Dec.{eqb}
 use lib.ListN.{getD}
 use Rattle.folds.specs.Below.{allBelow}
 use Rattle.folds.proofs.Tests.{all-step, all-done}
-use Rattle.rows.specs.Prints.{numberNew}
-use Rattle.rows.proofs.names.print_is_new.Statement.{statement}
-use Rattle.rows.proofs.names.print_is_new.Tie as tie
+use Rattle.rows.specs.Digests.{numberNew}
+use Rattle.rows.proofs.names.digest_is_new.Statement.{statement}
+use Rattle.rows.proofs.names.digest_is_new.Tie as tie
 
 abbrev Inv-loop : tie.InvT-loop
 Inv-loop i found own ok₀ j₀ ok j = (j ≤ i) × (ok ≡ allBelow j (λ k. not (eqb (getD found i 0) (getD found k 0))))
@@ -46,8 +46,8 @@ returns : tie.Need-returns Inv-loop μ-loop
 unfolding numberNew
 returns c = all-done _ (c .before .loop .j) _ (omega arith) (c .before .loop .inv .1)
 
-pub print-is-new-spec : {M : Type 1} → statement M
-print-is-new-spec =
+pub digest-is-new-spec : {M : Type 1} → statement M
+digest-is-new-spec =
     tie.close
     (tie.spec
     Inv-loop

@@ -7,17 +7,17 @@ use Rattle.folds.specs.Below.{sumBelow}
 use Rattle.folds.specs.Bytes.{placedBelow}
 use Rattle.folds.proofs.Arrays.{placed-step, placed-done}
 use Rattle.folds.proofs.Figures.{sum-step, sum-at}
-use Rattle.rows.specs.Prints.{printOf, printsOf}
+use Rattle.rows.specs.Digests.{digestOf, digestsOf}
 use Rattle.rows.specs.Rules.{lengthOf, startOf}
 use Rattle.rows.proofs.Laws.{length-facts}
-use Rattle.rows.proofs.names.prints.Statement.{statement}
-use Rattle.rows.proofs.names.prints.Tie as tie
+use Rattle.rows.proofs.names.digests.Statement.{statement}
+use Rattle.rows.proofs.names.digests.Tie as tie
 
 abbrev Inv-loop : tie.InvT-loop
 Inv-loop r names lengths found₀ at₀ i₀ found at i =
     (i ≤ r)
     × (at ≡ startOf lengths i)
-    × (found ≡ placedBelow i (λ k. printOf names (startOf lengths k) (lengthOf lengths k)) (replicate 16 0))
+    × (found ≡ placedBelow i (λ k. digestOf names (startOf lengths k) (lengthOf lengths k)) (replicate 16 0))
 
 abbrev μ-loop : tie.MeasureT-loop
 μ-loop r names lengths found₀ at₀ i₀ found at i = r - i
@@ -29,8 +29,8 @@ loop-holds c = (omega arith, refl, refl)
 array-read-wide : tie.Need-array-read-wide Inv-loop μ-loop
 array-read-wide c = omega arith
 
-print-of-requires : tie.Need-print-of-requires Inv-loop μ-loop
-print-of-requires c κs =
+digest-of-requires : tie.Need-digest-of-requires Inv-loop μ-loop
+digest-of-requires c κs =
     let a = c .before .before .before .before in
     let f = length-facts _ _ (a .args .t1) (a .pre .1) (c .before .loop-test .taken) in
     omega (arith, f .low, f .high, c .wide .ensures, sum-at _ _ (lengthOf (a .args .t1)) (c .before .loop-test .taken))
@@ -61,11 +61,11 @@ loop-again c = (
 )
 
 returns : tie.Need-returns Inv-loop μ-loop
-unfolding printsOf
+unfolding digestsOf
 returns c = placed-done _ (c .before .loop .i) _ _ (omega arith) (c .before .loop .inv .2)
 
-pub prints-spec : {M : Type 1} → statement M
-prints-spec =
+pub digests-spec : {M : Type 1} → statement M
+digests-spec =
     tie.close
     (tie.spec
     Inv-loop
@@ -73,7 +73,7 @@ prints-spec =
     loop-holds
     array-read-wide
     wide-requires
-    print-of-requires
+    digest-of-requires
     mul-found
     array-write-found
     add-at

@@ -1,9 +1,9 @@
 -- Each return is the branch of the definition.
 use borrow.Author.Tests.{lt-ltb, le-ltb}
-use Rattle.rows.specs.Prints.{printOf}
+use Rattle.rows.specs.Digests.{digestOf}
 use borrow.Author.Needs.{needs}
-use Rattle.rows.proofs.names.print_of.Statement.{statement}
-use Rattle.rows.proofs.names.print_of.Tie as tie
+use Rattle.rows.proofs.names.digest_of.Statement.{statement}
+use Rattle.rows.proofs.names.digest_of.Tie as tie
 
 shared-slice-read-wide : tie.Need-shared-slice-read-wide
 shared-slice-read-wide c = search needs
@@ -45,7 +45,7 @@ add-result-2 : tie.Need-add-result-2
 add-result-2 c = search needs
 
 returns : tie.Need-returns
-unfolding printOf
+unfolding digestOf
 returns c = rw (lt-ltb _ _ (c .before .before .before .before .before .before .if1 .taken), c .wide3 .ensures .0, c .before .before .wide2 .ensures .0, c .before .before .before .before .wide .ensures .0)
 
 quad-requires : tie.Need-quad-requires
@@ -76,11 +76,11 @@ add-result-4 : tie.Need-add-result-4
 add-result-4 c = search needs
 
 returns-2 : tie.Need-returns-2
-unfolding printOf
+unfolding digestOf
 returns-2 c = rw (le-ltb _ _ (c .before .before .before .if1 .left), c .quad3 .ensures .0, c .before .quad2 .ensures .0, c .before .before .quad .ensures .0)
 
-pub print-of-spec : {M : Type 1} → statement M
-print-of-spec =
+pub digest-of-spec : {M : Type 1} → statement M
+digest-of-spec =
     tie.close
     (tie.spec
     shared-slice-read-wide

@@ -9,15 +9,15 @@ use Rattle.folds.specs.Bytes.{number, placedBelow}
 use Rattle.rows.specs.Rules.{lengthOf, startOf}
 
 -- of up to 3 bytes the first, the middle and the last, each times its factor; of more the first, middle and last four bytes
-unfoldable pub printOf : List ℕ → ℕ → ℕ → ℕ
-printOf names at len =
+unfoldable pub digestOf : List ℕ → ℕ → ℕ → ℕ
+digestOf names at len =
     cond (ltb len 4)
     (getD names at 0 + 256 * getD names (at + len / 2) 0 + 65536 * getD names (at + (len - 1)) 0)
     (number 4 names at + 3 * number 4 names (at + (len - 4) / 2) + 5 * number 4 names (at + (len - 4)))
 
 -- that of each of r names
-unfoldable pub printsOf : ℕ → List ℕ → List ℕ → List ℕ
-printsOf r lengths names = placedBelow r (λ i. printOf names (startOf lengths i) (lengthOf lengths i)) (replicate 16 0)
+unfoldable pub digestsOf : ℕ → List ℕ → List ℕ → List ℕ
+digestsOf r lengths names = placedBelow r (λ i. digestOf names (startOf lengths i) (lengthOf lengths i)) (replicate 16 0)
 
 -- number i is none of those before it
 unfoldable pub numberNew : List ℕ → ℕ → Bool
