@@ -295,6 +295,11 @@ def name_cases():
         ("names that differ in case", file(names=[b"bus", b"BUS"]), READ),
         ("a name and a longer one", file(names=[b"bus", b"busy"]), READ),
         ("a name and a shorter one", file(names=[b"busy", b"bus"]), READ),
+        # each pair has one weighted sum of bytes: 3 more in the first of four, 1 less in the middle four; or one byte throughout
+        ("names that differ in two bytes that balance", file(names=[b"dabcbefgzzzz", b"gabcaefgzzzz"]), READ),
+        ("one byte four times and five times", file(names=[b"AAAA", b"AAAAA"]), READ),
+        ("two equal names behind others that balance", file(
+            names=[b"dabcbefgzzzz", b"gabcaefgzzzz", b"dabcbefgzzzz"]), "refused 7"),
         ("a name of 11 and of 12 bytes", file(names=[b"memory-bank", b"memory-bank1"]), READ),
         ("16 names, the first and last equal", file(names=ends), "refused 7"),
         ("16 names, the last two equal", file(names=many_names(16)[1:] + many_names(16)[15:]), "refused 7"),
