@@ -5,3 +5,4 @@ pub mod Parts
 pub mod RowLaws
 pub mod WordLaws
 pub mod SignedLaws
+pub mod EachLaws

@@ -1,6 +1,6 @@
 -- Laws of tests over a range, of searches, and of Bools.
 use Prim.Native.Nat.{ℕ, zero, suc, _+_, _<_, _≤_}
-use mathlib.Core.Bool.{Bool, true, false, cond, _&&_, not, and-false, true≢false}
+use mathlib.Core.Bool.{Bool, true, false, cond, _&&_, _||_, not, and-false, or-true, true≢false}
 use mathlib.Core.Path.{_≡_, refl, sym, ap, ap₂, _∙_}
 use mathlib.Core.Logic.{⊎-elim}
 use native.Mathlib.Numerals.{add-one}
@@ -8,7 +8,7 @@ use native.Mathlib.Omega.{arith}
 use native.Mathlib.Nat.{eq-or-lt-of-le, le-of-suc-le-suc, not-suc-le-zero}
 use borrow.Author.Tests.{lt-ltb, le-ltb, not-true, not-false}
 use lib.Dec.{ltb}
-use Rattle.folds.specs.Below.{allBelow, findBelow}
+use Rattle.folds.specs.Below.{allBelow, anyBelow, findBelow}
 
 -- both parts of a test that held
 pub and-parts : (a b : Bool) → (a && b) ≡ true → (a ≡ true) × (b ≡ true)
@@ -93,6 +93,30 @@ pub all-both : (n : ℕ) (f g : ℕ → Bool) → (allBelow n f && allBelow n g)
 unfolding allBelow
 all-both zero f g = refl
 all-both (suc n) f g = and-swap (allBelow n f) (f n) (allBelow n g) (g n) ∙ ap (λ (b : Bool). b && (f n && g n)) (all-both n f g)
+
+-- a loop that looks for one of which f holds: a turn, its end, and what it tells
+pub any-step : (n : ℕ) (f : ℕ → Bool) {s t : Bool} → s ≡ anyBelow n f → t ≡ f n → (s || t) ≡ anyBelow (n + 1) f
+unfolding anyBelow
+any-step n f p q = rw (p, q, add-one)
+
+pub any-done : (n i : ℕ) (f : ℕ → Bool) {s : Bool} → i ≡ n → s ≡ anyBelow i f → s ≡ anyBelow n f
+any-done n i f e p = rw (← e, p)
+
+pub any-at : (n i : ℕ) (f : ℕ → Bool) → i < n → f i ≡ true → anyBelow n f ≡ true
+unfolding anyBelow
+any-at zero i f l q = absurd (not-suc-le-zero l)
+any-at (suc n) i f l q =
+    ⊎-elim (λ e. rw (← e, q, or-true)) (λ lt. rw (any-at n i f lt q)) (eq-or-lt-of-le (le-of-suc-le-suc l))
+
+pub any-none : (n : ℕ) (f : ℕ → Bool) → ((i : ℕ) → i < n → f i ≡ false) → anyBelow n f ≡ false
+unfolding anyBelow
+any-none zero f h = refl
+any-none (suc n) f h = rw (any-none n f (λ i l. h i (omega arith)), h n (omega arith))
+
+pub any-same : (n : ℕ) (f g : ℕ → Bool) → ((i : ℕ) → i < n → f i ≡ g i) → anyBelow n f ≡ anyBelow n g
+unfolding anyBelow
+any-same zero f g h = refl
+any-same (suc n) f g h = ap₂ _||_ (any-same n f g (λ i l. h i (omega arith))) (h n (omega arith))
 
 -- a search: what it passed, where it stops
 pub find-le : (n : ℕ) (f : ℕ → Bool) → findBelow n f ≤ n

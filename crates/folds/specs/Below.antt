@@ -1,12 +1,17 @@
 -- Tests, sums, maxima, counts and searches over the numbers below a count.
 use Prim.Native.Nat.{ℕ, zero, suc, _+_, max}
-use mathlib.Core.Bool.{Bool, true, cond, _&&_}
+use mathlib.Core.Bool.{Bool, true, cond, _&&_, _||_, false}
 use lib.Dec.{ltb}
 
 -- f holds of each number below n
 unfoldable pub allBelow : ℕ → (ℕ → Bool) → Bool
 allBelow zero f = true
 allBelow (suc n) f = allBelow n f && f n
+
+-- f holds of some number below n
+unfoldable pub anyBelow : ℕ → (ℕ → Bool) → Bool
+anyBelow zero f = false
+anyBelow (suc n) f = anyBelow n f || f n
 
 -- the sum of the f k with k below n
 unfoldable pub sumBelow : ℕ → (ℕ → ℕ) → ℕ

@@ -2,3 +2,4 @@ pub mod Below
 pub mod Bytes
 pub mod Words
 pub mod Signed
+pub mod Each
