@@ -1,4 +1,4 @@
-//! Links the archive of the proved code, which `rt staticlib plan_c` writes.
+//! Links the archives of the proved code, which `rt staticlib` writes.
 
 use std::path::Path;
 
@@ -8,9 +8,11 @@ fn main() {
         .expect("bench lies in the repository");
     let folder = root.join("target/staticlib");
     println!("cargo:rustc-link-search=native={}", folder.display());
-    println!("cargo:rustc-link-lib=static=plan_c");
-    println!(
-        "cargo:rerun-if-changed={}",
-        folder.join("libplan_c.a").display()
-    );
+    for archive in ["plan_c", "analysis_c"] {
+        println!("cargo:rustc-link-lib=static={archive}");
+        println!(
+            "cargo:rerun-if-changed={}",
+            folder.join(format!("lib{archive}.a")).display()
+        );
+    }
 }

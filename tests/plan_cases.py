@@ -1,11 +1,9 @@
-#!/usr/bin/env python3
-"""Writes crates/plan_cases/stdin and stdout: the cases of the plan file that are not for proof.
+"""The cases of the plan file that are not for proof.
 
 Each case has a label, the file or the values that it is about, and its result, written here by hand from
 document 01. Nothing here decides a result: files are only laid out, from values that need not be valid.
 """
 from collections import namedtuple
-from pathlib import Path
 
 Task = namedtuple("Task", "processor tag priority period execution")
 Section = namedtuple("Section", "task resource length")
@@ -558,26 +556,8 @@ def write_body(v, room, result):
     return head + names + expected + rows + bytes(v.lengths) + rows_of(v.plan._replace(tasks=[]))[2]
 
 
-def record(kind, label, body):
-    text = label.encode("ascii")
-    content = kind + bytes([len(text)]) + text + body
-    assert len(content) <= 65536, label
-    return len(content).to_bytes(4, "little") + content
-
-
-def main():
-    cases = [(b"R", label, read_body(content), result) for label, content, result in READINGS]
-    cases += [(b"N", label, bytes([q]) + content, result) for label, content, q, result in named_cases()]
-    cases += [(b"W", label, write_body(v, room, result), result) for label, v, room, result in written_cases()]
-    labels = [label for _, label, _, _ in cases]
-    repeated = sorted({label for label in labels if labels.count(label) > 1})
-    if repeated:
-        raise SystemExit(f"labels that repeat: {repeated}")
-    folder = Path(__file__).resolve().parent.parent / "crates" / "plan_cases"
-    (folder / "stdin").write_bytes(b"".join(record(kind, label, body) for kind, label, body, _ in cases))
-    (folder / "stdout").write_text("".join(f"{label}: {result}\n" for _, label, _, result in cases), encoding="ascii")
-    print(f"{len(cases)} cases")
-
-
-if __name__ == "__main__":
-    main()
+def cases():
+    """Each case as its kind, its label, its record's body and its result."""
+    found = [(b"R", label, read_body(content), result) for label, content, result in READINGS]
+    found += [(b"N", label, bytes([q]) + content, result) for label, content, q, result in named_cases()]
+    return found + [(b"W", label, write_body(v, room, result), result) for label, v, room, result in written_cases()]

@@ -1,5 +1,6 @@
-//! The plans that are read, laid out by the peer's writer.
+//! The plans that are asked about, laid out by the peer's writer.
 
+use crate::random::Random;
 use peer::{Counts, Plan, Section, Task, MAX_FILE};
 
 fn file(plan: &Plan, names: &[u8]) -> Vec<u8> {
@@ -79,4 +80,78 @@ pub fn small() -> Vec<u8> {
         length: 3,
     };
     file(&plan, b"bus")
+}
+
+/// 64 tasks on some processors, with periods near 65,535 and short sections on 16 resources, all global: admitted, so that no
+/// task's tolerance is left out.
+pub fn busy(processors: u8) -> Vec<u8> {
+    let mut plan = Plan {
+        counts: Counts {
+            processors,
+            tasks: 64,
+            resources: 16,
+            sections: 255,
+        },
+        ..Plan::default()
+    };
+    for (i, task) in (0u8..).zip(&mut plan.tasks) {
+        *task = Task {
+            processor: i % processors,
+            tag: i.into(),
+            priority: 1 + i / processors,
+            period: 65_535 - u16::from(i),
+            execution: 20,
+        };
+    }
+    plan.lengths = [1; 16];
+    for (i, section) in (0u16..).zip(&mut plan.sections) {
+        *section = Section {
+            task: (i % 64) as u8,
+            resource: ((i / 64 * 5 + i) % 16) as u8,
+            length: 1 + i % 2,
+        };
+    }
+    file(&plan, b"ABCDEFGHIJKLMNOP")
+}
+
+/// A plan of any size whose sections keep to the execution times, which lie close to the periods now and then.
+pub fn some(random: &mut Random) -> Vec<u8> {
+    let mut plan = Plan {
+        counts: Counts {
+            processors: 1 + random.below(8) as u8,
+            tasks: 1 + random.below(64) as u8,
+            resources: 1 + random.below(16) as u8,
+            sections: random.below(256) as u16,
+        },
+        ..Plan::default()
+    };
+    let first = random.below(255 - 64) as u8;
+    for (i, task) in (0u8..plan.counts.tasks).zip(&mut plan.tasks) {
+        let execution = 1 + random.below(120) as u16;
+        *task = Task {
+            processor: random.below(plan.counts.processors.into()) as u8,
+            tag: u16::from(i) * 3 % 256,
+            priority: 1 + first + i * 29 % 64,
+            period: execution + random.below(3000) as u16,
+            execution,
+        };
+    }
+    let mut left = plan.tasks.map(|t| t.execution);
+    let mut count = 0;
+    for _ in 0..plan.counts.sections {
+        let task = random.below(plan.counts.tasks.into());
+        let length = 1 + random.below(24) as u16;
+        if length <= left[task] {
+            left[task] -= length;
+            plan.sections[count] = Section {
+                task: task as u8,
+                resource: random.below(plan.counts.resources.into()) as u8,
+                length,
+            };
+            count += 1;
+        }
+    }
+    plan.counts.sections = count as u16;
+    plan.lengths[..plan.counts.resources.into()].fill(1);
+    file(&plan, &b"ABCDEFGHIJKLMNOP"[..plan.counts.resources.into()])
 }

@@ -1,8 +1,8 @@
-//! The peer on the cases of `crates/plan_cases`, whose results were written by hand.
+//! The peer on the cases of `crates/cases`, whose results were written by hand.
 
-use peer::{name, read, write, Counts, Plan, Refusal, Section, Task};
+use peer::{analysis, name, read, write, Counts, Plan, Refusal, Section, Task};
 
-const FOLDER: &str = concat!(env!("CARGO_MANIFEST_DIR"), "/../crates/plan_cases/");
+const FOLDER: &str = concat!(env!("CARGO_MANIFEST_DIR"), "/../crates/cases/");
 
 /// Takes a record apart from the front.
 struct Bytes<'a>(&'a [u8]);
@@ -109,6 +109,43 @@ fn write_case(mut case: Bytes) -> String {
     }
 }
 
+fn told(answer: Result<String, u8>) -> String {
+    answer.unwrap_or_else(|number| format!("refused {number}"))
+}
+
+fn hold_case(mut case: Bytes) -> String {
+    let (tag, resource) = (case.word(), case.byte());
+    told(analysis::hold_time(case.0, tag, resource).map(|n| format!("hold {n}")))
+}
+
+fn share_case(mut case: Bytes, what: &str, ask: fn(&[u8], u8, u8) -> Result<u32, u8>) -> String {
+    let (processor, resource) = (case.byte(), case.byte());
+    told(ask(case.0, processor, resource).map(|n| format!("{what} {n}")))
+}
+
+fn requirement_case(mut case: Bytes) -> String {
+    let tag = case.word();
+    told(analysis::requirement(case.0, tag).map(|r| {
+        let met = if r.met { "met" } else { "unmet" };
+        format!(
+            "requirement {} {} {} {} {} {met}",
+            r.blocking1, r.blocking2, r.tolerance, r.slack, r.side
+        )
+    }))
+}
+
+fn admission_case(case: Bytes) -> String {
+    let word = |admitted| if admitted { "admitted" } else { "not admitted" };
+    told(analysis::admission(case.0).map(|admitted| word(admitted).to_string()))
+}
+
+fn holds_case(case: Bytes) -> String {
+    told(analysis::hold_times(case.0).map(|times| {
+        let held = times.iter().filter(|&&h| h != 0);
+        held.fold("holds".to_string(), |line, h| format!("{line} {h}"))
+    }))
+}
+
 #[test]
 fn every_case_gives_its_result() {
     let input = std::fs::read(format!("{FOLDER}stdin")).unwrap();
@@ -124,6 +161,12 @@ fn every_case_gives_its_result() {
             b'R' => read_case(record),
             b'N' => name_case(record),
             b'W' => write_case(record),
+            b'H' => hold_case(record),
+            b'B' => share_case(record, "budget", analysis::budget),
+            b'T' => share_case(record, "wait", analysis::wait_time),
+            b'Q' => requirement_case(record),
+            b'A' => admission_case(record),
+            b'L' => holds_case(record),
             _ => panic!("no such case"),
         };
         assert_eq!(format!("{label}: {found}"), result);

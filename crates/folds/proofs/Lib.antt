@@ -1,8 +1,10 @@
 pub mod Tests
 pub mod Figures
 pub mod Arrays
+pub mod Ranges
 pub mod Parts
 pub mod RowLaws
 pub mod WordLaws
 pub mod SignedLaws
 pub mod EachLaws
+pub mod PackedLaws

@@ -36,6 +36,11 @@ same-test true b f g = sym (f refl)
 same-test false true f g = g refl
 same-test false false f g = refl
 
+-- a test within a test
+pub cond-both : (a b : Bool) (x : ℕ) → cond (a && b) x 0 ≡ cond a (cond b x 0) 0
+cond-both true b x = refl
+cond-both false b x = refl
+
 -- the test behind a number that is 0
 pub code-zero : (b : Bool) (k m : ℕ) → cond b k (suc m) ≡ 0 → b ≡ true
 code-zero true k m e = refl
@@ -112,6 +117,16 @@ pub any-none : (n : ℕ) (f : ℕ → Bool) → ((i : ℕ) → i < n → f i ≡
 unfolding anyBelow
 any-none zero f h = refl
 any-none (suc n) f h = rw (any-none n f (λ i l. h i (omega arith)), h n (omega arith))
+
+pub or-out : (a b : Bool) (C : Type 0) → (a || b) ≡ true → (a ≡ true → C) → (b ≡ true → C) → C
+or-out true b C e g h = g refl
+or-out false b C e g h = h e
+
+pub any-out : (n : ℕ) (f : ℕ → Bool) (C : Type 0) → anyBelow n f ≡ true → ((i : ℕ) → i < n → f i ≡ true → C) → C
+unfolding anyBelow
+any-out zero f C p h = absurd (true≢false (sym p))
+any-out (suc n) f C p h =
+    or-out (anyBelow n f) (f n) C p (λ q. any-out n f C q (λ i l. h i (omega arith))) (h n (omega arith))
 
 pub any-same : (n : ℕ) (f g : ℕ → Bool) → ((i : ℕ) → i < n → f i ≡ g i) → anyBelow n f ≡ anyBelow n g
 unfolding anyBelow

@@ -117,7 +117,7 @@ pub fn no_section() -> SectionRow
 }
 
 // Task row i of the part that begins at the task rows.
-fn task_at(part: &[u8], i: usize) -> TaskRow
+pub fn task_at(part: &[u8], i: usize) -> TaskRow
     requires { ⌜ (i < 64) × (i * 8 + 8 ≤ length (now part)) ⌝ }
     ensures { λ r. ⌜ r ≡ taskAt (now (part .entry)) i ⌝ }
 {
@@ -212,7 +212,7 @@ pub fn load_lengths(part: &[u8], r: usize) -> LoadedLengths
 }
 
 // Section row i of the part that begins at the section rows.
-fn section_at(part: &[u8], i: usize) -> SectionRow
+pub fn section_at(part: &[u8], i: usize) -> SectionRow
     requires { ⌜ (i < 255) × (i * 4 + 4 ≤ length (now part)) ⌝ }
     ensures { λ r. ⌜ r ≡ sectionAt (now (part .entry)) i ⌝ }
 {

@@ -1,24 +1,28 @@
 -- What a file that passed its checks tells.
-use Prim.Native.Nat.{ℕ, suc, _+_, _<_, _≤_}
-use mathlib.Core.Bool.{Bool, true, false, cond}
+use Prim.Native.Nat.{ℕ, suc, _+_, _*_, _<_, _≤_}
+use mathlib.Core.Bool.{Bool, true, false, cond, _&&_, not, true≢false}
 use mathlib.Core.List.{List, [], _∷_}
-use mathlib.Core.Path.{_≡_, refl, sym, ap, _∙_}
+use mathlib.Core.Path.{_≡_, refl, sym, ap, ap₂, _∙_}
 use native.Mathlib.Omega.{arith}
-use borrow.Author.Tests.{ltb-true, ltb-false, leb-true, eqb-true, eqb-false, eq-eqb, ne-eqb}
+use borrow.Author.Tests.{ltb-true, ltb-false, leb-true, eqb-true, eqb-false, eq-eqb, ne-eqb, not-true}
 use lib.Dec.{eqb, ltb}
-use lib.ListN.{length, getD, drop, length-drop}
+use lib.ListN.{length, getD, drop, length-drop, List·getD-eq-default}
+use lib.Seq.{getD-drop}
 use Rattle.folds.specs.Below.{sumBelow}
 use Rattle.folds.specs.Bytes.{number}
-use Rattle.folds.proofs.Tests.{and-parts, code-zero, code-next, all-at}
+use Rattle.folds.proofs.Tests.{and-parts, is-not-true, code-zero, code-next, all-at}
 use Rattle.folds.proofs.Figures.{sum-at}
 use Rattle.folds.proofs.Arrays.{by-eq}
-use Rattle.rows.specs.Rules.{countsOk, uniqueOk, namesOk, sumsOk, lengthOf}
+use Rattle.folds.proofs.RowLaws.{Bytes}
+use Rattle.rows.specs.Rules.{taskOf, countsOk, taskOk, tagNew, priorityNew, uniqueOk, namesOk, sumsOk, lengthOf}
 use Rattle.rows.specs.declared.Counts.{Counts}
-use Rattle.parts.specs.Layout.{countsOf, tasksAt, resourcesAt, sectionsAt, namesAt, offsetsOk, taskRowsOk, lengthRowsOk, sectionRowsOk, sectionCode, restCode, partsCode, tasksOf, lengthsOf, sectionsOf, rowsOf, namesOf, startAt, lengthAt, resourceSpare}
-use Rattle.rows.proofs.Laws.{InRange, counts-facts}
-use Rattle.parts.proofs.Laws.{start-read}
+use Rattle.rows.specs.declared.TaskRow.{TaskRow}
+use Rattle.parts.specs.Layout.{countsOf, tasksAt, resourcesAt, sectionsAt, namesAt, offsetsOk, taskAt, taskSpare, sectionAt, taskRowsOk, lengthRowsOk, sectionRowsOk, sectionCode, restCode, partsCode, tasksOf, lengthsOf, sectionsOf, rowsOf, namesOf, startAt, lengthAt, resourceSpare}
+use Rattle.rows.proofs.Laws.{InRange, counts-facts, task-facts, section-facts}
+use Rattle.parts.proofs.Laws.{task-read, start-read, task-fields}
 use Rattle.plan.specs.declared.ReadAnswer.{ReadAnswer}
 use Rattle.plan.specs.declared.ReadAnswer.the-variants.{Accepted, Refused}
+use Rattle.plan.specs.Plan.{planOf, Checked, TaskFits, SectionFits, Valid}
 use Rattle.plan.specs.Reading.{headerCode, rowsCode, refusal, given, reading, refusedWith, told, readTold, nameRefusal}
 
 -- what the number of a file is after each check that fails or holds
@@ -187,3 +191,107 @@ name-facts f q e =
       below = l;
       fits = omega (arith, sum-at r q (lengthAt part) l, length-drop (namesAt (countsOf f)) f, w .header .ends);
     }
+
+-- the plan of a file has the counts in its header
+module _ (f : List ℕ) where
+  pub plan-processors : planOf f .processors ≡ countsOf f .processors
+  unfolding planOf
+  plan-processors = refl
+
+  pub plan-tasks : planOf f .tasks ≡ countsOf f .tasks
+  unfolding planOf
+  plan-tasks = refl
+
+  pub plan-resources : planOf f .resources ≡ countsOf f .resources
+  unfolding planOf
+  plan-resources = refl
+
+  pub plan-sections : planOf f .sections ≡ countsOf f .sections
+  unfolding planOf
+  plan-sections = refl
+
+-- what is read past the end of a file is 0, so a byte too
+checked-bytes : (f : List ℕ) → Checked f → Bytes f
+checked-bytes f h k = go (ltb k (length f)) refl
+  where
+    go : (b : Bool) → ltb k (length f) ≡ b → getD f k 0 < 256
+    go true t = h .bytes k (ltb-true _ _ t)
+    go false t = rw (List·getD-eq-default f 0 (ltb-false _ _ t)) (omega arith)
+
+bytes-drop : (n : ℕ) (s : List ℕ) → Bytes s → Bytes (drop n s)
+bytes-drop n s b i = rw getD-drop (b (n + i))
+
+word-below : (s : List ℕ) (at : ℕ) → Bytes s → number 2 s at < 65536
+unfolding number
+word-below s at b = omega (arith, b at, b (at + 1))
+
+-- a checked file holds a plan in its ranges
+pub valid-plan : (f : List ℕ) → Checked f → Valid (planOf f)
+unfolding planOf taskRowsOk sectionRowsOk uniqueOk priorityNew
+valid-plan f h =
+    record {
+      processor = r .processor;
+      processors = r .processors;
+      task = r .task;
+      tasks = r .tasks;
+      resource = r .resource;
+      resources = r .resources;
+      sections = r .sections;
+      task-fits = task-fits;
+      unique = unique;
+      section-fits = section-fits;
+    }
+  where
+    c : Counts
+    c = countsOf f
+
+    w : Whole f
+    w = whole-facts f (h .none)
+
+    r : InRange c
+    r = w .header .ranges
+
+    task-fits : (i : ℕ) → i < c .tasks → TaskFits (c .processors) (taskAt (drop tasksAt f) i)
+    task-fits i l =
+        let part : List ℕ = drop tasksAt f in
+        let b : Bytes part = bytes-drop tasksAt f (checked-bytes f h) in
+        let ok = and-parts (taskOk (c .processors) (taskAt part i)) (eqb (taskSpare part i) 0) (all-at (c .tasks) i _ (w .tasks) l) .0 in
+        let t = task-facts (c .processors) (taskAt part i) ok in
+        let priority : taskAt part i .priority ≡ getD part (i * 8 + 2) 0 = ap (λ (v : TaskRow). v .priority) (task-fields part i) in
+        let period : taskAt part i .period ≡ number 2 part (i * 8 + 4) = ap (λ (v : TaskRow). v .period) (task-fields part i) in
+        record {
+          processor = t .processor;
+          tag = omega (arith, t .tag);
+          low = t .priority;
+          high = omega (arith, b (i * 8 + 2));
+          execution = t .execution;
+          within = t .period;
+          period = omega (arith, word-below part (i * 8 + 4) b);
+        }
+
+    task : ℕ → TaskRow
+    task = taskAt (drop tasksAt f)
+
+    -- no earlier task has both, by the check of unique rows
+    earlier : (i j : ℕ) → i < c .tasks → j < i → task i .processor ≡ task j .processor → task i .priority ≡ task j .priority → ⊥
+    earlier i j l m p q =
+        let rows : List TaskRow = tasksOf f in
+        let at : taskOf rows i ≡ task i = task-read (c .tasks) (drop tasksAt f) i l (r .tasks) in
+        let before : taskOf rows j ≡ task j = task-read (c .tasks) (drop tasksAt f) j (omega arith) (r .tasks) in
+        let new : priorityNew rows i ≡ true = and-parts (tagNew rows i) (priorityNew rows i) (all-at (c .tasks) i _ (w .unique) l) .1 in
+        let off = not-true _ (all-at i j (λ k. not (eqb (taskOf rows i .processor) (taskOf rows k .processor) && eqb (taskOf rows i .priority) (taskOf rows k .priority))) new m) in
+        let processor : eqb (taskOf rows i .processor) (taskOf rows j .processor) ≡ true = eq-eqb _ _ (ap (λ (v : TaskRow). v .processor) at ∙ p ∙ sym (ap (λ (v : TaskRow). v .processor) before)) in
+        let priority : eqb (taskOf rows i .priority) (taskOf rows j .priority) ≡ true = eq-eqb _ _ (ap (λ (v : TaskRow). v .priority) at ∙ q ∙ sym (ap (λ (v : TaskRow). v .priority) before)) in
+        true≢false (sym (ap₂ _&&_ processor priority) ∙ off)
+
+    unique : (i j : ℕ) → i < c .tasks → j < c .tasks → task i .processor ≡ task j .processor → task i .priority ≡ task j .priority → i ≡ j
+    unique i j l m p q =
+        let up : i ≤ j = ltb-false j i (is-not-true _ (λ b. earlier i j l (ltb-true j i b) p q)) in
+        let down : j ≤ i = ltb-false i j (is-not-true _ (λ b. earlier j i m (ltb-true i j b) (sym p) (sym q))) in
+        omega arith
+
+    section-fits : (s : ℕ) → s < c .sections → SectionFits (c .tasks) (c .resources) (sectionAt (drop (sectionsAt c) f) s)
+    section-fits s l =
+        let part : List ℕ = drop (sectionsAt c) f in
+        let t = section-facts (c .tasks) (c .resources) (sectionAt part s) (all-at (c .sections) s _ (w .sections) l) in
+        record { task = t .task; resource = t .resource; low = t .low; high = t .high }

@@ -7,6 +7,8 @@ ghost use lib.ListN.{length};
 ghost use Rattle.parts.specs.Layout.{countsOf, rowsOf};
 ghost use Rattle.plan.specs.Reading.{headerCode, rowsCode, reading, refusal, told, readTold, nameRefusal, nameOf, refusedWith, planLength};
 
+pub mod checked;
+
 // A read plan's counts, or the number of the first check that it fails.
 pub enum ReadAnswer {
     Accepted(Counts),

@@ -1,0 +1,231 @@
+-- What each answer is, case by case: what is refused, what is given, and what it tells.
+use Prim.Native.Nat.{ℕ, _<_, _≤_, _/_, _%_}
+use mathlib.Core.Bool.{Bool, true, false, cond, not, _||_}
+use mathlib.Core.List.{List, [], _∷_}
+use mathlib.Core.Path.{_≡_, refl, sym, ap, _∙_}
+use native.Mathlib.Omega.{arith}
+use native.Mathlib.Nat.{div-add-mod'}
+use borrow.Author.Tests.{eq-eqb, ne-eqb, lt-ltb, le-ltb, ltb-true}
+use lib.Dec.{ltb}
+use lib.ListN.{getD, replicate, length-replicate}
+use lib.Seq.{ext-getD}
+use Rattle.folds.specs.Bytes.{placedBelow}
+use Rattle.folds.proofs.Tests.{code-zero, code-next}
+use Rattle.folds.proofs.Arrays.{by-eq, placed-at, placed-length}
+use Rattle.plan.specs.Plan.{Plan, Valid, planOf, Checked}
+use Rattle.plan.specs.Reading.{refusal, answered}
+use Rattle.equations.specs.Sharing.{uses, global}
+use Rattle.equations.specs.HoldTimes.{longestOn, holdAt}
+use Rattle.equations.specs.Blocking.{globalCount}
+use Rattle.equations.specs.Requirement.{asks, met, admitted}
+use Rattle.equations.specs.Questions.{taskNumber, sharingCode, useCode, processorCode, requirementCode}
+use Rattle.equations.proofs.Laws.{uses-longest}
+use Rattle.tables.specs.Tables.{Columns}
+use Rattle.requirements.specs.declared.Requirement.{Requirement}
+use Rattle.requirements.specs.Figures.{requirementOf}
+use Rattle.analysis.specs.declared.Figure.{Figure}
+use Rattle.analysis.specs.declared.Figure.the-variants.{Given, Refused}
+use Rattle.analysis.specs.declared.RequirementAnswer.{RequirementAnswer}
+use Rattle.analysis.specs.declared.RequirementAnswer.the-variants as requirements
+use Rattle.analysis.specs.declared.AdmissionAnswer.{AdmissionAnswer}
+use Rattle.analysis.specs.declared.AdmissionAnswer.the-variants as admissions
+use Rattle.analysis.specs.Answers.{afterReading, figure, figureTold, shareCode, requirementGiven, requirementValues, requirementTold, signedAnswered, admissionAnswer, admissionTold, holdTimes}
+
+-- a file of bytes that no check refused
+pub checked-file : (f : List ℕ) → refusal f ≡ 0 → ((i : ℕ) → getD f i 0 < 256) → Checked f
+checked-file f z b = record { none = z; bytes = λ i l. b i }
+
+-- a number is that of the reading, or the one that comes after it
+module _ (f : List ℕ) (n : ℕ) where
+  pub reading-fails : {k : ℕ} → k ≡ refusal f → (k ≡ 0 → ⊥) → k ≡ afterReading f n
+  unfolding afterReading
+  reading-fails e d = rw (← e, ne-eqb _ _ d)
+
+  pub reading-holds : {k : ℕ} → k ≡ refusal f → k ≡ 0 → afterReading f n ≡ n
+  unfolding afterReading
+  reading-holds e z = rw (eq-eqb (refusal f) 0 (sym e ∙ z))
+
+-- where a number is 0, so are both
+pub reading-clear : (f : List ℕ) (n : ℕ) → afterReading f n ≡ 0 → (refusal f ≡ 0) × (n ≡ 0)
+unfolding afterReading
+reading-clear f n =
+    by-eq (λ (b : Bool). cond b n (refusal f) ≡ 0 → (refusal f ≡ 0) × (n ≡ 0)) (refusal f) 0 (λ q h. (q, h)) (λ d h. absurd (d h))
+
+-- a figure given, and one refused
+pub figure-given : {n v w : ℕ} → 0 ≡ n → w ≡ v → Given w ≡ figure n v
+unfolding figure
+figure-given z e = rw (← z, e)
+
+pub figure-refused : {k n : ℕ} (v : ℕ) → k ≡ n → (k ≡ 0 → ⊥) → Refused k ≡ figure n v
+unfolding figure
+figure-refused {k} v e d = rw (← e, ne-eqb k 0 d)
+
+-- the answer of a question that comes after the reading
+pub reading-figure : (f : List ℕ) (n v : ℕ) {k : ℕ} {r : Figure} → k ≡ refusal f → k ≡ 0 → r ≡ figure n v → r ≡ figure (afterReading f n) v
+reading-figure f n v e z h = rw (reading-holds f n e z) h
+
+-- both things that a contract says of an answer
+pub figure-told : (k v : ℕ) {r : Figure} → r ≡ figure k v → (r ≡ figure k v) × (figureTold r ≡ answered k (v ∷ []))
+unfolding figure
+figure-told k v e = (e, ap figureTold e ∙ go)
+  where
+    go : figureTold (figure k v) ≡ answered k (v ∷ [])
+    go =
+        by-eq
+        (λ (b : Bool). figureTold (cond b (Given v) (Refused k)) ≡ record { number = k; values = cond b (v ∷ []) [] })
+        k 0 (λ q. rw q) (λ d. refl)
+
+-- 18 and 12, or neither
+module _ (p : Plan) where
+  pub no-processor : (k q : ℕ) → p .processors ≤ k → 18 ≡ processorCode p k q
+  unfolding processorCode
+  no-processor k q h = rw (le-ltb k (p .processors) h)
+
+  pub no-resource : (k q : ℕ) → k < p .processors → p .resources ≤ q → 12 ≡ processorCode p k q
+  unfolding processorCode
+  no-resource k q l h = rw (lt-ltb k (p .processors) l, le-ltb q (p .resources) h)
+
+  pub both-there : (k q : ℕ) → k < p .processors → q < p .resources → 0 ≡ processorCode p k q
+  unfolding processorCode
+  both-there k q l h = rw (lt-ltb k (p .processors) l, lt-ltb q (p .resources) h)
+
+  processor-clear : (k q : ℕ) → processorCode p k q ≡ 0 → q < p .resources
+  unfolding processorCode
+  processor-clear k q e =
+      ltb-true q (p .resources) (code-zero (ltb q (p .resources)) 0 11 (code-next (ltb k (p .processors)) _ 17 e))
+
+  -- the same for the task of a tag and a resource
+  pub no-task : (tag q : ℕ) → p .tasks ≤ taskNumber p tag → 11 ≡ useCode p tag q
+  unfolding useCode
+  no-task tag q h = rw (le-ltb (taskNumber p tag) (p .tasks) h)
+
+  pub no-resource-used : (tag q : ℕ) → taskNumber p tag < p .tasks → p .resources ≤ q → 12 ≡ useCode p tag q
+  unfolding useCode
+  no-resource-used tag q l h = rw (lt-ltb (taskNumber p tag) (p .tasks) l, le-ltb q (p .resources) h)
+
+  pub use-asked : (tag q : ℕ) → taskNumber p tag < p .tasks → q < p .resources → useCode p tag q ≡ sharingCode p (taskNumber p tag) q
+  unfolding useCode
+  use-asked tag q l h = rw (lt-ltb (taskNumber p tag) (p .tasks) l, lt-ltb q (p .resources) h)
+
+-- what a question about shares that is not refused tells
+pub share-clear : (f : List ℕ) (k q : ℕ) → shareCode f k q ≡ 0 → ((i : ℕ) → getD f i 0 < 256) → (Checked f) × (q < planOf f .resources)
+unfolding shareCode
+share-clear f k q e b =
+    let r = reading-clear f (processorCode (planOf f) k q) e in
+    (checked-file f (r .0) b, processor-clear (planOf f) k q (r .1))
+
+-- 13, 14 or neither: who uses a resource has a longest section on it
+module _ (p : Plan) (v : Valid p) (i q : ℕ) where
+  pub not-used : longestOn p i q ≡ 0 → 13 ≡ sharingCode p i q
+  unfolding sharingCode
+  not-used z = rw (uses-longest p v i q, z)
+
+  used : (longestOn p i q ≡ 0 → ⊥) → uses p i q ≡ true
+  used d = uses-longest p v i q ∙ lt-ltb 0 (longestOn p i q) (omega (arith, d))
+
+  pub not-shared : (longestOn p i q ≡ 0 → ⊥) → global p q ≡ false → 14 ≡ sharingCode p i q
+  unfolding sharingCode
+  not-shared d g = rw (used d, g)
+
+  pub shared-used : (longestOn p i q ≡ 0 → ⊥) → global p q ≡ true → 0 ≡ sharingCode p i q
+  unfolding sharingCode
+  shared-used d g = rw (used d, g)
+
+-- a table of columns is the list of its figures: x stands in column x / 64 at x % 64
+pub columns-list : (f : ℕ → ℕ → ℕ) (t : List ℕ) → Columns f t → t ≡ placedBelow 1024 (λ x. f (x % 64) (x / 64)) (replicate 1024 0)
+columns-list f t c =
+    ext-getD 0 t _ (c .long ∙ sym (length-replicate {A = ℕ} 1024 0) ∙ sym (placed-length 1024 _ (replicate 1024 0)))
+    (λ x l. at x (omega (arith, c .long)))
+  where
+    at : (x : ℕ) → x < 1024 → getD t x 0 ≡ getD (placedBelow 1024 (λ y. f (y % 64) (y / 64)) (replicate 1024 0)) x 0
+    at x l =
+        let m : x % 64 < 64 = omega arith in
+        let d : x / 64 < 16 = omega arith in
+        ap (λ (y : ℕ). getD t y 0) (sym (div-add-mod' x 64))
+        ∙ c .at (x % 64) (x / 64) m d
+        ∙ sym (placed-at 1024 x (λ y. f (y % 64) (y / 64)) (replicate 1024 0) 0 l (rw length-replicate (omega arith)))
+
+-- all hold times, refused and given
+module _ (f : List ℕ) where
+  pub times-refused : {k : ℕ} → k ≡ refusal f → (k ≡ 0 → ⊥) → record { times = replicate 1024 0; refusal = k } ≡ holdTimes f
+  unfolding holdTimes
+  times-refused e d = rw (← e, ne-eqb _ _ d)
+
+  pub times-given : {t : List ℕ} → refusal f ≡ 0 → Columns (holdAt (planOf f)) t → record { times = t; refusal = 0 } ≡ holdTimes f
+  unfolding holdTimes
+  times-given {t} z c = rw (z, columns-list (holdAt (planOf f)) t c)
+
+-- a requirement given, and one refused
+pub requirement-given : {n : ℕ} {r s : Requirement} → 0 ≡ n → s ≡ r → requirements.Found s ≡ requirementGiven n r
+unfolding requirementGiven
+requirement-given z e = rw (← z, e)
+
+pub requirement-refused : {k n : ℕ} (r : Requirement) → k ≡ n → (k ≡ 0 → ⊥) → requirements.Refused k ≡ requirementGiven n r
+unfolding requirementGiven
+requirement-refused {k} r e d = rw (← e, ne-eqb k 0 d)
+
+-- the answer of a question that comes after the reading
+pub reading-requirement : (f : List ℕ) (n : ℕ) (r : Requirement) {k : ℕ} {a : RequirementAnswer} → k ≡ refusal f → k ≡ 0 → a ≡ requirementGiven n r → a ≡ requirementGiven (afterReading f n) r
+reading-requirement f n r e z h = rw (reading-holds f n e z) h
+
+-- both things that a contract says of an answer
+pub requirement-told : (k : ℕ) (r : Requirement) {a : RequirementAnswer} → a ≡ requirementGiven k r → (a ≡ requirementGiven k r) × (requirementTold a ≡ signedAnswered k (requirementValues r))
+unfolding requirementGiven
+requirement-told k r e = (e, ap requirementTold e ∙ go)
+  where
+    go : requirementTold (requirementGiven k r) ≡ signedAnswered k (requirementValues r)
+    go =
+        by-eq
+        (λ (b : Bool). requirementTold (cond b (requirements.Found r) (requirements.Refused k)) ≡ record { number = k; values = cond b (requirementValues r) [] })
+        k 0 (λ q. rw q) (λ d. refl)
+
+-- a task asks where it has a global section
+module _ (p : Plan) where
+  asks-not : (i : ℕ) {n : ℕ} → n ≡ globalCount p i → n ≡ 0 → asks p i ≡ false
+  unfolding asks
+  asks-not i e z = le-ltb 0 (globalCount p i) (omega arith)
+
+  asks-some : (i : ℕ) {n : ℕ} → n ≡ globalCount p i → (n ≡ 0 → ⊥) → asks p i ≡ true
+  unfolding asks
+  asks-some i e d = lt-ltb 0 (globalCount p i) (omega (arith, d))
+
+  -- 11, 17 or neither
+  pub no-task-asked : (tag : ℕ) → p .tasks ≤ taskNumber p tag → 11 ≡ requirementCode p tag
+  unfolding requirementCode
+  no-task-asked tag h = rw (le-ltb (taskNumber p tag) (p .tasks) h)
+
+  pub not-asked : (tag : ℕ) {i n : ℕ} → i ≡ taskNumber p tag → i < p .tasks → n ≡ globalCount p i → n ≡ 0 → 17 ≡ requirementCode p tag
+  unfolding requirementCode
+  not-asked tag {i} t l e z = rw (← t, lt-ltb i (p .tasks) l, asks-not i e z)
+
+  pub task-asked : (tag : ℕ) {i n : ℕ} → i ≡ taskNumber p tag → i < p .tasks → n ≡ globalCount p i → (n ≡ 0 → ⊥) → 0 ≡ requirementCode p tag
+  unfolding requirementCode
+  task-asked tag {i} t l e d = rw (← t, lt-ltb i (p .tasks) l, asks-some i e d)
+
+  -- a task that does not ask passes; one that asks where its requirement is met
+  pub passes-idle : (i : ℕ) {n : ℕ} → n ≡ globalCount p i → n ≡ 0 → true ≡ (not (asks p i) || met p i)
+  passes-idle i e z = rw (asks-not i e z)
+
+  pub passes-met : (i : ℕ) {n : ℕ} {r : Requirement} → n ≡ globalCount p i → (n ≡ 0 → ⊥) → r ≡ requirementOf p i → r .met ≡ (not (asks p i) || met p i)
+  unfolding requirementOf
+  passes-met i e d h = rw (asks-some i e d, h)
+
+-- admission, refused and decided, and both things that its contract says
+module _ (f : List ℕ) where
+  pub admission-refused : {k : ℕ} → k ≡ refusal f → (k ≡ 0 → ⊥) → admissions.Refused k ≡ admissionAnswer f
+  unfolding admissionAnswer
+  admission-refused e d = rw (← e, ne-eqb _ _ d)
+
+  pub admission-decided : {b : Bool} → refusal f ≡ 0 → b ≡ admitted (planOf f) → admissions.Decided b ≡ admissionAnswer f
+  unfolding admissionAnswer
+  admission-decided z e = rw (z, e)
+
+  pub admission-told : {a : AdmissionAnswer} → a ≡ admissionAnswer f → (a ≡ admissionAnswer f) × (admissionTold a ≡ answered (refusal f) (cond (admitted (planOf f)) 1 0 ∷ []))
+  unfolding admissionAnswer
+  admission-told e = (e, ap admissionTold e ∙ go)
+    where
+      go : admissionTold (admissionAnswer f) ≡ answered (refusal f) (cond (admitted (planOf f)) 1 0 ∷ [])
+      go =
+          by-eq
+          (λ (b : Bool). admissionTold (cond b (admissions.Decided (admitted (planOf f))) (admissions.Refused (refusal f))) ≡ record { number = refusal f; values = cond b (cond (admitted (planOf f)) 1 0 ∷ []) [] })
+          (refusal f) 0 (λ q. rw q) (λ d. refl)

@@ -1,0 +1,72 @@
+-- The invariant: each task below `i` passes.
+use Prim.Native.Nat.{_≤_, _-_}
+use mathlib.Core.Bool.{true, not, _||_}
+use mathlib.Core.Path.{_≡_, refl, sym, _∙_}
+use native.Mathlib.Omega.{arith}
+use borrow.Author.Needs.{needs}
+use Rattle.folds.specs.Below.{allBelow}
+use Rattle.folds.proofs.Tests.{all-more, all-left, all-done, held, failed}
+use Rattle.plan.specs.Plan.{planOf}
+use Rattle.equations.specs.Requirement.{asks, met, admitted}
+use Rattle.analysis.proofs.all_pass.Statement.{statement}
+use Rattle.analysis.proofs.all_pass.Tie as tie
+
+abbrev Inv-loop : tie.InvT-loop
+Inv-loop file tasks holds counts globals ceilings n i₀ i =
+    (i ≤ n) × (n ≡ planOf file .tasks) × (allBelow i (λ j. not (asks (planOf file) j) || met (planOf file) j) ≡ true)
+
+abbrev μ-loop : tie.MeasureT-loop
+μ-loop file tasks holds counts globals ceilings n i₀ i = n - i
+
+counts-requires : tie.Need-counts-requires Inv-loop μ-loop
+counts-requires c κs = c .before .before .before .before .pre .0
+
+wide-requires : tie.Need-wide-requires Inv-loop μ-loop
+wide-requires c κs = search needs
+
+loop-holds : tie.Need-loop-holds Inv-loop μ-loop
+unfolding allBelow
+loop-holds c = (omega arith, c .wide .ensures .0 ∙ c .before .counts .ensures .1, refl)
+
+passes-requires : tie.Need-passes-requires Inv-loop μ-loop
+passes-requires c κs =
+    let h = c .before .before .before .before .before .before .before .before .pre in
+    (h .0, h .1, h .2, h .3, h .4, h .5, omega (arith, c .before .loop .inv .1))
+
+returns : tie.Need-returns Inv-loop μ-loop
+unfolding admitted
+returns c =
+    all-left _ (c .before .before .before .loop .i) _ (omega (arith, c .before .before .before .loop .inv .1)) (failed (c .before .passes .ensures) (c .if1 .taken))
+
+add-i : tie.Need-add-i Inv-loop μ-loop
+add-i c = omega arith
+
+loop-less : tie.Need-loop-less Inv-loop μ-loop
+loop-less c = omega arith
+
+loop-again : tie.Need-loop-again Inv-loop μ-loop
+loop-again c =
+    let l = c .before .before .before .loop in
+    (omega arith, l .inv .1, all-more _ _ (l .inv .2) (held (c .before .passes .ensures) (c .if1 .left)))
+
+returns-2 : tie.Need-returns-2 Inv-loop μ-loop
+unfolding admitted
+returns-2 c =
+    let l = c .before .loop in
+    all-done _ (l .i) _ (omega (arith, l .inv .1)) (sym (l .inv .2))
+
+pub all-pass-spec : {M : Type 1} → statement M
+all-pass-spec =
+    tie.close
+    (tie.spec
+    Inv-loop
+    μ-loop
+    counts-requires
+    wide-requires
+    loop-holds
+    passes-requires
+    returns
+    add-i
+    loop-less
+    loop-again
+    returns-2)

@@ -1,0 +1,45 @@
+-- A table of each hold time is the list of them.
+use mathlib.Core.Path.{sym, _∙_}
+use borrow.Author.Needs.{needs}
+use Rattle.plan.specs.Plan.{Checked}
+use Rattle.analysis.proofs.Told.{checked-file, times-refused, times-given}
+use Rattle.analysis.proofs.hold_times.Statement.{statement}
+use Rattle.analysis.proofs.hold_times.Tie as tie
+
+check-requires : tie.Need-check-requires
+check-requires c κs = search needs
+
+returns : tie.Need-returns
+returns c = times-refused _ (c .before .check .ensures) (c .if1 .taken)
+
+-- no check refused the file
+checked : (c : tie.Else1) → Checked (c .before .before .before .args .file .now)
+checked c =
+    checked-file _ (sym (c .before .check .ensures) ∙ c .if1 .left) (λ i. c .before .before .shared-slice-known .given i .fits)
+
+globals-requires : tie.Need-globals-requires
+globals-requires c κs = checked c
+
+task-table-requires : tie.Need-task-table-requires
+task-table-requires c κs = (checked (c .before), c .globals .ensures)
+
+slice-aggregate-hold-table : tie.Need-slice-aggregate-hold-table
+slice-aggregate-hold-table c = search needs
+
+hold-table-requires : tie.Need-hold-table-requires
+hold-table-requires c κs = (checked (c .before .before .before), c .before .task-table .ensures, c .before .before .globals .ensures)
+
+returns-2 : tie.Need-returns-2
+returns-2 c = times-given _ (checked (c .before .before .before .before) .none) (c .hold-table .ensures)
+
+pub hold-times-spec : {M : Type 1} → statement M
+hold-times-spec =
+    tie.close
+    (tie.spec
+    check-requires
+    returns
+    globals-requires
+    task-table-requires
+    slice-aggregate-hold-table
+    hold-table-requires
+    returns-2)

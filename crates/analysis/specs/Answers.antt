@@ -1,0 +1,96 @@
+-- What each question about a plan file is answered: document 01's number and values for each case.
+use Prim.Native.Nat.{ℕ, _/_, _%_}
+use mathlib.Core.Bool.{cond}
+use mathlib.Core.List.{List, [], _∷_}
+use lib.Dec.{eqb}
+use lib.IntN.{ℤ, pos}
+use lib.ListN.{replicate}
+use Rattle.folds.specs.Bytes.{placedBelow}
+use Rattle.plan.specs.Reading.{refusal, Told}
+use Rattle.plan.specs.Plan.{planOf}
+use Rattle.equations.specs.HoldTimes.{holdTime, holdAt}
+use Rattle.equations.specs.Requirement.{admitted}
+use Rattle.equations.specs.Questions.{taskNumber, useCode, processorCode, requirementCode}
+use Rattle.requirements.specs.declared.Requirement.{Requirement}
+use Rattle.requirements.specs.Figures.{requirementOf}
+use Rattle.analysis.specs.declared.Figure.{Figure}
+use Rattle.analysis.specs.declared.Figure.the-variants as figures
+use Rattle.analysis.specs.declared.RequirementAnswer.{RequirementAnswer}
+use Rattle.analysis.specs.declared.RequirementAnswer.the-variants as requirements
+use Rattle.analysis.specs.declared.AdmissionAnswer.{AdmissionAnswer}
+use Rattle.analysis.specs.declared.AdmissionAnswer.the-variants as admissions
+use Rattle.analysis.specs.declared.HoldTimes.{HoldTimes}
+
+-- "Each operation given a plan file first gives 1 to 9 as reading does"; then the number k of its own
+unfoldable pub afterReading : List ℕ → ℕ → ℕ
+afterReading f k = cond (eqb (refusal f) 0) k (refusal f)
+
+-- a figure, or the refusal k where that is not 0: "No figure is given."
+unfoldable pub figure : ℕ → ℕ → Figure
+figure k v = cond (eqb k 0) (figures.Given v) (figures.Refused k)
+
+-- what a figure's answer tells
+abbrev pub figureTold : Figure → Told
+figureTold (figures.Given v) = record { number = 0; values = v ∷ [] }
+figureTold (figures.Refused k) = record { number = k; values = [] }
+
+-- the hold time of a resource by the task with a tag
+unfoldable pub holdCode : List ℕ → ℕ → ℕ → ℕ
+holdCode f tag q = afterReading f (useCode (planOf f) tag q)
+
+-- and the figure where none is refused
+abbrev pub holdFigure : List ℕ → ℕ → ℕ → ℕ
+holdFigure f tag q = holdTime (planOf f) (taskNumber (planOf f) tag) q
+
+-- the budget and the wait time of a processor on a resource
+unfoldable pub shareCode : List ℕ → ℕ → ℕ → ℕ
+shareCode f k q = afterReading f (processorCode (planOf f) k q)
+
+-- the requirement of the task with a tag
+unfoldable pub requirementNumber : List ℕ → ℕ → ℕ
+requirementNumber f tag = afterReading f (requirementCode (planOf f) tag)
+
+-- and its figures where none is refused
+abbrev pub requirementFigures : List ℕ → ℕ → Requirement
+requirementFigures f tag = requirementOf (planOf f) (taskNumber (planOf f) tag)
+
+-- a requirement, or the refusal k where that is not 0
+unfoldable pub requirementGiven : ℕ → Requirement → RequirementAnswer
+requirementGiven k r = cond (eqb k 0) (requirements.Found r) (requirements.Refused k)
+
+-- a number and values, some of which may be negative
+pub record SignedTold : Type 0 where
+  pub number : ℕ
+  pub values : List ℤ
+
+-- "The requirement's answer is B1, B2, tolerance, slack, waiting side and whether it is met", 1 for met
+abbrev pub requirementValues : Requirement → List ℤ
+requirementValues r =
+    pos (r .blocking1) ∷ pos (r .blocking2) ∷ r .tolerance ∷ r .slack ∷ pos (r .side) ∷ pos (cond (r .met) 1 0) ∷ []
+
+-- what a requirement's answer tells
+abbrev pub requirementTold : RequirementAnswer → SignedTold
+requirementTold (requirements.Found r) = record { number = 0; values = requirementValues r }
+requirementTold (requirements.Refused k) = record { number = k; values = [] }
+
+-- the refusal k with no values, or the values where k is 0
+abbrev pub signedAnswered : ℕ → List ℤ → SignedTold
+signedAnswered k values = record { number = k; values = cond (eqb k 0) values [] }
+
+-- "the question of admission refuse[s] nothing further"
+unfoldable pub admissionAnswer : List ℕ → AdmissionAnswer
+admissionAnswer f = cond (eqb (refusal f) 0) (admissions.Decided (admitted (planOf f))) (admissions.Refused (refusal f))
+
+-- 1 for admitted
+abbrev pub admissionTold : AdmissionAnswer → Told
+admissionTold (admissions.Decided b) = record { number = 0; values = cond b 1 0 ∷ [] }
+admissionTold (admissions.Refused k) = record { number = k; values = [] }
+
+-- all hold times of a plan at once: that of resource q by task i stands at q × 64 + i, 0 where the question for it would be
+-- refused, or there is no such task; all are 0 where the plan is refused
+unfoldable pub holdTimes : List ℕ → HoldTimes
+holdTimes f =
+    record {
+      refusal = refusal f;
+      times = cond (eqb (refusal f) 0) (placedBelow 1024 (λ x. holdAt (planOf f) (x % 64) (x / 64)) (replicate 1024 0)) (replicate 1024 0);
+    }

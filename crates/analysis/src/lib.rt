@@ -1,0 +1,289 @@
+// The questions about a plan file: hold time, budget, wait time, requirement and admission. Each takes any bytes and refuses by
+// number what it does not accept.
+use requirements::Requirement;
+ghost use mathlib.Core.Path.{_≡_};
+ghost use mathlib.Core.Bool.{cond, not, _||_};
+ghost use mathlib.Core.List.{[], _∷_};
+ghost use Prim.Native.Nat.{_<_};
+ghost use Rattle.plan.specs.Reading.{refusal, answered};
+ghost use Rattle.plan.specs.Plan.{planOf, Checked};
+ghost use Rattle.equations.specs.HoldTimes.{holdTime, holdAt, budget, waitTime};
+ghost use Rattle.equations.specs.Blocking.{globalCount, ceiling};
+ghost use Rattle.equations.specs.Requirement.{asks, met, admitted};
+ghost use Rattle.equations.specs.Questions.{taskNumber, sharingCode, useCode, processorCode, requirementCode};
+ghost use Rattle.tables.specs.Tables.{Columns, Column, Globals, Tasks};
+ghost use Rattle.requirements.specs.Figures.{Row, requirementOf};
+ghost use Rattle.analysis.specs.Answers.{figure, figureTold, holdCode, holdFigure, shareCode, requirementNumber, requirementFigures, requirementGiven, requirementValues, requirementTold, signedAnswered, admissionAnswer, admissionTold, holdTimes};
+
+// A hold time, a budget or a wait time, or why none is given.
+pub enum Figure {
+    Given(u32),
+    Refused(u8),
+}
+
+// A task's requirement, or why there is none.
+pub enum RequirementAnswer {
+    Found(Requirement),
+    Refused(u8),
+}
+
+// Whether a plan is admitted, or why that is not decided.
+pub enum AdmissionAnswer {
+    Decided(bool),
+    Refused(u8),
+}
+
+// All hold times of a plan, that of resource q by task i at q * 64 + i; all 0 where the plan is refused.
+pub struct HoldTimes {
+    pub times: [u16; 1024],
+    pub refusal: u8,
+}
+
+// A processor's budget on a resource, and its wait time.
+struct Shares {
+    budget: u16,
+    wait: u32,
+}
+
+// 13 and 14, or the hold time of resource q by task i.
+fn hold_of(file: &[u8], i: usize, q: u8) -> Figure
+    requires { ⌜ (Checked (now file)) × (i < planOf (now file) .tasks) × (q < planOf (now file) .resources) ⌝ }
+    ensures { λ r. ⌜ r ≡ figure (sharingCode (planOf (now (file .entry))) i q) (holdTime (planOf (now (file .entry))) i q) ⌝ }
+{
+    let longest = tables::longest_on(file, i, q);
+    if longest == 0 {
+        return Figure::Refused(13);
+    }
+    let globals = tables::globals(file);
+    if !globals[folds::wide(q)] {
+        return Figure::Refused(14);
+    }
+    let tasks = tables::task_table(file, globals);
+    let hold = tables::hold(file, &tasks, longest, i, q);
+    Figure::Given(hold as u32)
+}
+
+// 11 and 12, then that.
+fn hold_question(file: &[u8], tag: u16, q: u8) -> Figure
+    requires { ⌜ Checked (now file) ⌝ }
+    ensures { λ r. ⌜ r ≡ figure (useCode (planOf (now (file .entry))) tag q) (holdTime (planOf (now (file .entry))) (taskNumber (planOf (now (file .entry))) tag) q) ⌝ }
+{
+    let counts = plan::checked::counts(file);
+    let i = tables::task_number(file, tag);
+    if folds::wide(counts.tasks) <= i {
+        return Figure::Refused(11);
+    }
+    if counts.resources <= q {
+        return Figure::Refused(12);
+    }
+    hold_of(file, i, q)
+}
+
+// The hold time of a resource by the task with this tag.
+pub fn hold_time(file: &[u8], tag: u16, resource: u8) -> Figure
+    ensures { λ r. ⌜ r ≡ figure (holdCode (now (file .entry)) tag resource) (holdFigure (now (file .entry)) tag resource) ⌝ }
+    ensures { λ r. ⌜ figureTold r ≡ answered (holdCode (now (file .entry)) tag resource) (holdFigure (now (file .entry)) tag resource ∷ []) ⌝ }
+{
+    let code = plan::check(file);
+    if code != 0 {
+        return Figure::Refused(code);
+    }
+    hold_question(file, tag, resource)
+}
+
+// Budget and wait time of processor k on resource q.
+fn shares_of(file: &[u8], k: u8, q: u8) -> Shares
+    requires { ⌜ (Checked (now file)) × (q < planOf (now file) .resources) ⌝ }
+    ensures { λ r. ⌜ (r .budget ≡ budget (planOf (now (file .entry))) k q) × (r .wait ≡ waitTime (planOf (now (file .entry))) k q) ⌝ }
+{
+    let globals = tables::globals(file);
+    let tasks = tables::task_table(file, globals);
+    let holds = tables::hold_table(file, &tasks, globals);
+    let at = folds::wide(q) * 64;
+    let column = &holds[at..at + 64];
+    Shares {
+        budget: tables::budget_in(file, &tasks, column, k, q),
+        wait: tables::wait_in(file, &tasks, column, k, q),
+    }
+}
+
+// 18, then 12, of a checked file: 0 where neither.
+fn processor_code(file: &[u8], k: u8, q: u8) -> u8
+    requires { ⌜ Checked (now file) ⌝ }
+    ensures { λ r. ⌜ r ≡ processorCode (planOf (now (file .entry))) k q ⌝ }
+{
+    let counts = plan::checked::counts(file);
+    if counts.processors <= k {
+        return 18;
+    }
+    if counts.resources <= q {
+        return 12;
+    }
+    0
+}
+
+// 1 to 9, then 18 and 12: 0 where none.
+fn share_code(file: &[u8], k: u8, q: u8) -> u8
+    ensures { λ r. ⌜ r ≡ shareCode (now (file .entry)) k q ⌝ }
+{
+    let code = plan::check(file);
+    if code != 0 {
+        return code;
+    }
+    processor_code(file, k, q)
+}
+
+// The budget of a processor on a resource; 0 where none of its tasks uses it, or it is local.
+pub fn budget(file: &[u8], processor: u8, resource: u8) -> Figure
+    ensures { λ r. ⌜ r ≡ figure (shareCode (now (file .entry)) processor resource) (budget (planOf (now (file .entry))) processor resource) ⌝ }
+    ensures { λ r. ⌜ figureTold r ≡ answered (shareCode (now (file .entry)) processor resource) (budget (planOf (now (file .entry))) processor resource ∷ []) ⌝ }
+{
+    let code = share_code(file, processor, resource);
+    if code != 0 {
+        return Figure::Refused(code);
+    }
+    let shares = shares_of(file, processor, resource);
+    Figure::Given(shares.budget as u32)
+}
+
+// The wait time of a processor on a resource: the sum of the budgets of all others.
+pub fn wait_time(file: &[u8], processor: u8, resource: u8) -> Figure
+    ensures { λ r. ⌜ r ≡ figure (shareCode (now (file .entry)) processor resource) (waitTime (planOf (now (file .entry))) processor resource) ⌝ }
+    ensures { λ r. ⌜ figureTold r ≡ answered (shareCode (now (file .entry)) processor resource) (waitTime (planOf (now (file .entry))) processor resource ∷ []) ⌝ }
+{
+    let code = share_code(file, processor, resource);
+    if code != 0 {
+        return Figure::Refused(code);
+    }
+    let shares = shares_of(file, processor, resource);
+    Figure::Given(shares.wait)
+}
+
+// The requirement of task i, with all that it needs gathered first.
+fn requirement_at(file: &[u8], globals: [bool; 16], counts: &[u16], i: usize) -> Requirement
+    requires { ⌜ (Checked (now file)) × (Globals (planOf (now file)) globals) × (Column (globalCount (planOf (now file))) (now counts)) × (i < planOf (now file) .tasks) ⌝ }
+    ensures { λ r. ⌜ r ≡ requirementOf (planOf (now (file .entry))) i ⌝ }
+{
+    let tasks = tables::task_table(file, globals);
+    let holds = tables::hold_table(file, &tasks, globals);
+    let ceilings = requirements::ceilings(file);
+    requirements::requirement_of(file, &tasks, &holds, counts, globals, ceilings, i)
+}
+
+// 11 and 17, of a checked file, or the requirement of the task with this tag.
+fn requirement_question(file: &[u8], tag: u16) -> RequirementAnswer
+    requires { ⌜ Checked (now file) ⌝ }
+    ensures { λ r. ⌜ r ≡ requirementGiven (requirementCode (planOf (now (file .entry))) tag) (requirementFigures (now (file .entry)) tag) ⌝ }
+{
+    let plan_counts = plan::checked::counts(file);
+    let i = tables::task_number(file, tag);
+    if folds::wide(plan_counts.tasks) <= i {
+        return RequirementAnswer::Refused(11);
+    }
+    let globals = tables::globals(file);
+    let counts = requirements::global_counts(file, globals);
+    if counts[i] == 0 {
+        return RequirementAnswer::Refused(17);
+    }
+    RequirementAnswer::Found(requirement_at(file, globals, &counts, i))
+}
+
+// The requirement of the task with this tag.
+pub fn requirement(file: &[u8], tag: u16) -> RequirementAnswer
+    ensures { λ r. ⌜ r ≡ requirementGiven (requirementNumber (now (file .entry)) tag) (requirementFigures (now (file .entry)) tag) ⌝ }
+    ensures { λ r. ⌜ requirementTold r ≡ signedAnswered (requirementNumber (now (file .entry)) tag) (requirementValues (requirementFigures (now (file .entry)) tag)) ⌝ }
+{
+    let code = plan::check(file);
+    if code != 0 {
+        return RequirementAnswer::Refused(code);
+    }
+    requirement_question(file, tag)
+}
+
+// Whether task i has no global section, or its requirement is met.
+fn passes(
+    file: &[u8],
+    tasks: &[u16],
+    holds: &[u16],
+    counts: &[u16],
+    globals: [bool; 16],
+    ceilings: [u16; 16],
+    i: usize,
+) -> bool
+    requires { ⌜ (Checked (now file)) × (Tasks (planOf (now file)) (now tasks)) × (Columns (holdAt (planOf (now file))) (now holds)) × (Column (globalCount (planOf (now file))) (now counts)) × (Globals (planOf (now file)) globals) × (Row (ceiling (planOf (now file))) ceilings) × (i < planOf (now file) .tasks) ⌝ }
+    ensures { λ r. ⌜ r ≡ (not (asks (planOf (now (file .entry))) i) || met (planOf (now (file .entry))) i) ⌝ }
+{
+    if counts[i] == 0 {
+        return true;
+    }
+    let found = requirements::requirement_of(file, tasks, holds, counts, globals, ceilings, i);
+    found.met
+}
+
+// Whether each task passes.
+fn all_pass(
+    file: &[u8],
+    tasks: &[u16],
+    holds: &[u16],
+    counts: &[u16],
+    globals: [bool; 16],
+    ceilings: [u16; 16],
+) -> bool
+    requires { ⌜ (Checked (now file)) × (Tasks (planOf (now file)) (now tasks)) × (Columns (holdAt (planOf (now file))) (now holds)) × (Column (globalCount (planOf (now file))) (now counts)) × (Globals (planOf (now file)) globals) × (Row (ceiling (planOf (now file))) ceilings) ⌝ }
+    ensures { λ r. ⌜ r ≡ admitted (planOf (now (file .entry))) ⌝ }
+{
+    let plan_counts = plan::checked::counts(file);
+    let n = folds::wide(plan_counts.tasks);
+    let mut i = 0;
+    while i < n {
+        if !passes(file, tasks, holds, counts, globals, ceilings, i) {
+            return false;
+        }
+        i += 1;
+    }
+    true
+}
+
+// Whether a checked plan is admitted.
+fn decided(file: &[u8]) -> bool
+    requires { ⌜ Checked (now file) ⌝ }
+    ensures { λ r. ⌜ r ≡ admitted (planOf (now (file .entry))) ⌝ }
+{
+    let globals = tables::globals(file);
+    let tasks = tables::task_table(file, globals);
+    let holds = tables::hold_table(file, &tasks, globals);
+    let counts = requirements::global_counts(file, globals);
+    let ceilings = requirements::ceilings(file);
+    all_pass(file, &tasks, &holds, &counts, globals, ceilings)
+}
+
+// Whether the plan is admitted: every task with a global section has its requirement met.
+pub fn admission(file: &[u8]) -> AdmissionAnswer
+    ensures { λ r. ⌜ r ≡ admissionAnswer (now (file .entry)) ⌝ }
+    ensures { λ r. ⌜ admissionTold r ≡ answered (refusal (now (file .entry))) (cond (admitted (planOf (now (file .entry)))) 1 0 ∷ []) ⌝ }
+{
+    let code = plan::check(file);
+    if code != 0 {
+        return AdmissionAnswer::Refused(code);
+    }
+    AdmissionAnswer::Decided(decided(file))
+}
+
+// All hold times of a plan at once.
+pub fn hold_times(file: &[u8]) -> HoldTimes
+    ensures { λ r. ⌜ r ≡ holdTimes (now (file .entry)) ⌝ }
+{
+    let code = plan::check(file);
+    if code != 0 {
+        return HoldTimes {
+            times: [0u16; 1024],
+            refusal: code,
+        };
+    }
+    let globals = tables::globals(file);
+    let tasks = tables::task_table(file, globals);
+    HoldTimes {
+        times: tables::hold_table(file, &tasks, globals),
+        refusal: 0,
+    }
+}

@@ -1,0 +1,45 @@
+-- The cases of the answer are those of the number.
+use mathlib.Core.Path.{_∙_}
+use Rattle.analysis_c.proofs.Numbers.{decided-number, refused-number}
+use borrow.Author.Needs.{needs}
+use Rattle.analysis_c.proofs.plan_admission.Statement.{statement}
+use Rattle.analysis_c.proofs.plan_admission.Tie as tie
+
+admission-requires : tie.Need-admission-requires
+admission-requires c κs = search needs
+
+enum-known-b : tie.Need-enum-known-b
+enum-known-b c = search needs
+
+enum-known-k : tie.Need-enum-known-k
+enum-known-k c = search needs
+
+byte-requires : tie.Need-byte-requires
+byte-requires c κs = search needs
+
+returns : tie.Need-returns
+returns c =
+    let a = c .before .before .before .before .admission .ensures .0 in
+    rw (c .if1 .taken) at (decided-number _ a _ (c .before .before .b .given .1))
+
+returns-2 : tie.Need-returns-2
+returns-2 c =
+    let a = c .before .before .before .before .admission .ensures .0 in
+    rw (c .if1 .left) at (decided-number _ a _ (c .before .before .b .given .1))
+
+returns-3 : tie.Need-returns-3
+returns-3 c =
+    let a = c .before .before .before .before .admission .ensures .0 in
+    c .byte .ensures .0 ∙ refused-number _ a _ (c .before .before .k .given .1)
+
+pub plan-admission-spec : {M : Type 1} → statement M
+plan-admission-spec =
+    tie.close
+    (tie.spec
+    admission-requires
+    enum-known-b
+    enum-known-k
+    byte-requires
+    returns
+    returns-2
+    returns-3)

@@ -1,0 +1,60 @@
+-- `cases::given::sections` is safe and ends: the measure is the rows that are left. Assumes nothing.
+use Prim.Native.Nat.{_≤_, _-_}
+use mathlib.Core.Path.{_≡_}
+use lib.ListN.{length}
+use borrow.Author.Needs.{needs}
+use Rattle.cases.proofs.given.sections.Statement.{statement}
+use Rattle.cases.proofs.given.sections.Tie as tie
+
+abbrev Inv-loop : tie.InvT-loop
+Inv-loop s rows₀ i₀ rows i = (i ≤ 255) × (length rows ≡ 255)
+
+abbrev μ-loop : tie.MeasureT-loop
+μ-loop s rows₀ i₀ rows i = 255 - i
+
+section-requires : tie.Need-section-requires Inv-loop μ-loop
+section-requires c κs = search needs
+
+loop-holds : tie.Need-loop-holds Inv-loop μ-loop
+loop-holds c = search needs
+
+mul-section : tie.Need-mul-section Inv-loop μ-loop
+mul-section c = search needs
+
+section-requires-2 : tie.Need-section-requires-2 Inv-loop μ-loop
+section-requires-2 c κs = search needs
+
+mul-rows : tie.Need-mul-rows Inv-loop μ-loop
+mul-rows c = search needs
+
+array-set-from-rows : tie.Need-array-set-from-rows Inv-loop μ-loop
+array-set-from-rows c = search needs
+
+add-i : tie.Need-add-i Inv-loop μ-loop
+add-i c = search needs
+
+loop-less : tie.Need-loop-less Inv-loop μ-loop
+loop-less c = search needs
+
+loop-again : tie.Need-loop-again Inv-loop μ-loop
+loop-again c = search needs
+
+returns : tie.Need-returns Inv-loop μ-loop
+returns c = search needs
+
+pub sections-spec : {M : Type 1} → statement M
+sections-spec =
+    tie.close
+    (tie.spec
+    Inv-loop
+    μ-loop
+    section-requires
+    loop-holds
+    mul-section
+    section-requires-2
+    mul-rows
+    array-set-from-rows
+    add-i
+    loop-less
+    loop-again
+    returns)

@@ -1,0 +1,92 @@
+// Questions about a plan: what is asked stands at the front of the case, the file behind it.
+use crate::given;
+use crate::print;
+use analysis::AdmissionAnswer;
+use analysis::Figure;
+use analysis::RequirementAnswer;
+use requirements::Requirement;
+
+fn figure(answer: Figure, name: &[u8]) {
+    match answer {
+        Figure::Given(n) => {
+            print::text(name);
+            print::number(n as u64);
+        }
+        Figure::Refused(k) => print::refused(k),
+    }
+}
+
+fn file(case: &[u8], at: usize) -> &[u8] {
+    given::part(case, at, case.len())
+}
+
+// The hold time of a resource by a task: the tag in two bytes, the resource.
+pub fn hold(case: &[u8]) {
+    let tag = given::word(case, 0);
+    let resource = given::byte(case, 2);
+    figure(analysis::hold_time(file(case, 3), tag, resource), b"hold");
+}
+
+// The budget of a processor on a resource, and its wait time.
+pub fn budget(case: &[u8]) {
+    let processor = given::byte(case, 0);
+    let resource = given::byte(case, 1);
+    figure(
+        analysis::budget(file(case, 2), processor, resource),
+        b"budget",
+    );
+}
+
+pub fn wait(case: &[u8]) {
+    let processor = given::byte(case, 0);
+    let resource = given::byte(case, 1);
+    figure(
+        analysis::wait_time(file(case, 2), processor, resource),
+        b"wait",
+    );
+}
+
+fn found(r: Requirement) {
+    print::text(b"requirement");
+    print::number(r.blocking1 as u64);
+    print::number(r.blocking2 as u64);
+    print::signed(r.tolerance);
+    print::signed(r.slack);
+    print::number(r.side);
+    print::which(r.met, b" met", b" unmet");
+}
+
+// The requirement of a task: the tag in two bytes.
+pub fn requirement(case: &[u8]) {
+    let tag = given::word(case, 0);
+    match analysis::requirement(file(case, 2), tag) {
+        RequirementAnswer::Found(r) => found(r),
+        RequirementAnswer::Refused(k) => print::refused(k),
+    }
+}
+
+// Whether the plan is admitted.
+pub fn admission(case: &[u8]) {
+    match analysis::admission(case) {
+        AdmissionAnswer::Decided(b) => print::which(b, b"admitted", b"not admitted"),
+        AdmissionAnswer::Refused(k) => print::refused(k),
+    }
+}
+
+// All hold times that are not 0, in the order of resources and then of tasks.
+pub fn holds(case: &[u8]) {
+    let found = analysis::hold_times(case);
+    if found.refusal != 0 {
+        print::refused(found.refusal);
+        return;
+    }
+    print::text(b"holds");
+    let times = found.times;
+    let mut i = 0;
+    while i < 1024 {
+        if times[i] != 0 {
+            print::number(times[i] as u64);
+        }
+        i += 1;
+    }
+}

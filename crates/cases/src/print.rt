@@ -1,0 +1,65 @@
+// The lines that are printed.
+use libc::STDOUT_FILENO;
+use plan::ReadAnswer;
+ghost use mathlib.Core.Path.{_≡_};
+ghost use mathlib.Core.Bool.{true};
+ghost use lib.IntN.{pos};
+ghost use lib.Signed.{ltZ};
+
+pub fn text(s: &[u8]) {
+    io::write_all(STDOUT_FILENO, s);
+}
+
+pub fn number(n: u64) {
+    text(b" ");
+    io::print_decimal(STDOUT_FILENO, n);
+}
+
+// How far below zero z is.
+fn below_zero(z: i64) -> u64
+    requires { ⌜ ltZ z (pos 0) ≡ true ⌝ }
+{
+    (-(z + 1)) as u64 + 1
+}
+
+pub fn signed(z: i64) {
+    if z < 0 {
+        text(b" -");
+        io::print_decimal(STDOUT_FILENO, below_zero(z));
+    } else {
+        number(z as u64);
+    }
+}
+
+pub fn refused(k: u8) {
+    text(b"refused");
+    number(k as u64);
+}
+
+pub fn reading(answer: ReadAnswer) {
+    match answer {
+        ReadAnswer::Accepted(counts) => {
+            text(b"plan");
+            number(counts.processors as u64);
+            number(counts.tasks as u64);
+            number(counts.resources as u64);
+            number(counts.sections as u64);
+        }
+        ReadAnswer::Refused(k) => refused(k),
+    }
+}
+
+pub fn which(right: bool, yes: &[u8], no: &[u8]) {
+    if right {
+        text(yes);
+    } else {
+        text(no);
+    }
+}
+
+pub fn written(len: u16, right: bool, again: bool) {
+    text(b"written");
+    number(len as u64);
+    which(right, b" same", b" differs");
+    which(again, b" again", b"");
+}

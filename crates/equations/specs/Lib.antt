@@ -1,0 +1,5 @@
+pub mod Sharing
+pub mod HoldTimes
+pub mod Blocking
+pub mod Requirement
+pub mod Questions

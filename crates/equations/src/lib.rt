@@ -1,0 +1,1 @@
+// The definitions of the analysis (specs/) with their laws (proofs/).

@@ -1,0 +1,33 @@
+// What a file that passed every check holds. These functions are for the crates above this one, which check a file once and
+// then look at its rows: each relies on that check, and says so in its `requires`.
+use rows::Counts;
+use rows::SectionRow;
+use rows::TaskRow;
+ghost use mathlib.Core.Path.{_≡_};
+ghost use Prim.Native.Nat.{_<_};
+ghost use Rattle.plan.specs.Plan.{planOf, Checked};
+
+// How many processors, tasks, resources and sections the plan has.
+pub fn counts(file: &[u8]) -> Counts
+    requires { ⌜ Checked (now file) ⌝ }
+    ensures { λ r. ⌜ (r .processors ≡ planOf (now (file .entry)) .processors) × (r .tasks ≡ planOf (now (file .entry)) .tasks) × (r .resources ≡ planOf (now (file .entry)) .resources) × (r .sections ≡ planOf (now (file .entry)) .sections) ⌝ }
+{
+    parts::counts_at(file)
+}
+
+// Task i.
+pub fn task(file: &[u8], i: usize) -> TaskRow
+    requires { ⌜ (Checked (now file)) × (i < planOf (now file) .tasks) ⌝ }
+    ensures { λ r. ⌜ r ≡ planOf (now (file .entry)) .task i ⌝ }
+{
+    parts::task_at(&file[16..], i)
+}
+
+// Section s.
+pub fn section(file: &[u8], s: usize) -> SectionRow
+    requires { ⌜ (Checked (now file)) × (s < planOf (now file) .sections) ⌝ }
+    ensures { λ r. ⌜ r ≡ planOf (now (file .entry)) .section s ⌝ }
+{
+    let at = parts::sections_at(parts::counts_at(file));
+    parts::section_at(&file[at..], s)
+}

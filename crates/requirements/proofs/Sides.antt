@@ -1,0 +1,82 @@
+-- What the tables tell of Equations 6 and 7 and of the requirement, and the bounds that the code's steps need.
+use Prim.Native.Nat.{ℕ, _+_, _*_, _-_, _<_, _≤_}
+use mathlib.Core.Bool.{Bool, true, false, cond, _&&_}
+use mathlib.Core.List.{List}
+use mathlib.Core.Path.{_≡_, refl, sym, ap, _∙_}
+use native.Mathlib.Omega.{arith}
+use native.Mathlib.Nat.{mul-le-mul}
+use borrow.Author.Tests.{lt-ltb, le-ltb}
+use lib.IntN.{ℤ, pos, _-ℤ_}
+use lib.Signed.{leZ, mag}
+use Rattle.folds.proofs.Figures.{sum-same}
+use Rattle.rows.specs.declared.TaskRow.{TaskRow}
+use Rattle.plan.specs.Plan.{Plan, Valid}
+use Rattle.equations.specs.Sharing.{processorOf, uses, global}
+use Rattle.equations.specs.HoldTimes.{holdAt, budget, waitTime}
+use Rattle.equations.specs.Blocking.{ceilDiv, countOn, blocking1, blocking2, fellowHolds, waitingOn, waitingSide}
+use Rattle.equations.specs.Requirement.{tolerance, slack, met}
+use Rattle.equations.proofs.Laws.{ceil-bound, used-at, budget-low, count-on-high, fellow-high, fellow-holds, uses-count, waiting-high, tolerance-mag}
+use Rattle.tables.specs.Tables.{Column, Tasks}
+use Rattle.tables.proofs.Places.{beside-place}
+use Rattle.requirements.specs.declared.Requirement.{Requirement}
+use Rattle.requirements.specs.Figures.{sumBeside, comparison, requirementOf}
+
+-- what the code's steps for Equation 6 need of the budget b, the wait time w, the fellows' hold times f and the count n
+pub record Waits (p : Plan) (i q b w f n : ℕ) : Type 0 where
+  pub low : 1 ≤ b
+  pub times : ceilDiv (2 * f) b ≤ 8320000
+  pub counted : n * ceilDiv (2 * f) b ≤ 255 * 8320000
+  pub told : n * ceilDiv (2 * f) b * w ≡ waitingOn p i q
+  pub high : n * ceilDiv (2 * f) b * w ≤ 255 * 8320000 * 520000
+
+-- what task i waits for q, 0 where q is local or i does not use it
+abbrev pub waitingAt : Plan → ℕ → ℕ → ℕ
+waitingAt p i q = cond (global p q && uses p i q) (waitingOn p i q) 0
+
+module _ (p : Plan) (i q : ℕ) where
+  pub waiting-local : global p q ≡ false → 0 ≡ waitingAt p i q
+  waiting-local g = rw g
+
+  pub waiting-unused : {n : ℕ} → n ≡ countOn p i q → n ≡ 0 → 0 ≡ waitingAt p i q
+  waiting-unused e z = rw (uses-count p i q, le-ltb 0 (countOn p i q) (omega arith)) (go (global p q))
+    where
+      go : (g : Bool) → 0 ≡ cond (g && false) (waitingOn p i q) 0
+      go true = refl
+      go false = refl
+
+  pub waiting-used : {n : ℕ} → n ≡ countOn p i q → (n ≡ 0 → ⊥) → uses p i q ≡ true
+  waiting-used {n} e z = rw (uses-count p i q) (lt-ltb 0 (countOn p i q) (omega arith))
+
+module _ (p : Plan) (v : Valid p) where
+  -- the sum over the tables is the fellows' hold times
+  fellows-told : (t column : List ℕ) (i q : ℕ) → Tasks p t → Column (λ j. holdAt p j q) column → i < p .tasks → global p q ≡ true → sumBeside t column (p .tasks) i ≡ fellowHolds p i q
+  unfolding sumBeside
+  fellows-told t column i q ts holds l g =
+      sum-same (p .tasks) _ _
+      (λ j lj. rw (ts .place i l, ts .place j lj, beside-place p v i j l lj, holds .at j (omega (arith, v .tasks))))
+      ∙ sym (fellow-holds p i q g)
+
+  pub waits : (t column : List ℕ) (i q : ℕ) {m b w f n : ℕ} {row : TaskRow} → Tasks p t → Column (λ j. holdAt p j q) column → i < p .tasks → uses p i q ≡ true → global p q ≡ true → m ≡ p .tasks → row ≡ p .task i → b ≡ budget p (row .processor) q → w ≡ waitTime p (row .processor) q → f ≡ sumBeside t column m i → n ≡ countOn p i q → Waits p i q b w f n
+  unfolding waitingOn
+  waits t column i q {m} {b} {w} {f} {n} ts holds l u g em er eb ew ef en =
+      let low : 1 ≤ b = rw (eb, er) (budget-low p v (processorOf p i) q (used-at p i q l u) g) in
+      let fellows : f ≡ fellowHolds p i q = ef ∙ ap (λ (k : ℕ). sumBeside t column k i) em ∙ fellows-told t column i q ts holds l g in
+      let times : ceilDiv (2 * f) b ≤ 8320000 = omega (arith, ceil-bound (2 * f) b, fellows, fellow-high p v i q) in
+      let few : n ≤ 255 = omega (arith, en, count-on-high p v i q) in
+      let told : n * ceilDiv (2 * f) b * w ≡ waitingOn p i q = rw (en, fellows, eb, ew, er) in
+      record { low = low; times = times; counted = mul-le-mul few times; told = told; high = rw told (waiting-high p v i q) }
+
+  pub waiting-there : (i q : ℕ) {x : ℕ} → global p q ≡ true → uses p i q ≡ true → x ≡ waitingOn p i q → (x ≡ waitingAt p i q) × (x ≤ 255 * 8320000 * 520000)
+  waiting-there i q g u e = (rw (g, u) e, rw e (waiting-high p v i q))
+
+  -- what the slack is taken from is small
+  pub tolerance-fits : (i : ℕ) {z : ℤ} → i < p .tasks → z ≡ tolerance p i → mag z < 4611686018427387904
+  tolerance-fits i l e = rw e (omega (arith, tolerance-mag p v i l))
+
+-- the figures of a requirement together
+pub comparison-told : {a b w : ℕ} {y z r s : ℤ} {m : Bool} → y ≡ z → s ≡ r → r ≡ y -ℤ pos (a + b) → m ≡ leZ (pos w) s → record { blocking1 = a; blocking2 = b; tolerance = y; slack = s; side = w; met = m } ≡ comparison a b z w
+comparison-told ey es er em = rw (em, es, er, ey)
+
+pub requirement-told : (p : Plan) (i : ℕ) {a b w : ℕ} {z : ℤ} {r : Requirement} → r ≡ comparison a b z w → a ≡ blocking1 p i → b ≡ blocking2 p i → z ≡ tolerance p i → w ≡ waitingSide p i → r ≡ requirementOf p i
+unfolding requirementOf slack met
+requirement-told p i er ea eb ez ew = rw (er, ez, ea, eb, ew)

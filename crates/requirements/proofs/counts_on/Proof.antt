@@ -1,0 +1,93 @@
+-- The invariant: the table holds the counts of task i's sections below `s`.
+use Prim.Native.Nat.{_≤_, _-_}
+use mathlib.Core.Path.{_≡_, refl}
+use native.Mathlib.Omega.{arith}
+use borrow.Author.Needs.{needs}
+use lib.Dec.{eqb}
+use Rattle.folds.proofs.Arrays.{gatheredBelow, gathered-step}
+use Rattle.plan.specs.Plan.{planOf}
+use Rattle.plan.proofs.Laws.{valid-plan}
+use Rattle.requirements.proofs.Counts.{onTable, on-more, row-resource, on-table}
+use Rattle.requirements.proofs.counts_on.Statement.{statement}
+use Rattle.requirements.proofs.counts_on.Tie as tie
+
+abbrev Inv-loop : tie.InvT-loop
+Inv-loop file i n table₀ s₀ table s = (s ≤ n) × (table ≡ onTable (planOf file) i s)
+
+abbrev μ-loop : tie.MeasureT-loop
+μ-loop file i n table₀ s₀ table s = n - s
+
+counts-requires : tie.Need-counts-requires Inv-loop μ-loop
+counts-requires c κs = c .before .pre
+
+cast-n : tie.Need-cast-n Inv-loop μ-loop
+cast-n c = omega arith
+
+loop-holds : tie.Need-loop-holds Inv-loop μ-loop
+unfolding gatheredBelow
+loop-holds c = (omega arith, refl)
+
+section-requires : tie.Need-section-requires Inv-loop μ-loop
+section-requires c κs = (c .before .before .before .before .before .pre, rw (← c .before .before .before .counts .ensures .3) (c .loop-test .taken))
+
+wide-requires : tie.Need-wide-requires Inv-loop μ-loop
+wide-requires c κs = search needs
+
+chosen-requires : tie.Need-chosen-requires Inv-loop μ-loop
+chosen-requires c κs = search needs
+
+wide-requires-2 : tie.Need-wide-requires-2 Inv-loop μ-loop
+wide-requires-2 c κs = search needs
+
+mul-table : tie.Need-mul-table Inv-loop μ-loop
+mul-table c = omega arith
+
+array-read-table : tie.Need-array-read-table Inv-loop μ-loop
+array-read-table c = row-resource _ (c .before .before .before .before .before .before .before .before .before .pre) (c .before .before .before .before .before .before .before .counts .ensures .3) (c .before .before .before .before .loop-test .taken) (c .before .before .before .section .ensures) (c .wide2 .ensures .0)
+
+add-table : tie.Need-add-table Inv-loop μ-loop
+add-table c =
+    let a = c .before .before .before .before .before .before .before .before .before in
+    let own = eqb (c .before .before .wide .result) (a .args .i) in
+    omega (arith, valid-plan _ (a .pre) .sections, c .before .before .before .before .before .before .before .counts .ensures .3, on-more (planOf (a .args .file .now)) (a .args .i) _ own (c .before .before .before .before .before .loop .inv .1) (array-read-table c) (c .before .chosen .ensures))
+
+array-write-table : tie.Need-array-write-table Inv-loop μ-loop
+array-write-table c = array-read-table c
+
+add-s : tie.Need-add-s Inv-loop μ-loop
+add-s c = omega arith
+
+loop-less : tie.Need-loop-less Inv-loop μ-loop
+loop-less c = omega arith
+
+loop-again : tie.Need-loop-again Inv-loop μ-loop
+loop-again c =
+    let row = c .before .before .before .section .ensures in (
+      omega arith,
+      gathered-step _ _ _ _ (c .before .before .before .before .before .loop .inv .1) (rw (c .wide2 .ensures .0, row)) (rw (c .before .chosen .ensures, c .before .before .wide .ensures .0, row)),
+    )
+
+returns : tie.Need-returns Inv-loop μ-loop
+returns c = on-table _ _ (c .before .before .before .counts .ensures .3) (omega arith) (c .before .loop .inv .1)
+
+pub counts-on-spec : {M : Type 1} → statement M
+counts-on-spec =
+    tie.close
+    (tie.spec
+    Inv-loop
+    μ-loop
+    counts-requires
+    cast-n
+    loop-holds
+    section-requires
+    wide-requires
+    chosen-requires
+    wide-requires-2
+    mul-table
+    array-read-table
+    add-table
+    array-write-table
+    add-s
+    loop-less
+    loop-again
+    returns)

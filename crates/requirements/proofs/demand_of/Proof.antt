@@ -1,0 +1,99 @@
+-- The invariant: `sum` is the demand of the first k tasks. Each adds less than 2^32.
+use Prim.Native.Nat.{_≤_, _-_}
+use mathlib.Core.Path.{_≡_, refl}
+use native.Mathlib.Omega.{arith}
+use Rattle.folds.specs.Below.{sumBelow}
+use Rattle.folds.proofs.Figures.{sum-step, sum-done}
+use Rattle.requirements.specs.Figures.{demandOf}
+use Rattle.requirements.proofs.Demand.{demand-one, demand-high}
+use Rattle.requirements.proofs.demand_of.Statement.{statement}
+use Rattle.requirements.proofs.demand_of.Tie as tie
+
+abbrev Inv-loop : tie.InvT-loop
+Inv-loop periods times m t sum₀ k₀ sum k = (k ≤ m) × (sum ≡ demandOf periods times k t)
+
+abbrev μ-loop : tie.MeasureT-loop
+μ-loop periods times m t sum₀ k₀ sum k = m - k
+
+loop-holds : tie.Need-loop-holds Inv-loop μ-loop
+unfolding demandOf sumBelow
+loop-holds c = (omega arith, refl)
+
+mul-period : tie.Need-mul-period Inv-loop μ-loop
+mul-period c = omega arith
+
+shared-slice-read-period : tie.Need-shared-slice-read-period Inv-loop μ-loop
+shared-slice-read-period c = omega arith
+
+sub-begun : tie.Need-sub-begun Inv-loop μ-loop
+sub-begun c =
+    omega (arith, c .before .before .before .pre .4 (c .before .before .loop .k) (c .before .loop-test .taken))
+
+add-begun : tie.Need-add-begun Inv-loop μ-loop
+add-begun c =
+    omega (arith, c .before .before .before .pre .4 (c .before .before .loop .k) (c .before .loop-test .taken))
+
+div-begun : tie.Need-div-begun Inv-loop μ-loop
+div-begun c =
+    omega (arith, c .before .before .before .pre .4 (c .before .before .loop .k) (c .before .loop-test .taken))
+
+mul-sum : tie.Need-mul-sum Inv-loop μ-loop
+mul-sum c = omega arith
+
+shared-slice-read-sum : tie.Need-shared-slice-read-sum Inv-loop μ-loop
+shared-slice-read-sum c = omega arith
+
+mul-sum-2 : tie.Need-mul-sum-2 Inv-loop μ-loop
+mul-sum-2 c =
+    let a = c .before .before .before .before in
+    omega (arith, demand-one (a .args .periods .now) (a .args .times .now) _ _ (a .pre .2) (a .pre .3) (a .pre .4) (c .before .before .before .loop .k) (c .before .before .loop-test .taken))
+
+cast-sum : tie.Need-cast-sum Inv-loop μ-loop
+cast-sum c =
+    let a = c .before .before .before .before in
+    omega (arith, demand-one (a .args .periods .now) (a .args .times .now) _ _ (a .pre .2) (a .pre .3) (a .pre .4) (c .before .before .before .loop .k) (c .before .before .loop-test .taken))
+
+add-sum : tie.Need-add-sum Inv-loop μ-loop
+add-sum c =
+    let a = c .before .before .before .before in
+    let one = demand-one (a .args .periods .now) (a .args .times .now) _ _ (a .pre .2) (a .pre .3) (a .pre .4) (c .before .before .before .loop .k) (c .before .before .loop-test .taken) in
+    omega (arith, one, demand-high (a .args .periods .now) (a .args .times .now) _ _ (a .pre .2) (a .pre .3) (a .pre .4) (c .before .before .before .loop .k) (c .before .before .before .loop .inv .0))
+
+add-k : tie.Need-add-k Inv-loop μ-loop
+add-k c = omega arith
+
+loop-less : tie.Need-loop-less Inv-loop μ-loop
+loop-less c = omega arith
+
+loop-again : tie.Need-loop-again Inv-loop μ-loop
+unfolding demandOf
+loop-again c = (omega arith, sum-step _ _ (c .before .before .before .loop .inv .1) refl)
+
+returns : tie.Need-returns Inv-loop μ-loop
+unfolding demandOf
+returns c =
+    let a = c .before .before in
+    let done = sum-done (a .args .m) (c .before .loop .k) _ (omega arith) (c .before .loop .inv .1) in
+    (done, omega (arith, done, demand-high (a .args .periods .now) (a .args .times .now) _ _ (a .pre .2) (a .pre .3) (a .pre .4) (a .args .m) (omega arith)))
+
+pub demand-of-spec : {M : Type 1} → statement M
+demand-of-spec =
+    tie.close
+    (tie.spec
+    Inv-loop
+    μ-loop
+    loop-holds
+    mul-period
+    shared-slice-read-period
+    sub-begun
+    add-begun
+    div-begun
+    mul-sum
+    shared-slice-read-sum
+    mul-sum-2
+    cast-sum
+    add-sum
+    add-k
+    loop-less
+    loop-again
+    returns)

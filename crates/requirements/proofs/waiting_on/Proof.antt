@@ -1,0 +1,100 @@
+-- The calls give the numbers of Equation 6, a budget of at least a tick among them.
+use mathlib.Core.Path.{_∙_}
+use native.Mathlib.Omega.{arith}
+use borrow.Author.Needs.{needs}
+use Rattle.plan.specs.Plan.{planOf}
+use Rattle.plan.proofs.Laws.{valid-plan}
+use Rattle.requirements.proofs.Sides.{Waits, waits}
+use Rattle.requirements.proofs.waiting_on.Statement.{statement}
+use Rattle.requirements.proofs.waiting_on.Tie as tie
+use Rattle.requirements.proofs.waiting_on.Reads as reads
+use Rattle.requirements.proofs.waiting_on.Lts as lts
+use Rattle.folds.proofs.wide.Reads as wide-reads
+use Rattle.plan.proofs.checked.counts.Reads as counts-reads
+use Rattle.plan.proofs.checked.task.Reads as task-reads
+use Rattle.requirements.proofs.sum_beside.Reads as sum-beside-reads
+use Rattle.tables.proofs.budget_in.Reads as budget-in-reads
+use Rattle.tables.proofs.wait_in.Reads as wait-in-reads
+
+-- after the calls
+abbrev Here : Type 0
+Here =
+    lts.After-sum-beside (counts-reads.Asked, counts-reads.Learnt, wide-reads.Asked, wide-reads.Learnt, task-reads.Asked, task-reads.Learnt, budget-in-reads.Asked, budget-in-reads.Learnt, wait-in-reads.Asked, wait-in-reads.Learnt, sum-beside-reads.Asked, sum-beside-reads.Learnt) reads.Pre reads.Post
+
+-- what the calls gave
+known : (c : Here) → let a = c .before .before .before .before .before .before .before .before .before .args in Waits (planOf (a .file .now)) (a .i) (a .q) (c .before .before .budget-in .result) (c .before .wait-in .result) (c .sum-beside .result) (a .count)
+known c =
+    let h = c .before .before .before .before .before .before .before .before .before .pre in
+    waits _ (valid-plan _ (h .0)) _ _ _ _ (h .1) (h .2) (h .3) (h .4) (h .5) (c .before .before .before .before .wide .ensures .0 ∙ c .before .before .before .before .before .counts .ensures .1) (c .before .before .before .task .ensures) (c .before .before .budget-in .ensures) (c .before .wait-in .ensures) (c .sum-beside .ensures .0) (h .6)
+
+counts-requires : tie.Need-counts-requires
+counts-requires c κs = search needs
+
+wide-requires : tie.Need-wide-requires
+wide-requires c κs = search needs
+
+task-requires : tie.Need-task-requires
+task-requires c κs = search needs
+
+budget-in-requires : tie.Need-budget-in-requires
+budget-in-requires c κs = search needs
+
+cast-budget : tie.Need-cast-budget
+cast-budget c = search needs
+
+wait-in-requires : tie.Need-wait-in-requires
+wait-in-requires c κs = search needs
+
+sum-beside-requires : tie.Need-sum-beside-requires
+sum-beside-requires c κs =
+    let h = c .before .before .before .before .before .before .before .before .pre in
+    let n = valid-plan _ (h .0) .tasks in
+    (h .1 .long, h .2 .long, omega (arith, n, c .before .before .before .wide .ensures .0, c .before .before .before .before .counts .ensures .1), omega (arith, n, h .3))
+
+mul-times : tie.Need-mul-times
+mul-times c = search needs
+
+sub-times : tie.Need-sub-times
+sub-times c = omega (arith, known c .low)
+
+add-times : tie.Need-add-times
+add-times c = search needs
+
+div-times : tie.Need-div-times
+div-times c = known c .low
+
+cast-result : tie.Need-cast-result
+cast-result c = omega (arith, known c .times)
+
+mul-result : tie.Need-mul-result
+mul-result c = omega (arith, known c .counted)
+
+cast-result-2 : tie.Need-cast-result-2
+cast-result-2 c = search needs
+
+mul-result-2 : tie.Need-mul-result-2
+mul-result-2 c = omega (arith, known c .high)
+
+returns : tie.Need-returns
+returns c = known c .told
+
+pub waiting-on-spec : {M : Type 1} → statement M
+waiting-on-spec =
+    tie.close
+    (tie.spec
+    counts-requires
+    wide-requires
+    task-requires
+    budget-in-requires
+    cast-budget
+    wait-in-requires
+    sum-beside-requires
+    mul-times
+    sub-times
+    add-times
+    div-times
+    cast-result
+    mul-result
+    cast-result-2
+    mul-result-2
+    returns)

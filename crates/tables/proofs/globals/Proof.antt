@@ -1,0 +1,78 @@
+-- The invariant: the array tells of the resources passed whether they are global.
+use Prim.Native.Nat.{_≤_, _-_}
+use mathlib.Core.Path.{_≡_, refl, _∙_}
+use borrow.Author.Needs.{needs}
+use native.Mathlib.Omega.{arith}
+use Rattle.folds.specs.Bytes.{placedBelow}
+use Rattle.folds.proofs.Arrays.{placed-step}
+use Rattle.plan.specs.Plan.{planOf, Valid}
+use Rattle.plan.proofs.Laws.{valid-plan}
+use Rattle.tables.proofs.Users.{globalsBelow, two-marks, globals-done}
+use Rattle.tables.proofs.globals.Statement.{statement}
+use Rattle.tables.proofs.globals.Tie as tie
+
+abbrev Inv-loop : tie.InvT-loop
+Inv-loop file m marks globals₀ q₀ globals q = (q ≤ 16) × (m ≡ planOf file .processors) × Valid (planOf file) × (globals ≡ globalsBelow (planOf file) q)
+
+abbrev μ-loop : tie.MeasureT-loop
+μ-loop file m marks globals₀ q₀ globals q = 16 - q
+
+counts-requires : tie.Need-counts-requires Inv-loop μ-loop
+counts-requires c κs = c .before .pre
+
+wide-requires : tie.Need-wide-requires Inv-loop μ-loop
+wide-requires c κs = search needs
+
+user-marks-requires : tie.Need-user-marks-requires Inv-loop μ-loop
+user-marks-requires c κs = c .before .before .before .pre
+
+loop-holds : tie.Need-loop-holds Inv-loop μ-loop
+unfolding placedBelow
+loop-holds c = (omega arith, c .before .wide .ensures .0 ∙ c .before .before .counts .ensures .0, valid-plan _ (c .before .before .before .before .pre), refl)
+
+slice-aggregate-user-count : tie.Need-slice-aggregate-user-count Inv-loop μ-loop
+slice-aggregate-user-count c = search needs
+
+user-count-requires : tie.Need-user-count-requires Inv-loop μ-loop
+user-count-requires c κs =
+    let l = c .before .before .loop in
+    (c .before .before .before .user-marks .ensures .long, omega (arith, l .inv .2 .processors), omega arith)
+
+array-write-globals : tie.Need-array-write-globals Inv-loop μ-loop
+array-write-globals c = omega arith
+
+add-q : tie.Need-add-q Inv-loop μ-loop
+add-q c = omega arith
+
+loop-less : tie.Need-loop-less Inv-loop μ-loop
+loop-less c = omega arith
+
+loop-again : tie.Need-loop-again Inv-loop μ-loop
+loop-again c =
+    let l = c .before .before .before .loop in (
+      omega arith,
+      l .inv .1,
+      l .inv .2,
+      placed-step _ _ _ (l .inv .3) (two-marks _ (l .inv .2) _ (l .q) _ (c .before .before .before .before .user-marks .ensures) (omega arith) (l .inv .1) (c .user-count .ensures)),
+    )
+
+returns : tie.Need-returns Inv-loop μ-loop
+returns c = let l = c .before .loop in globals-done _ (l .q) (omega arith) (l .inv .3)
+
+pub globals-spec : {M : Type 1} → statement M
+globals-spec =
+    tie.close
+    (tie.spec
+    Inv-loop
+    μ-loop
+    counts-requires
+    wide-requires
+    user-marks-requires
+    loop-holds
+    slice-aggregate-user-count
+    user-count-requires
+    array-write-globals
+    add-q
+    loop-less
+    loop-again
+    returns)

@@ -1,0 +1,78 @@
+-- The invariant: `best` is the longest of the sections passed that count.
+use Prim.Native.Nat.{_≤_, _-_}
+use mathlib.Core.Bool.{cond}
+use mathlib.Core.Path.{_≡_, refl}
+use borrow.Author.Needs.{needs}
+use native.Mathlib.Omega.{arith}
+use Rattle.folds.specs.Below.{maxBelow}
+use Rattle.folds.proofs.Figures.{max-step, max-done}
+use Rattle.plan.specs.Plan.{planOf}
+use Rattle.equations.specs.Sharing.{sectionOn}
+use Rattle.equations.specs.HoldTimes.{longestOn}
+use Rattle.tables.proofs.longest_on.Statement.{statement}
+use Rattle.tables.proofs.longest_on.Tie as tie
+
+abbrev Inv-loop : tie.InvT-loop
+Inv-loop file i q n best₀ s₀ best s = (s ≤ n) × (n ≡ planOf file .sections) × (best ≡ maxBelow s (λ k. cond (sectionOn (planOf file) i q k) (planOf file .section k .length) 0))
+
+abbrev μ-loop : tie.MeasureT-loop
+μ-loop file i q n best₀ s₀ best s = n - s
+
+counts-requires : tie.Need-counts-requires Inv-loop μ-loop
+counts-requires c κs = c .before .pre
+
+cast-n : tie.Need-cast-n Inv-loop μ-loop
+cast-n c = omega arith
+
+loop-holds : tie.Need-loop-holds Inv-loop μ-loop
+unfolding maxBelow
+loop-holds c = (omega arith, c .before .counts .ensures .3, refl)
+
+section-requires : tie.Need-section-requires Inv-loop μ-loop
+section-requires c κs = (c .before .before .before .before .before .pre, omega arith)
+
+wide-requires : tie.Need-wide-requires Inv-loop μ-loop
+wide-requires c κs = search needs
+
+chosen-requires : tie.Need-chosen-requires Inv-loop μ-loop
+chosen-requires c κs = search needs
+
+longer-requires : tie.Need-longer-requires Inv-loop μ-loop
+longer-requires c κs = search needs
+
+add-s : tie.Need-add-s Inv-loop μ-loop
+add-s c = omega arith
+
+loop-less : tie.Need-loop-less Inv-loop μ-loop
+loop-less c = omega arith
+
+loop-again : tie.Need-loop-again Inv-loop μ-loop
+loop-again c =
+    let l = c .before .before .before .before .before .before .loop in
+    let row = c .before .before .before .before .section .ensures in (
+      omega arith,
+      l .inv .1,
+      max-step _ _ (l .inv .2) (rw (c .before .chosen .ensures, c .before .before .before .wide .ensures .0, row)) (c .longer .ensures),
+    )
+
+returns : tie.Need-returns Inv-loop μ-loop
+unfolding longestOn
+returns c = let l = c .before .loop in max-done _ (l .s) _ (omega arith) (l .inv .2)
+
+pub longest-on-spec : {M : Type 1} → statement M
+longest-on-spec =
+    tie.close
+    (tie.spec
+    Inv-loop
+    μ-loop
+    counts-requires
+    cast-n
+    loop-holds
+    section-requires
+    wide-requires
+    chosen-requires
+    longer-requires
+    add-s
+    loop-less
+    loop-again
+    returns)

@@ -1,0 +1,113 @@
+-- What the tables hold that the questions about one plan share. None of this is a rule of document 01: it says where a figure stands.
+use Prim.Native.Nat.{ℕ, _+_, _*_, _-_, _/_, _<_, _≤_, max}
+use mathlib.Core.Bool.{Bool, cond, _&&_, false}
+use mathlib.Core.List.{List}
+use mathlib.Core.Path.{_≡_}
+use lib.Dec.{eqb, ltb}
+use lib.ListN.{length, getD}
+use Rattle.folds.specs.Below.{sumBelow, maxBelow, countBelow}
+use Rattle.plan.specs.Plan.{Plan}
+use Rattle.equations.specs.Sharing.{processorOf, priorityOf, global, usedOn}
+use Rattle.equations.specs.HoldTimes.{longestOff}
+use Rattle.equations.specs.Blocking.{longestGlobal}
+use Rattle.tables.specs.declared.Top.{Top}
+
+-- where the figure of task j for resource q stands: the tasks of one resource stand side by side
+abbrev pub cell : ℕ → ℕ → ℕ
+cell j q = q * 64 + j
+
+-- a table of the figure f of each task for each resource
+pub record Columns (f : ℕ → ℕ → ℕ) (t : List ℕ) : Type 0 where
+  pub long : length t ≡ 1024
+  pub at : (j q : ℕ) → j < 64 → q < 16 → getD t (cell j q) 0 ≡ f j q
+
+-- a table of the figure f of each task: one column of that
+pub record Column (f : ℕ → ℕ) (t : List ℕ) : Type 0 where
+  pub long : length t ≡ 64
+  pub at : (j : ℕ) → j < 64 → getD t j 0 ≡ f j
+
+-- a table of marks: 1 where a task of processor k uses q
+pub record Marks (p : Plan) (t : List ℕ) : Type 0 where
+  pub long : length t ≡ 128
+  pub at : (k q : ℕ) → k < 8 → q < 16 → getD t (q * 8 + k) 0 ≡ cond (usedOn p k q) 1 0
+
+-- which resources are global
+pub record Globals (p : Plan) (t : List Bool) : Type 0 where
+  pub long : length t ≡ 16
+  pub at : (q : ℕ) → q < 16 → getD t q false ≡ global p q
+
+-- a task's place: its processor and its priority as one number
+abbrev pub placeOf : Plan → ℕ → ℕ
+placeOf p j = processorOf p j * 256 + priorityOf p j
+
+-- place b is of a's processor
+abbrev pub beside : ℕ → ℕ → Bool
+beside a b = eqb (b / 256) (a / 256)
+
+-- and higher there
+abbrev pub above : ℕ → ℕ → Bool
+above a b = beside a b && ltb a b
+
+-- and lower there
+abbrev pub under : ℕ → ℕ → Bool
+under a b = beside a b && ltb b a
+
+-- the table of tasks has four figures of task j: at j the longest of its global sections; here its longest on a global resource
+-- other than that one's
+abbrev pub secondAt : ℕ → ℕ
+secondAt j = 64 + j
+
+-- here that one's resource
+abbrev pub resourceAt : ℕ → ℕ
+resourceAt j = 128 + j
+
+-- and here its place
+abbrev pub placeAt : ℕ → ℕ
+placeAt j = 192 + j
+
+-- the longest global section of task j that is not on q, as the table tells it
+abbrev pub offIn : List ℕ → ℕ → ℕ → ℕ
+offIn t q j = cond (eqb (getD t (resourceAt j) 0) q) (getD t (secondAt j) 0) (getD t j 0)
+
+-- the table of tasks
+pub record Tasks (p : Plan) (t : List ℕ) : Type 0 where
+  pub long : length t ≡ 256
+  pub place : (j : ℕ) → j < p .tasks → getD t (placeAt j) 0 ≡ placeOf p j
+  pub off : (j q : ℕ) → j < 64 → offIn t q j ≡ longestOff p j q
+  pub most : (j : ℕ) → j < 64 → getD t j 0 ≡ longestGlobal p j
+
+-- the two longest lengths of a task on different resources, with one more section: x ticks on q
+unfoldable pub raise : Top → ℕ → ℕ → Top
+raise t q x =
+    cond (eqb (t .resource) q)
+    (record { first = max (t .first) x; second = t .second; resource = t .resource })
+    (cond (ltb (t .first) x)
+    (record { first = x; second = t .first; resource = q })
+    (record { first = t .first; second = max (t .second) x; resource = t .resource }))
+
+-- the sum, over the tasks below n that are above the one at `mine`, of what the table tells for q
+unfoldable pub sumAbove : List ℕ → ℕ → ℕ → ℕ → ℕ
+sumAbove t n mine q = sumBelow n (λ j. cond (above mine (getD t (placeAt j) 0)) (offIn t q j) 0)
+
+-- no two of the first n tasks have the same place
+abbrev pub Distinct : List ℕ → ℕ → Type 0
+Distinct t n = (i j : ℕ) → i < n → j < n → getD t (placeAt i) 0 ≡ getD t (placeAt j) 0 → i ≡ j
+
+-- how many of the first n tasks have a place above task i's
+unfoldable pub rankIn : List ℕ → ℕ → ℕ → ℕ
+rankIn t n i = countBelow n (λ j. ltb (getD t (placeAt i) 0) (getD t (placeAt j) 0))
+
+-- the first n tasks in the order of their ranks, each as its number plus 1
+pub record Order (t : List ℕ) (n : ℕ) (o : List ℕ) : Type 0 where
+  pub long : length o ≡ 64
+  pub full : (x : ℕ) → x < n → 1 ≤ getD o x 0
+  pub task : (x : ℕ) → x < n → getD o x 0 ≤ n
+  pub rank : (x : ℕ) → x < n → rankIn t n (getD o x 0 - 1) ≡ x
+
+-- the greatest figure in a column of the tasks of processor k
+unfoldable pub maxOf : List ℕ → List ℕ → ℕ → ℕ → ℕ
+maxOf t column n k = maxBelow n (λ j. cond (eqb (getD t (placeAt j) 0 / 256) k) (getD column j 0) 0)
+
+-- the sum of that of all processors below m other than k
+unfoldable pub othersOf : List ℕ → List ℕ → ℕ → ℕ → ℕ → ℕ
+othersOf t column n m k = sumBelow m (λ l. cond (eqb l k) 0 (maxOf t column n l))
