@@ -12,7 +12,7 @@ ghost use Rattle.equations.specs.Blocking.{globalCount, ceiling};
 ghost use Rattle.equations.specs.Requirement.{asks, met, admitted};
 ghost use Rattle.equations.specs.Questions.{taskNumber, sharingCode, useCode, processorCode, requirementCode};
 ghost use Rattle.tables.specs.Tables.{Columns, Column, Globals, Tasks};
-ghost use Rattle.requirements.specs.Figures.{Row, requirementOf};
+ghost use Rattle.requirements.specs.Figures.{requirementOf};
 ghost use Rattle.analysis.specs.Answers.{figure, figureTold, holdCode, holdFigure, shareCode, requirementNumber, requirementFigures, requirementGiven, requirementValues, requirementTold, signedAnswered, admissionAnswer, admissionTold, holdTimes};
 
 // A hold time, a budget or a wait time, or why none is given.
@@ -161,7 +161,7 @@ pub fn wait_time(file: &[u8], processor: u8, resource: u8) -> Figure
 
 // The requirement of task i, with all that it needs gathered first.
 fn requirement_at(file: &[u8], globals: [bool; 16], counts: &[u16], i: usize) -> Requirement
-    requires { ⌜ (Checked (now file)) × (Globals (planOf (now file)) globals) × (Column (globalCount (planOf (now file))) (now counts)) × (i < planOf (now file) .tasks) ⌝ }
+    requires { ⌜ (Checked (now file)) × (Globals (planOf (now file)) globals) × (Column 64 (globalCount (planOf (now file))) (now counts)) × (i < planOf (now file) .tasks) ⌝ }
     ensures { λ r. ⌜ r ≡ requirementOf (planOf (now (file .entry))) i ⌝ }
 {
     let tasks = tables::task_table(file, globals);
@@ -210,7 +210,7 @@ fn passes(
     ceilings: [u16; 16],
     i: usize,
 ) -> bool
-    requires { ⌜ (Checked (now file)) × (Tasks (planOf (now file)) (now tasks)) × (Columns (holdAt (planOf (now file))) (now holds)) × (Column (globalCount (planOf (now file))) (now counts)) × (Globals (planOf (now file)) globals) × (Row (ceiling (planOf (now file))) ceilings) × (i < planOf (now file) .tasks) ⌝ }
+    requires { ⌜ (Checked (now file)) × (Tasks (planOf (now file)) (now tasks)) × (Columns (holdAt (planOf (now file))) (now holds)) × (Column 64 (globalCount (planOf (now file))) (now counts)) × (Globals (planOf (now file)) globals) × (Column 16 (ceiling (planOf (now file))) ceilings) × (i < planOf (now file) .tasks) ⌝ }
     ensures { λ r. ⌜ r ≡ (not (asks (planOf (now (file .entry))) i) || met (planOf (now (file .entry))) i) ⌝ }
 {
     if counts[i] == 0 {
@@ -229,7 +229,7 @@ fn all_pass(
     globals: [bool; 16],
     ceilings: [u16; 16],
 ) -> bool
-    requires { ⌜ (Checked (now file)) × (Tasks (planOf (now file)) (now tasks)) × (Columns (holdAt (planOf (now file))) (now holds)) × (Column (globalCount (planOf (now file))) (now counts)) × (Globals (planOf (now file)) globals) × (Row (ceiling (planOf (now file))) ceilings) ⌝ }
+    requires { ⌜ (Checked (now file)) × (Tasks (planOf (now file)) (now tasks)) × (Columns (holdAt (planOf (now file))) (now holds)) × (Column 64 (globalCount (planOf (now file))) (now counts)) × (Globals (planOf (now file)) globals) × (Column 16 (ceiling (planOf (now file))) ceilings) ⌝ }
     ensures { λ r. ⌜ r ≡ admitted (planOf (now (file .entry))) ⌝ }
 {
     let plan_counts = plan::checked::counts(file);

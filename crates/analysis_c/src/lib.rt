@@ -1,21 +1,7 @@
 // Questions about a plan, for programs in other languages.
 use analysis::AdmissionAnswer;
 ghost use mathlib.Core.Path.{_≡_};
-ghost use Prim.Native.Nat.{_<_};
 ghost use Rattle.analysis_c.specs.Number.{holdNumber, admissionNumber};
-
-// A number of 8 bits, and one of 16, as 64 bits.
-fn byte(x: u8) -> u64
-    ensures { λ r. ⌜ (r ≡ x) × (r < 256) ⌝ }
-{
-    x as u64
-}
-
-fn word(x: u16) -> u64
-    ensures { λ r. ⌜ (r ≡ x) × (r < 65536) ⌝ }
-{
-    x as u64
-}
 
 // Works out all hold times of a plan and returns that at x modulo 1,024, where resource q by task i is q * 64 + i, above the
 // refusal in the low byte. Which one is asked is not known before, so a caller that measures this measures all.
@@ -25,7 +11,7 @@ pub extern "C" fn hold_time_at(file: &[u8], x: u16) -> u64
 {
     let found = analysis::hold_times(file);
     let at = (x % 1024) as usize;
-    byte(found.refusal) + 256 * word(found.times[at])
+    folds::byte(found.refusal) + 256 * folds::word(found.times[at])
 }
 
 // Whether a plan is admitted, 256 for yes; or the refusal.
@@ -35,6 +21,6 @@ pub extern "C" fn plan_admission(file: &[u8]) -> u64
 {
     match analysis::admission(file) {
         AdmissionAnswer::Decided(b) => { if b { 256 } else { 0 } }
-        AdmissionAnswer::Refused(k) => byte(k),
+        AdmissionAnswer::Refused(k) => folds::byte(k),
     }
 }

@@ -9,19 +9,6 @@ ghost use Prim.Native.Nat.{_<_, _%_};
 ghost use Rattle.plan.specs.Reading.{refusal};
 ghost use Rattle.plan_c.specs.Number.{lastOf, taskSum, sectionSum, lastRows, readNumber};
 
-// A number of 8 bits, and one of 16, as 64 bits.
-fn byte(x: u8) -> u64
-    ensures { λ r. ⌜ (r ≡ x) × (r < 256) ⌝ }
-{
-    x as u64
-}
-
-fn word(x: u16) -> u64
-    ensures { λ r. ⌜ (r ≡ x) × (r < 65536) ⌝ }
-{
-    x as u64
-}
-
 // The index of the last of n rows in an array of so many; 0 where there is none.
 fn last(n: usize, room: usize) -> usize
     requires { ⌜ 0 < room ⌝ }
@@ -40,13 +27,17 @@ fn last(n: usize, room: usize) -> usize
 fn task_sum(t: TaskRow) -> u64
     ensures { λ r. ⌜ (r ≡ taskSum t) × (r < 200000) ⌝ }
 {
-    byte(t.processor) + word(t.tag) + byte(t.priority) + word(t.period) + word(t.execution)
+    folds::byte(t.processor)
+        + folds::word(t.tag)
+        + folds::byte(t.priority)
+        + folds::word(t.period)
+        + folds::word(t.execution)
 }
 
 fn section_sum(s: SectionRow) -> u64
     ensures { λ r. ⌜ (r ≡ sectionSum s) × (r < 70000) ⌝ }
 {
-    byte(s.task) + byte(s.resource) + word(s.length)
+    folds::byte(s.task) + folds::byte(s.resource) + folds::word(s.length)
 }
 
 // The sum of the numbers in the last task row, the last name's length and the last section row.
@@ -59,7 +50,7 @@ fn last_rows(c: Counts, rows: Rows) -> u64
     let k = last(s, 255);
     let task = rows.tasks[t];
     let section = rows.sections[k];
-    task_sum(task) + byte(rows.lengths[q]) + section_sum(section)
+    task_sum(task) + folds::byte(rows.lengths[q]) + section_sum(section)
 }
 
 // Reads a plan: the refusal in the low byte, and above it for a plan that is read the sum of its last rows. Which rows are
@@ -76,6 +67,6 @@ pub extern "C" fn plan_read(file: &[u8]) -> u64
             let rows = found.rows;
             256 * last_rows(counts, rows)
         }
-        ReadAnswer::Refused(k) => byte(k),
+        ReadAnswer::Refused(k) => folds::byte(k),
     }
 }

@@ -21,7 +21,7 @@ use Rattle.equations.proofs.Laws.{ceiling-section, local-high, count-high}
 use Rattle.tables.specs.Tables.{Column, Tasks, placeAt}
 use Rattle.tables.proofs.Places.{under-place}
 use Rattle.tables.proofs.Tops as tops
-use Rattle.requirements.specs.Figures.{Row, sumUnder}
+use Rattle.requirements.specs.Figures.{sumUnder}
 
 -- two tests the other way round
 and-swapped : (a b : Bool) → (a && b) ≡ (b && a)
@@ -88,7 +88,7 @@ module _ (p : Plan) where
   on-more i n b = counted-more 16 n (λ s. p .section s .resource) (sectionBy p i) b
 
   -- and after them all
-  pub global-table : {n k : ℕ} {t : List ℕ} → k ≡ p .sections → n ≡ k → t ≡ globalTable n → Column (globalCount p) t
+  pub global-table : {n k : ℕ} {t : List ℕ} → k ≡ p .sections → n ≡ k → t ≡ globalTable n → Column 64 (globalCount p) t
   unfolding globalCount
   global-table {n} {k} {t} ek en e =
       let all : t ≡ globalTable (p .sections) = e ∙ rw (en, ek) in
@@ -97,7 +97,7 @@ module _ (p : Plan) where
         at = λ j l. rw all (counted-at 64 (p .sections) (λ s. p .section s .task) _ j l);
       }
 
-  pub on-table : (i : ℕ) {n k : ℕ} {t : List ℕ} → k ≡ p .sections → n ≡ k → t ≡ onTable i n → Row (countOn p i) t
+  pub on-table : (i : ℕ) {n k : ℕ} {t : List ℕ} → k ≡ p .sections → n ≡ k → t ≡ onTable i n → Column 16 (countOn p i) t
   unfolding countOn
   on-table i {n} {k} {t} ek en e =
       let all : t ≡ onTable i (p .sections) = e ∙ rw (en, ek) in
@@ -107,7 +107,7 @@ module _ (p : Plan) where
             ∙ count-same (p .sections) _ _ (λ s lt. and-swapped (eqb (p .section s .resource) q) (sectionBy p i s)));
       }
 
-  pub ceiling-table : {n k : ℕ} {t : List ℕ} → Valid p → k ≡ p .sections → n ≡ k → t ≡ ceilingTable n → Row (ceiling p) t
+  pub ceiling-table : {n k : ℕ} {t : List ℕ} → Valid p → k ≡ p .sections → n ≡ k → t ≡ ceilingTable n → Column 16 (ceiling p) t
   ceiling-table {n} {k} {t} v ek en e =
       let all : t ≡ ceilingTable (p .sections) = e ∙ rw (en, ek) in
       record {
@@ -126,15 +126,15 @@ module _ (p : Plan) where
       (all, rw all (local-high p v i))
 
   -- Equation 4 with a count from the table, which is small
-  pub count-read : (counts : List ℕ) (i : ℕ) → Valid p → Column (globalCount p) counts → i < p .tasks → getD counts i 0 ≤ 255
+  pub count-read : (counts : List ℕ) (i : ℕ) → Valid p → Column 64 (globalCount p) counts → i < p .tasks → getD counts i 0 ≤ 255
   count-read counts i v cs l = rw (cs .at i (omega (arith, v .tasks))) (count-high p v i)
 
-  pub blocking1-read : (counts : List ℕ) (i : ℕ) {x : ℕ} → Valid p → Column (globalCount p) counts → i < p .tasks → x ≡ longestLocal p i → (getD counts i 0 + 1) * x ≡ blocking1 p i
+  pub blocking1-read : (counts : List ℕ) (i : ℕ) {x : ℕ} → Valid p → Column 64 (globalCount p) counts → i < p .tasks → x ≡ longestLocal p i → (getD counts i 0 + 1) * x ≡ blocking1 p i
   unfolding blocking1
   blocking1-read counts i v cs l e = rw (cs .at i (omega (arith, v .tasks)), e)
 
   -- Equation 5 over the tables is Equation 5
-  pub blocking2-read : (t counts : List ℕ) (i : ℕ) → Valid p → Tasks p t → Column (globalCount p) counts → i < p .tasks → sumUnder t counts (p .tasks) (getD t (placeAt i) 0) (getD counts i 0 + 1) ≡ blocking2 p i
+  pub blocking2-read : (t counts : List ℕ) (i : ℕ) → Valid p → Tasks p t → Column 64 (globalCount p) counts → i < p .tasks → sumUnder t counts (p .tasks) (getD t (placeAt i) 0) (getD counts i 0 + 1) ≡ blocking2 p i
   unfolding sumUnder blocking2
   blocking2-read t counts i v ts cs l =
       sum-same (p .tasks) _ _

@@ -49,14 +49,14 @@ module _ (p : Plan) (i q : ℕ) where
 
 module _ (p : Plan) (v : Valid p) where
   -- the sum over the tables is the fellows' hold times
-  fellows-told : (t column : List ℕ) (i q : ℕ) → Tasks p t → Column (λ j. holdAt p j q) column → i < p .tasks → global p q ≡ true → sumBeside t column (p .tasks) i ≡ fellowHolds p i q
+  fellows-told : (t column : List ℕ) (i q : ℕ) → Tasks p t → Column 64 (λ j. holdAt p j q) column → i < p .tasks → global p q ≡ true → sumBeside t column (p .tasks) i ≡ fellowHolds p i q
   unfolding sumBeside
   fellows-told t column i q ts holds l g =
       sum-same (p .tasks) _ _
       (λ j lj. rw (ts .place i l, ts .place j lj, beside-place p v i j l lj, holds .at j (omega (arith, v .tasks))))
       ∙ sym (fellow-holds p i q g)
 
-  pub waits : (t column : List ℕ) (i q : ℕ) {m b w f n : ℕ} {row : TaskRow} → Tasks p t → Column (λ j. holdAt p j q) column → i < p .tasks → uses p i q ≡ true → global p q ≡ true → m ≡ p .tasks → row ≡ p .task i → b ≡ budget p (row .processor) q → w ≡ waitTime p (row .processor) q → f ≡ sumBeside t column m i → n ≡ countOn p i q → Waits p i q b w f n
+  pub waits : (t column : List ℕ) (i q : ℕ) {m b w f n : ℕ} {row : TaskRow} → Tasks p t → Column 64 (λ j. holdAt p j q) column → i < p .tasks → uses p i q ≡ true → global p q ≡ true → m ≡ p .tasks → row ≡ p .task i → b ≡ budget p (row .processor) q → w ≡ waitTime p (row .processor) q → f ≡ sumBeside t column m i → n ≡ countOn p i q → Waits p i q b w f n
   unfolding waitingOn
   waits t column i q {m} {b} {w} {f} {n} ts holds l u g em er eb ew ef en =
       let low : 1 ≤ b = rw (eb, er) (budget-low p v (processorOf p i) q (used-at p i q l u) g) in

@@ -1,12 +1,11 @@
 -- What the tables behind a requirement hold, the sums over them, and last the requirement's figures together. Only that last
 -- definition states a sentence of document 01; the others say where a figure stands, and contracts equate them with the equations.
-use Prim.Native.Nat.{ℕ, _+_, _*_, _<_, min}
+use Prim.Native.Nat.{ℕ, _+_, _*_, min}
 use mathlib.Core.Bool.{cond, _&&_, not}
 use mathlib.Core.List.{List}
-use mathlib.Core.Path.{_≡_}
 use lib.Dec.{eqb}
 use lib.IntN.{ℤ, pos, _-ℤ_}
-use lib.ListN.{length, getD}
+use lib.ListN.{getD}
 use lib.Signed.{leZ}
 use Rattle.folds.specs.Below.{sumBelow}
 use Rattle.plan.specs.Plan.{Plan}
@@ -14,11 +13,6 @@ use Rattle.equations.specs.Blocking.{ceilDiv, blocking1, blocking2, waitingSide
 use Rattle.equations.specs.Requirement.{tolerance, slack, met}
 use Rattle.tables.specs.Tables.{placeAt, under, beside}
 use Rattle.requirements.specs.declared.Requirement.{Requirement}
-
--- a table of the figure f of each resource
-pub record Row (f : ℕ → ℕ) (t : List ℕ) : Type 0 where
-  pub long : length t ≡ 16
-  pub at : (q : ℕ) → q < 16 → getD t q 0 ≡ f q
 
 -- Equation 5 over the tables: the tasks below n under the one at `mine`, each with the smaller of `times` and its count
 unfoldable pub sumUnder : List ℕ → List ℕ → ℕ → ℕ → ℕ → ℕ

@@ -15,7 +15,7 @@ ghost use Rattle.equations.specs.HoldTimes.{holdAt};
 ghost use Rattle.equations.specs.Blocking.{ceiling, countOn, globalCount, longestLocal, blocking1, blocking2, waitingOn, waitingSide};
 ghost use Rattle.equations.specs.Requirement.{tolerance};
 ghost use Rattle.tables.specs.Tables.{Columns, Column, Globals, Tasks, placeAt};
-ghost use Rattle.requirements.specs.Figures.{Row, sumUnder, sumBeside, demandOf, comparison, requirementOf};
+ghost use Rattle.requirements.specs.Figures.{sumUnder, sumBeside, demandOf, comparison, requirementOf};
 
 // What a task's requirement compares: met when the waiting side is at most the slack.
 pub struct Requirement {
@@ -37,7 +37,7 @@ struct Higher {
 // How many sections on global resources each task has.
 pub fn global_counts(file: &[u8], globals: [bool; 16]) -> [u16; 64]
     requires { ⌜ (Checked (now file)) × (Globals (planOf (now file)) globals) ⌝ }
-    ensures { λ r. ⌜ Column (globalCount (planOf (now (file .entry)))) r ⌝ }
+    ensures { λ r. ⌜ Column 64 (globalCount (planOf (now (file .entry)))) r ⌝ }
 {
     let counts = plan::checked::counts(file);
     let s = counts.sections as usize;
@@ -55,7 +55,7 @@ pub fn global_counts(file: &[u8], globals: [bool; 16]) -> [u16; 64]
 // The highest priority among the users of each resource.
 pub fn ceilings(file: &[u8]) -> [u16; 16]
     requires { ⌜ Checked (now file) ⌝ }
-    ensures { λ r. ⌜ Row (ceiling (planOf (now (file .entry)))) r ⌝ }
+    ensures { λ r. ⌜ Column 16 (ceiling (planOf (now (file .entry)))) r ⌝ }
 {
     let counts = plan::checked::counts(file);
     let s = counts.sections as usize;
@@ -74,7 +74,7 @@ pub fn ceilings(file: &[u8]) -> [u16; 16]
 // How many sections task i has on each resource.
 fn counts_on(file: &[u8], i: usize) -> [u16; 16]
     requires { ⌜ Checked (now file) ⌝ }
-    ensures { λ r. ⌜ Row (countOn (planOf (now (file .entry))) i) r ⌝ }
+    ensures { λ r. ⌜ Column 16 (countOn (planOf (now (file .entry))) i) r ⌝ }
 {
     let counts = plan::checked::counts(file);
     let n = counts.sections as usize;
@@ -91,7 +91,7 @@ fn counts_on(file: &[u8], i: usize) -> [u16; 16]
 
 // The longest section of a task below task i on a local resource whose ceiling is at least i's priority.
 fn longest_local(file: &[u8], globals: [bool; 16], ceilings: [u16; 16], i: usize) -> u16
-    requires { ⌜ (Checked (now file)) × (Globals (planOf (now file)) globals) × (Row (ceiling (planOf (now file))) ceilings) × (i < planOf (now file) .tasks) ⌝ }
+    requires { ⌜ (Checked (now file)) × (Globals (planOf (now file)) globals) × (Column 16 (ceiling (planOf (now file))) ceilings) × (i < planOf (now file) .tasks) ⌝ }
     ensures { λ r. ⌜ (r ≡ longestLocal (planOf (now (file .entry))) i) × (r ≤ 1000) ⌝ }
 {
     let counts = plan::checked::counts(file);
@@ -135,7 +135,7 @@ fn sum_under(tasks: &[u16], counts: &[u16], n: usize, i: usize, times: u32) -> u
 
 // B2.
 fn blocking2_of(file: &[u8], tasks: &[u16], counts: &[u16], i: usize) -> u32
-    requires { ⌜ (Checked (now file)) × (Tasks (planOf (now file)) (now tasks)) × (Column (globalCount (planOf (now file))) (now counts)) × (i < planOf (now file) .tasks) ⌝ }
+    requires { ⌜ (Checked (now file)) × (Tasks (planOf (now file)) (now tasks)) × (Column 64 (globalCount (planOf (now file))) (now counts)) × (i < planOf (now file) .tasks) ⌝ }
     ensures { λ r. ⌜ r ≡ blocking2 (planOf (now (file .entry))) i ⌝ }
 {
     let plan_counts = plan::checked::counts(file);
@@ -151,7 +151,7 @@ fn blocking1_of(
     counts: &[u16],
     i: usize,
 ) -> u32
-    requires { ⌜ (Checked (now file)) × (Globals (planOf (now file)) globals) × (Row (ceiling (planOf (now file))) ceilings) × (Column (globalCount (planOf (now file))) (now counts)) × (i < planOf (now file) .tasks) ⌝ }
+    requires { ⌜ (Checked (now file)) × (Globals (planOf (now file)) globals) × (Column 16 (ceiling (planOf (now file))) ceilings) × (Column 64 (globalCount (planOf (now file))) (now counts)) × (i < planOf (now file) .tasks) ⌝ }
     ensures { λ r. ⌜ r ≡ blocking1 (planOf (now (file .entry))) i ⌝ }
 {
     let longest = longest_local(file, globals, ceilings, i);
@@ -177,7 +177,7 @@ fn sum_beside(tasks: &[u16], column: &[u16], n: usize, i: usize) -> u32
 
 // Equation 6: what task i waits for the global resource q, on which it has `count` sections. The column has the hold times of q.
 fn waiting_on(file: &[u8], tasks: &[u16], column: &[u16], count: u16, i: usize, q: u8) -> u64
-    requires { ⌜ (Checked (now file)) × (Tasks (planOf (now file)) (now tasks)) × (Column (λ j. holdAt (planOf (now file)) j q) (now column)) × (i < planOf (now file) .tasks) × (uses (planOf (now file)) i q ≡ true) × (global (planOf (now file)) q ≡ true) × (count ≡ countOn (planOf (now file)) i q) ⌝ }
+    requires { ⌜ (Checked (now file)) × (Tasks (planOf (now file)) (now tasks)) × (Column 64 (λ j. holdAt (planOf (now file)) j q) (now column)) × (i < planOf (now file) .tasks) × (uses (planOf (now file)) i q ≡ true) × (global (planOf (now file)) q ≡ true) × (count ≡ countOn (planOf (now file)) i q) ⌝ }
     ensures { λ r. ⌜ r ≡ waitingOn (planOf (now (file .entry))) i q ⌝ }
 {
     let counts = plan::checked::counts(file);
@@ -201,7 +201,7 @@ fn waiting_at(
     i: usize,
     q: u8,
 ) -> u64
-    requires { ⌜ (Checked (now file)) × (Tasks (planOf (now file)) (now tasks)) × (Column (λ j. holdAt (planOf (now file)) j q) (now column)) × (i < planOf (now file) .tasks) × (shared ≡ global (planOf (now file)) q) × (count ≡ countOn (planOf (now file)) i q) ⌝ }
+    requires { ⌜ (Checked (now file)) × (Tasks (planOf (now file)) (now tasks)) × (Column 64 (λ j. holdAt (planOf (now file)) j q) (now column)) × (i < planOf (now file) .tasks) × (shared ≡ global (planOf (now file)) q) × (count ≡ countOn (planOf (now file)) i q) ⌝ }
     ensures { λ r. ⌜ (r ≡ cond (global (planOf (now (file .entry))) q && uses (planOf (now (file .entry))) i q) (waitingOn (planOf (now (file .entry))) i q) 0) × (r ≤ 255 * 8320000 * 520000) ⌝ }
 {
     if !shared {
@@ -337,7 +337,7 @@ pub fn requirement_of(
     ceilings: [u16; 16],
     i: usize,
 ) -> Requirement
-    requires { ⌜ (Checked (now file)) × (Tasks (planOf (now file)) (now tasks)) × (Columns (holdAt (planOf (now file))) (now holds)) × (Column (globalCount (planOf (now file))) (now counts)) × (Globals (planOf (now file)) globals) × (Row (ceiling (planOf (now file))) ceilings) × (i < planOf (now file) .tasks) ⌝ }
+    requires { ⌜ (Checked (now file)) × (Tasks (planOf (now file)) (now tasks)) × (Columns (holdAt (planOf (now file))) (now holds)) × (Column 64 (globalCount (planOf (now file))) (now counts)) × (Globals (planOf (now file)) globals) × (Column 16 (ceiling (planOf (now file))) ceilings) × (i < planOf (now file) .tasks) ⌝ }
     ensures { λ r. ⌜ r ≡ requirementOf (planOf (now (file .entry))) i ⌝ }
 {
     let blocking1 = blocking1_of(file, globals, ceilings, counts, i);

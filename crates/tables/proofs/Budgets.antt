@@ -23,7 +23,7 @@ use Rattle.tables.proofs.Users.{cellOf}
 use Rattle.tables.proofs.Tops.{above-sum}
 
 -- one column of a table, as it is lent
-pub column-part : (f : ℕ → ℕ → ℕ) (t : List ℕ) (x q : ℕ) → Columns f t → x ≡ q → q < 16 → Column (λ j. f j q) (take (x * 64 + 64 - x * 64) (drop (x * 64) t))
+pub column-part : (f : ℕ → ℕ → ℕ) (t : List ℕ) (x q : ℕ) → Columns f t → x ≡ q → q < 16 → Column 64 (λ j. f j q) (take (x * 64 + 64 - x * 64) (drop (x * 64) t))
 column-part f t x q c e l =
     rw (part-span (x * 64) 64 t, e)
     (record {
@@ -85,7 +85,7 @@ module _ (p : Plan) (v : Valid p) where
       rw (ej, eq, er) (sums (p .section s .task) (p .section s .resource) (f .task) (omega (arith, f .resource, v .resources)))
 
   -- what the table of tasks and a column tell
-  module _ (t column : List ℕ) (q : ℕ) (of : Tasks p t) (holds : Column (λ i. holdAt p i q) column) where
+  module _ (t column : List ℕ) (q : ℕ) (of : Tasks p t) (holds : Column 64 (λ i. holdAt p i q) column) where
     pub budget-told : (n k : ℕ) → n ≡ p .tasks → maxOf t column n k ≡ budget p k q
     unfolding maxOf
     budget-told n k e = rw (e, budget-holds) (max-same (p .tasks) _ _ one)

@@ -21,10 +21,10 @@ pub record Columns (f : ℕ → ℕ → ℕ) (t : List ℕ) : Type 0 where
   pub long : length t ≡ 1024
   pub at : (j q : ℕ) → j < 64 → q < 16 → getD t (cell j q) 0 ≡ f j q
 
--- a table of the figure f of each task: one column of that
-pub record Column (f : ℕ → ℕ) (t : List ℕ) : Type 0 where
-  pub long : length t ≡ 64
-  pub at : (j : ℕ) → j < 64 → getD t j 0 ≡ f j
+-- a table of the figure f of each of n tasks or resources; of 64 tasks it is one column of that
+pub record Column (n : ℕ) (f : ℕ → ℕ) (t : List ℕ) : Type 0 where
+  pub long : length t ≡ n
+  pub at : (j : ℕ) → j < n → getD t j 0 ≡ f j
 
 -- a table of marks: 1 where a task of processor k uses q
 pub record Marks (p : Plan) (t : List ℕ) : Type 0 where

@@ -321,7 +321,7 @@ fn sum_of_others(tasks: &[u16], column: &[u16], n: usize, m: usize, k: usize) ->
 
 // The budget of processor k on the resource of a column of hold times.
 pub fn budget_in(file: &[u8], tasks: &[u16], column: &[u16], k: u8, q: u8) -> u16
-    requires { ⌜ (Checked (now file)) × (Tasks (planOf (now file)) (now tasks)) × (Column (λ i. holdAt (planOf (now file)) i q) (now column)) ⌝ }
+    requires { ⌜ (Checked (now file)) × (Tasks (planOf (now file)) (now tasks)) × (Column 64 (λ i. holdAt (planOf (now file)) i q) (now column)) ⌝ }
     ensures { λ r. ⌜ r ≡ budget (planOf (now (file .entry))) k q ⌝ }
 {
     let counts = plan::checked::counts(file);
@@ -330,7 +330,7 @@ pub fn budget_in(file: &[u8], tasks: &[u16], column: &[u16], k: u8, q: u8) -> u1
 
 // The wait time of processor k on that resource.
 pub fn wait_in(file: &[u8], tasks: &[u16], column: &[u16], k: u8, q: u8) -> u32
-    requires { ⌜ (Checked (now file)) × (Tasks (planOf (now file)) (now tasks)) × (Column (λ i. holdAt (planOf (now file)) i q) (now column)) ⌝ }
+    requires { ⌜ (Checked (now file)) × (Tasks (planOf (now file)) (now tasks)) × (Column 64 (λ i. holdAt (planOf (now file)) i q) (now column)) ⌝ }
     ensures { λ r. ⌜ r ≡ waitTime (planOf (now (file .entry))) k q ⌝ }
 {
     let counts = plan::checked::counts(file);
