@@ -8,7 +8,7 @@ fn main() {
         .expect("bench lies in the repository");
     let folder = root.join("target/staticlib");
     println!("cargo:rustc-link-search=native={}", folder.display());
-    for archive in ["plan_c", "analysis_c"] {
+    for archive in ["plan_c", "analysis_c", "machine_c"] {
         println!("cargo:rustc-link-lib=static={archive}");
         println!(
             "cargo:rerun-if-changed={}",

@@ -1,7 +1,7 @@
 //! Both sides on plans that are damaged, and on plans that are not: each must give the same number.
 
 use crate::random::Random;
-use crate::{plain, plans, proved};
+use crate::{lists, plain, plans, proved};
 
 const START: u64 = 0x9e37_79b9_7f4a_7c15;
 
@@ -76,4 +76,41 @@ pub fn questions(count: usize) {
         admitted += usize::from(one == 256);
     }
     println!("{count} plans: the same {held} hold times and the same admission from both, {admitted} admitted");
+}
+
+/// `count` lists of calls on as many plans: the answer to each call, and all of the state after each list.
+pub fn lists(count: usize, length: usize) {
+    let mut random = Random(START);
+    let mut met = [0; 6];
+    for i in 0..count {
+        let file = plans::some(&mut random);
+        let plan = peer::read(&file).expect("the plan keeps the rules");
+        let (mut calls, mut state) = (Vec::new(), peer::machine::start(&file).1);
+        for _ in 0..length {
+            let call = lists::some(&plan, &state, &mut random);
+            let one = proved::answer(&file, &calls, call);
+            match lists::make(&file, &state, call) {
+                Some((answer, next)) => {
+                    assert_eq!(
+                        one,
+                        plain::answer_number(&answer),
+                        "list {i}: {calls:?} {call:?}"
+                    );
+                    met[(one / 256 % 256) as usize] += 1;
+                    state = next;
+                }
+                None => assert_eq!(one, 0, "list {i}: {calls:?} {call:?}"),
+            }
+            calls.extend(call);
+        }
+        for x in 0..128 {
+            let (one, other) = (proved::row(&file, &calls, x), plain::row_of(&state, x));
+            assert_eq!(one, other, "list {i}, part {x}: {file:?} {calls:?}");
+        }
+    }
+    println!(
+        "{count} lists of {length} calls: the same answers and the same last states from both"
+    );
+    let [refused, granted, waits, next, free, ticks] = met;
+    println!("  {granted} granted, {waits} waits, {next} to another, {free} free, {ticks} ticks, {refused} refused");
 }

@@ -1,6 +1,7 @@
 //! The proved code beside the peer: their answers compared, and their times measured in one run.
 
 mod compare;
+mod lists;
 mod plain;
 mod plans;
 mod proved;
@@ -13,6 +14,7 @@ fn main() {
     let (full, small) = (plans::full(), plans::small());
     compare::damaged_plans(&[&full, &small], 20_000);
     compare::questions(2_000);
+    compare::lists(600, 80);
     let quick = Pace {
         rounds: 401,
         calls: 500,
@@ -56,5 +58,41 @@ fn main() {
             proved::admission,
             plain::admission,
         );
+    }
+    machine();
+}
+
+/// Lists of calls from a fresh machine on; the requests at the front of each are measured with the rest.
+fn machine() {
+    let pace = Pace {
+        rounds: 201,
+        calls: 1,
+    };
+    let lists = [
+        (
+            "a tick with 16 held resources",
+            plans::long(),
+            lists::ticks(640),
+        ),
+        (
+            "a release, and a request behind 63 tasks",
+            plans::narrow(),
+            lists::turns(320),
+        ),
+    ];
+    for (what, plan, calls) in lists {
+        for (which, other) in [
+            ("plain", plain::row as fn(&[u8], &[u8], u8) -> u64),
+            ("tuned", plain::tuned_row),
+        ] {
+            time::measure(
+                &format!("{what}, beside the {which} machine"),
+                pace,
+                calls.len() / 3,
+                &plan,
+                |file| proved::row(file, &calls, 5),
+                |file| other(file, &calls, 5),
+            );
+        }
     }
 }

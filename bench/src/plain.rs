@@ -1,5 +1,7 @@
 //! The same numbers from the peer.
 
+use peer::machine::{Answer, State};
+
 fn last(n: usize) -> usize {
     n.saturating_sub(1)
 }
@@ -40,4 +42,42 @@ pub fn admission(file: &[u8]) -> u64 {
         Ok(admitted) => 256 * u64::from(admitted),
         Err(number) => number.into(),
     }
+}
+
+/// An answer: the refusal in the low byte, above it which answer it is, and its values.
+pub fn answer_number(answer: &Answer) -> u64 {
+    match *answer {
+        Answer::Granted => 256,
+        Answer::Waits { ahead, limit } => 512 + (u64::from(ahead) << 16) + (u64::from(limit) << 24),
+        Answer::Next(tag) => 768 + (u64::from(tag) << 16),
+        Answer::Free => 1024,
+        Answer::Ticked { cuts, grants } => {
+            1280 + (u64::from(cuts) << 16) + (u64::from(grants) << 32)
+        }
+        Answer::Refused(k) => k.into(),
+    }
+}
+
+/// A part of a state: the row of a task, that of a resource, and one slot of its queue.
+pub fn row_of(state: &State, x: u8) -> u64 {
+    let task = state.tasks[usize::from(x % 64)];
+    let line = state.lines[usize::from(x % 16)];
+    u64::from(task.resource)
+        + (u64::from(task.place) << 8)
+        + (u64::from(line.queued) << 16)
+        + (u64::from(line.hold_left) << 24)
+        + (u64::from(line.budget_left) << 40)
+        + (u64::from(line.queue[usize::from(x / 16 % 8)]) << 56)
+}
+
+/// Makes a list of calls on a fresh machine, and gives part `x` of its state, by the machine that is tuned for speed.
+#[inline(never)]
+pub fn tuned_row(file: &[u8], calls: &[u8], x: u8) -> u64 {
+    row_of(&peer::machine::run(file, calls, &mut |_, _| ()), x)
+}
+
+/// The same by the plain one.
+#[inline(never)]
+pub fn row(file: &[u8], calls: &[u8], x: u8) -> u64 {
+    row_of(&peer::plain::run(file, calls), x)
 }

@@ -114,6 +114,69 @@ pub fn busy(processors: u8) -> Vec<u8> {
     file(&plan, b"ABCDEFGHIJKLMNOP")
 }
 
+/// 64 tasks on 8 processors, 16 resources that all are global, 255 sections of nearly 1,000 ticks: each task's first is on
+/// resource i % 16, so that each resource has four users on four processors among the tasks' first sections.
+pub fn long() -> Vec<u8> {
+    let mut plan = Plan {
+        counts: Counts {
+            processors: 8,
+            tasks: 64,
+            resources: 16,
+            sections: 255,
+        },
+        ..Plan::default()
+    };
+    for (i, task) in (0u8..).zip(&mut plan.tasks) {
+        *task = Task {
+            processor: (i + i / 16) % 8,
+            tag: i.into(),
+            priority: 1 + i,
+            period: 65_535,
+            execution: 60_000,
+        };
+    }
+    plan.lengths = [1; 16];
+    for (i, section) in (0u16..).zip(&mut plan.sections) {
+        *section = Section {
+            task: (i % 64) as u8,
+            resource: ((i / 64 * 5 + i) % 16) as u8,
+            length: 1000 - i % 7,
+        };
+    }
+    file(&plan, b"ABCDEFGHIJKLMNOP")
+}
+
+/// 63 tasks of processor 0 and one of processor 1, all on one resource.
+pub fn narrow() -> Vec<u8> {
+    let mut plan = Plan {
+        counts: Counts {
+            processors: 2,
+            tasks: 64,
+            resources: 1,
+            sections: 64,
+        },
+        ..Plan::default()
+    };
+    for (i, task) in (0u8..).zip(&mut plan.tasks) {
+        *task = Task {
+            processor: i / 63,
+            tag: i.into(),
+            priority: 1 + i,
+            period: 1000,
+            execution: 20,
+        };
+    }
+    plan.lengths[0] = 3;
+    for (i, section) in (0u8..64).zip(&mut plan.sections) {
+        *section = Section {
+            task: i,
+            resource: 0,
+            length: 10,
+        };
+    }
+    file(&plan, b"bus")
+}
+
 /// A plan of any size whose sections keep to the execution times, which lie close to the periods now and then.
 pub fn some(random: &mut Random) -> Vec<u8> {
     let mut plan = Plan {

@@ -1,11 +1,27 @@
-//! The proved code, from the archives of `crates/plan_c` and `crates/analysis_c`. Each function returns one number: the
-//! refusal in the low byte, and a figure above it.
+//! The proved code, from the archives of `crates/plan_c`, `crates/analysis_c` and `crates/machine_c`. Each function returns one
+//! number; those of the first two have the refusal in the low byte, and a figure above it.
 
 mod archive {
     extern "C" {
         pub fn plan_read(file: *const u8, length: usize) -> u64;
         pub fn hold_time_at(file: *const u8, length: usize, x: u16) -> u64;
         pub fn plan_admission(file: *const u8, length: usize) -> u64;
+        pub fn machine_answer(
+            file: *const u8,
+            length: usize,
+            calls: *const u8,
+            calls_length: usize,
+            letter: u8,
+            tag: u8,
+            resource: u8,
+        ) -> u64;
+        pub fn machine_row(
+            file: *const u8,
+            length: usize,
+            calls: *const u8,
+            calls_length: usize,
+            x: u8,
+        ) -> u64;
     }
 }
 
@@ -25,4 +41,26 @@ pub fn hold_at(file: &[u8], x: u16) -> u64 {
 pub fn admission(file: &[u8]) -> u64 {
     // SAFETY: as above.
     unsafe { archive::plan_admission(file.as_ptr(), file.len()) }
+}
+
+/// Makes a list of calls on a fresh machine, then one more, and gives its answer.
+pub fn answer(file: &[u8], calls: &[u8], [letter, tag, resource]: [u8; 3]) -> u64 {
+    // SAFETY: as above, for both slices.
+    unsafe {
+        archive::machine_answer(
+            file.as_ptr(),
+            file.len(),
+            calls.as_ptr(),
+            calls.len(),
+            letter,
+            tag,
+            resource,
+        )
+    }
+}
+
+/// Makes a list of calls on a fresh machine, and gives part `x` of its state.
+pub fn row(file: &[u8], calls: &[u8], x: u8) -> u64 {
+    // SAFETY: as above, for both slices.
+    unsafe { archive::machine_row(file.as_ptr(), file.len(), calls.as_ptr(), calls.len(), x) }
 }

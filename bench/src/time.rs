@@ -11,7 +11,7 @@ pub struct Pace {
 }
 
 /// Nanoseconds for a call, over one round.
-fn round(calls: u32, ask: fn(&[u8]) -> u64, file: &[u8]) -> f64 {
+fn round(calls: u32, ask: impl Fn(&[u8]) -> u64, file: &[u8]) -> f64 {
     let start = Instant::now();
     for _ in 0..calls {
         black_box(ask(black_box(file)));
@@ -29,16 +29,28 @@ pub fn report(
     what: &str,
     pace: Pace,
     file: &[u8],
-    proved: fn(&[u8]) -> u64,
-    peer: fn(&[u8]) -> u64,
+    proved: impl Fn(&[u8]) -> u64,
+    peer: impl Fn(&[u8]) -> u64,
+) {
+    assert_eq!(proved(file) % 256, 0, "the plan is read");
+    measure(what, pace, 1, file, proved, peer);
+}
+
+/// Each call to a side makes `each` calls of the machine; the times are of one of these.
+pub fn measure(
+    what: &str,
+    pace: Pace,
+    each: usize,
+    file: &[u8],
+    proved: impl Fn(&[u8]) -> u64,
+    peer: impl Fn(&[u8]) -> u64,
 ) {
     assert_eq!(proved(file), peer(file));
-    assert_eq!(proved(file) % 256, 0, "the plan is read");
     let mut of_proved = Vec::with_capacity(pace.rounds);
     let mut of_peer = Vec::with_capacity(pace.rounds);
     for _ in 0..pace.rounds {
-        of_proved.push(round(pace.calls, proved, file));
-        of_peer.push(round(pace.calls, peer, file));
+        of_proved.push(round(pace.calls, &proved, file) / each as f64);
+        of_peer.push(round(pace.calls, &peer, file) / each as f64);
     }
     let (proved, peer) = (quartiles(of_proved), quartiles(of_peer));
     println!(

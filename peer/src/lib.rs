@@ -6,6 +6,8 @@
 
 pub mod analysis;
 mod checks;
+pub mod machine;
+pub mod plain;
 mod read;
 mod write;
 

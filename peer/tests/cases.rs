@@ -146,6 +146,137 @@ fn holds_case(case: Bytes) -> String {
     }))
 }
 
+/// The cases of calls by one of the two machines, whose states and answers are alike but of types of their own.
+macro_rules! calls_by {
+    ($machine:ident $(, $each:expr)?) => {
+        mod $machine {
+            use super::{told, Bytes};
+            use peer::$machine::{release, request, run, start, tick};
+            use peer::machine::{Answer, Line, Standing, State};
+            use peer::{read, Plan};
+
+            fn answered(answer: Answer) -> Result<String, u8> {
+                Ok(match answer {
+                    Answer::Granted => "granted".to_string(),
+                    Answer::Waits { ahead, limit } => format!("waits {ahead} {limit}"),
+                    Answer::Next(tag) => format!("to {tag}"),
+                    Answer::Free => "free".to_string(),
+                    Answer::Ticked { cuts, grants } => {
+                        format!("tick {cuts} {grants} {}", cuts.count_ones())
+                    }
+                    Answer::Refused(number) => return Err(number),
+                })
+            }
+
+            fn call(
+                file: &[u8],
+                state: &State,
+                (letter, tag, resource): (u8, u16, u8),
+            ) -> (Result<String, u8>, State) {
+                let (answer, next) = match (letter, tag, resource) {
+                    (b'Q', _, _) => request(file, state, tag, resource),
+                    (b'R', _, _) => release(file, state, tag, resource),
+                    (b'T', 0, 0) => tick(file, state),
+                    _ => return (Ok("none".to_string()), *state),
+                };
+                (answered(answer), next)
+            }
+
+            /// Processor `k`, and its tasks in line for `q` in order of place.
+            fn turn(plan: &Plan, state: &State, q: usize, k: u8) -> String {
+                let in_line = |u: &usize| {
+                    plan.tasks[*u].processor == k && usize::from(state.tasks[*u].resource) == q
+                };
+                let mut tasks: Vec<_> = (0..state.tasks.len()).filter(in_line).collect();
+                tasks.sort_by_key(|&u| state.tasks[u].place);
+                let tasks: Vec<_> = tasks.iter().map(usize::to_string).collect();
+                format!("{k}({})", tasks.join(" "))
+            }
+
+            /// The resources that are held, and by whom.
+            fn shown(file: &[u8], state: &State) -> String {
+                let plan = read(file).unwrap_or_default();
+                let mut held = String::new();
+                for (q, line) in state.lines.iter().enumerate() {
+                    if line.queued != 0 {
+                        held += &format!(" {q}:{}/{}:", line.hold_left, line.budget_left);
+                        for &k in &line.queue[..line.queued.into()] {
+                            held += &turn(&plan, state, q, k);
+                        }
+                    }
+                }
+                format!(" |{}", if held.is_empty() { " nobody" } else { &held })
+            }
+
+            pub fn list_case(mut case: Bytes) -> String {
+                let length = case.word().into();
+                let (file, calls) = (case.take(length), case.0);
+                let (refusal, mut state) = start(file);
+                let started = if refusal == 0 {
+                    Ok("start".to_string())
+                } else {
+                    Err(refusal)
+                };
+                let mut answers = vec![told(started)];
+                for bytes in calls.chunks_exact(3) {
+                    let (answer, next) = call(file, &state, (bytes[0], bytes[1].into(), bytes[2]));
+                    assert!(answer.is_ok() || next == state);
+                    answers.push(told(answer));
+                    state = next;
+                }
+                assert_eq!(run(file, calls $(, $each)?), state);
+                answers.join("; ") + &shown(file, &state) + " run"
+            }
+
+            fn state(case: &mut Bytes) -> State {
+                let mut state = State::FRESH;
+                for line in &mut state.lines {
+                    *line = Line {
+                        queued: case.byte(),
+                        queue: case.take(8).try_into().unwrap(),
+                        hold_left: case.word(),
+                        budget_left: case.word(),
+                    };
+                }
+                for task in &mut state.tasks {
+                    *task = Standing {
+                        resource: case.byte(),
+                        place: case.byte(),
+                    };
+                }
+                state
+            }
+
+            pub fn one_case(mut case: Bytes) -> String {
+                let length = case.word().into();
+                let file = case.take(length);
+                let state = state(&mut case);
+                let asked = (case.byte(), case.word(), case.byte());
+                let (answer, next) = call(file, &state, asked);
+                let how = if next == state {
+                    "unchanged"
+                } else {
+                    "changed"
+                };
+                let shown = answer
+                    .as_ref()
+                    .map_or(String::new(), |_| shown(file, &next));
+                format!("{} {how}{shown}", told(answer))
+            }
+        }
+    };
+}
+
+calls_by!(machine, &mut |_, _| ());
+calls_by!(plain);
+
+/// What both machines give for a case.
+fn by_both(case: Bytes, run: [fn(Bytes) -> String; 2]) -> String {
+    let [found, again] = run.map(|run| run(Bytes(case.0)));
+    assert_eq!(found, again);
+    found
+}
+
 #[test]
 fn every_case_gives_its_result() {
     let input = std::fs::read(format!("{FOLDER}stdin")).unwrap();
@@ -167,6 +298,8 @@ fn every_case_gives_its_result() {
             b'Q' => requirement_case(record),
             b'A' => admission_case(record),
             b'L' => holds_case(record),
+            b'M' => by_both(record, [machine::list_case, plain::list_case]),
+            b'S' => by_both(record, [machine::one_case, plain::one_case]),
             _ => panic!("no such case"),
         };
         assert_eq!(format!("{label}: {found}"), result);

@@ -3,6 +3,9 @@ use rows::Counts;
 use rows::Rows;
 use rows::SectionRow;
 use rows::TaskRow;
+use state::Line;
+use state::Standing;
+use state::State;
 ghost use Prim.Native.Nat.{_≤_, _<_};
 
 fn half(b: u8) -> u16
@@ -164,5 +167,66 @@ pub fn rows(case: &[u8]) -> Rows {
         tasks: tasks(part(case, expected_end(case), tasks_end(case))),
         lengths: lengths(part(case, tasks_end(case), start)),
         sections: sections(part(case, start, start + 4 * folds::wide(byte(case, 13)))),
+    }
+}
+
+// A state: for each of 16 resources how many are queued, 8 processors, in 2 bytes each the hold left and the budget left; then for
+// each of 64 tasks its resource and its place.
+fn line(s: &[u8], at: usize) -> Line
+    requires { ⌜ at < 1000 ⌝ }
+{
+    let queue = [
+        byte(s, at + 1),
+        byte(s, at + 2),
+        byte(s, at + 3),
+        byte(s, at + 4),
+        byte(s, at + 5),
+        byte(s, at + 6),
+        byte(s, at + 7),
+        byte(s, at + 8),
+    ];
+    Line {
+        queued: byte(s, at),
+        queue,
+        hold_left: word(s, at + 9),
+        budget_left: word(s, at + 11),
+    }
+}
+
+fn lines(s: &[u8]) -> [Line; 16] {
+    let first = line(s, 0);
+    let mut rows = [first; 16];
+    let mut q = 0;
+    while q < 16 {
+        rows[q] = line(s, q * 13);
+        q += 1;
+    }
+    rows
+}
+
+fn standing(s: &[u8], at: usize) -> Standing
+    requires { ⌜ at < 1000 ⌝ }
+{
+    Standing {
+        resource: byte(s, at),
+        place: byte(s, at + 1),
+    }
+}
+
+fn standings(s: &[u8]) -> [Standing; 64] {
+    let first = standing(s, 0);
+    let mut rows = [first; 64];
+    let mut u = 0;
+    while u < 64 {
+        rows[u] = standing(s, u * 2);
+        u += 1;
+    }
+    rows
+}
+
+pub fn state(s: &[u8]) -> State {
+    State {
+        lines: lines(part(s, 0, 208)),
+        tasks: standings(part(s, 208, 336)),
     }
 }

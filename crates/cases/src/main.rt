@@ -1,6 +1,7 @@
 // Runs the cases that are not for proof, as standard input lists them, and prints what each gives.
 // Standard input is a sequence of records: 4 bytes of length, then a kind, a label and the case.
 mod asked;
+mod called;
 mod given;
 mod print;
 mod same;
@@ -97,6 +98,8 @@ fn run_case(record: &[u8]) {
         b'Q' => asked::requirement(case),
         b'A' => asked::admission(case),
         b'L' => asked::holds(case),
+        b'M' => called::list(case),
+        b'S' => called::one(case),
         _ => print::text(b"no such case"),
     }
     print::text(b"\n");

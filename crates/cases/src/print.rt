@@ -10,9 +10,13 @@ pub fn text(s: &[u8]) {
     io::write_all(STDOUT_FILENO, s);
 }
 
+pub fn digits(n: u64) {
+    io::print_decimal(STDOUT_FILENO, n);
+}
+
 pub fn number(n: u64) {
     text(b" ");
-    io::print_decimal(STDOUT_FILENO, n);
+    digits(n);
 }
 
 // How far below zero z is.
@@ -25,7 +29,7 @@ fn below_zero(z: i64) -> u64
 pub fn signed(z: i64) {
     if z < 0 {
         text(b" -");
-        io::print_decimal(STDOUT_FILENO, below_zero(z));
+        digits(below_zero(z));
     } else {
         number(z as u64);
     }

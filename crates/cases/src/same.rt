@@ -5,6 +5,9 @@ use rows::Counts;
 use rows::Rows;
 use rows::SectionRow;
 use rows::TaskRow;
+use state::Line;
+use state::Standing;
+use state::State;
 
 pub fn bytes(a: &[u8], b: &[u8]) -> bool {
     if a.len() != b.len() {
@@ -112,4 +115,44 @@ pub fn rows(read: Rows, given: Rows, c: Counts) -> bool {
     tasks(read_tasks, given_tasks, c.tasks as usize)
         & lengths(read_lengths, given_lengths, c.resources as usize)
         & sections(read_sections, given_sections, c.sections as usize)
+}
+
+fn line(a: Line, b: Line) -> bool {
+    let first = a.queue;
+    let second = b.queue;
+    (a.queued == b.queued)
+        & bytes(&first, &second)
+        & (a.hold_left == b.hold_left)
+        & (a.budget_left == b.budget_left)
+}
+
+fn lines(a: [Line; 16], b: [Line; 16]) -> bool {
+    let mut all = true;
+    let mut q = 0;
+    while q < 16 {
+        all = all & line(a[q], b[q]);
+        q += 1;
+    }
+    all
+}
+
+fn standings(a: [Standing; 64], b: [Standing; 64]) -> bool {
+    let mut all = true;
+    let mut u = 0;
+    while u < 64 {
+        let s = a[u];
+        let t = b[u];
+        all = all & (s.resource == t.resource) & (s.place == t.place);
+        u += 1;
+    }
+    all
+}
+
+// Whether two states are the same, byte by byte.
+pub fn states(a: State, b: State) -> bool {
+    let a_lines = a.lines;
+    let a_tasks = a.tasks;
+    let b_lines = b.lines;
+    let b_tasks = b.tasks;
+    lines(a_lines, b_lines) & standings(a_tasks, b_tasks)
 }

@@ -1,14 +1,17 @@
 -- The theorem of the table: the definitions compute what document 01 says.
 use mathlib.Core.Bool.{true}
 use mathlib.Core.Path.{_≡_, refl}
-use Rattle.folds.specs.Below.{anyBelow, countBelow, sumBelow, maxBelow}
+use Rattle.folds.specs.Below.{anyBelow, countBelow, sumBelow, maxBelow, findBelow}
+use Rattle.folds.specs.Words.{wordBelow}
 use Rattle.folds.specs.Signed.{greatestTo}
 use Rattle.equations.specs.Sharing.{uses, usedOn, global}
-use Rattle.equations.specs.HoldTimes.{longestOn, longestOff, interference, holdTime, budget, waitTime}
+use Rattle.equations.specs.HoldTimes.{longestOn, longestOff, interference, holdTime, holdAt, budget, waitTime}
 use Rattle.equations.specs.Blocking.{globalCount, countOn, ceiling, longestLocal, blocking1, longestGlobal, blocking2, fellowHolds, waitingOn, waitingSide}
 use Rattle.equations.specs.Requirement.{demand, left, tolerance, slack, met}
-use Rattle.examples.specs.Table.{holds, table, c1, c2, c6}
+use Rattle.equations.specs.Questions.{taskNumber, useCode, sharingCode}
+use Rattle.protocol.specs.Machine.{busy, requestCode, releaseCode, step, answer}
+use Rattle.examples.specs.Table.{allHold, table, c1, c2, c3, c4, c5, c6, listing}
 
-pub examples-hold : holds table ≡ true
-unfolding holds c1 c2 c6 anyBelow countBelow sumBelow maxBelow greatestTo uses usedOn global longestOn longestOff interference holdTime budget waitTime globalCount countOn ceiling longestLocal blocking1 longestGlobal blocking2 fellowHolds waitingOn waitingSide demand left tolerance slack met
+pub examples-hold : allHold table ≡ true
+unfolding allHold c1 c2 c3 c4 c5 c6 listing anyBelow countBelow sumBelow maxBelow findBelow wordBelow greatestTo uses usedOn global longestOn longestOff interference holdTime holdAt budget waitTime globalCount countOn ceiling longestLocal blocking1 longestGlobal blocking2 fellowHolds waitingOn waitingSide demand left tolerance slack met taskNumber useCode sharingCode busy requestCode releaseCode step answer
 examples-hold = refl

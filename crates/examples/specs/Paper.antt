@@ -1,12 +1,14 @@
 -- The paper's example (section 5, Figure 2) as a plan. Its P1 and P2 are processors 0 and 1, its R1, R2 and R3 resources 0, 1 and 2,
 -- its tasks τ1 to τ5 and τ'1 to τ'3 tasks 0 to 7. "A lower index of a task indicates a higher priority". The paper gives no C and T.
 use Prim.Native.Nat.{ℕ}
-use mathlib.Core.List.{List, [], _∷_}
+use mathlib.Core.List.{List, [], _∷_, _++_}
 use lib.ListN.{getD, length}
 use Rattle.rows.specs.Rules.{noTask, noSection}
 use Rattle.rows.specs.declared.TaskRow.{TaskRow}
 use Rattle.rows.specs.declared.SectionRow.{SectionRow}
 use Rattle.plan.specs.Plan.{Plan}
+use Rattle.protocol.specs.declared.Call.{Call}
+use Rattle.protocol.specs.declared.Call.the-variants.{Request, Release, Tick}
 
 -- a task of a processor, with its tag, priority, T and C
 abbrev pub taskRow : ℕ → ℕ → ℕ → ℕ → ℕ → TaskRow
@@ -61,3 +63,29 @@ paperSections =
 -- the example, with T of P2's second task
 abbrev pub paper : ℕ → Plan
 paper t = planWith 2 3 (paperTasks t) paperSections
+
+-- The paper's Figure 3 on R1, as calls. Instant 1: τ'2 asks, then τ2; two ticks to instant 3
+abbrev pub toThree : List Call
+toThree = Request 12 0 ∷ Request 2 0 ∷ Tick ∷ Tick ∷ []
+
+-- instant 3, as the paper has it: τ'1 asks before τ'2 releases; τ1 asks too. τ4 asks at 4, and three ticks lead to instant 6
+abbrev pub toSix : List Call
+toSix = toThree ++ (Request 11 0 ∷ Release 12 0 ∷ Request 1 0 ∷ Tick ∷ Request 4 0 ∷ Tick ∷ Tick ∷ [])
+
+-- τ'3 asks at 7, and ticks lead to instant 11
+abbrev pub toEleven : List Call
+toEleven = toSix ++ (Tick ∷ Request 13 0 ∷ Tick ∷ Tick ∷ Tick ∷ Tick ∷ [])
+
+-- a plan for C5: two tasks of one processor with hold time 3, which is its budget; one of another
+abbrev pub equal : Plan
+equal =
+    planWith 2 1 (taskRow 0 1 2 50 5 ∷ taskRow 0 2 1 50 5 ∷ taskRow 1 3 1 50 5 ∷ [])
+    (sectionRow 0 0 3 ∷ sectionRow 1 0 3 ∷ sectionRow 2 0 2 ∷ [])
+
+-- the listing's plan: "2 processors, tasks of tag 10 (processor 0) and 20 (processor 1), resource "bus", sections of 2 and 3 ticks"
+abbrev pub bus : Plan
+bus = planWith 2 1 (taskRow 0 10 1 50 5 ∷ taskRow 1 20 1 50 5 ∷ []) (sectionRow 0 0 2 ∷ sectionRow 1 0 3 ∷ [])
+
+-- and its seven calls: "Q 20, Q 10, T, T, T, R 20, R 10 (all on resource 0)"
+abbrev pub seven : List Call
+seven = Request 20 0 ∷ Request 10 0 ∷ Tick ∷ Tick ∷ Tick ∷ Release 20 0 ∷ Release 10 0 ∷ []

@@ -1,36 +1,73 @@
--- The table of examples that document 01 wants proved of the definitions: C1, C2 and C6. The rows of the machine, C3 to C5 and the
--- listing, are added with it.
+-- The table of examples that document 01 wants proved of the definitions: C1 to C6 and the listing's seven calls.
 use Prim.Native.Nat.{ℕ, _*_}
 use mathlib.Core.Bool.{Bool, true, false, _&&_, cond}
-use mathlib.Core.List.{List, [], _∷_}
+use mathlib.Core.List.{List, [], _∷_, _++_}
 use lib.IntN.{ℤ, pos}
 use lib.Signed.{leZ}
 use Rattle.equations.specs.HoldTimes.{holdTime, budget, waitTime}
 use Rattle.equations.specs.Blocking.{blocking2, waitingOn, waitingSide}
 use Rattle.equations.specs.Requirement.{tolerance, slack, met}
-use Rattle.examples.specs.Paper.{paper}
+use Rattle.line.specs.Rules.{queued, isHead}
+use Rattle.line.specs.Rules as Rules
+use Rattle.protocol.specs.declared.Call.{Call}
+use Rattle.protocol.specs.declared.Call.the-variants.{Request, Release, Tick}
+use Rattle.protocol.specs.declared.Answer.{Answer}
+use Rattle.protocol.specs.declared.Answer.the-variants.{Granted, Waits, Next, Free, Ticked, Refused}
+use Rattle.protocol.specs.Machine.{Lines, fresh, step, answer, answerTold, run}
+use Rattle.plan.specs.Plan.{Plan}
+use Rattle.examples.specs.Paper.{paper, toThree, toEleven, equal, bus, seven}
 
 -- a row: what the definitions give, and what document 01 says, both as integers
 pub record Row : Type 0 where
-  pub given : ℤ
-  pub said : ℤ
+  pub given : List ℤ
+  pub said : List ℤ
 
 -- a figure
 abbrev pub isNumber : ℕ → ℕ → Row
-isNumber a b = record { given = pos a; said = pos b }
+isNumber a b = record { given = pos a ∷ []; said = pos b ∷ [] }
 
 -- a figure that may be negative
 abbrev pub isSigned : ℤ → ℤ → Row
-isSigned a b = record { given = a; said = b }
+isSigned a b = record { given = a ∷ []; said = b ∷ [] }
 
 -- a test, 1 where it holds
 abbrev pub isTest : Bool → Bool → Row
-isTest a b = record { given = pos (cond a 1 0); said = pos (cond b 1 0) }
+isTest a b = record { given = pos (cond a 1 0) ∷ []; said = pos (cond b 1 0) ∷ [] }
+
+-- natural numbers as integers
+abbrev pub integers : List ℕ → List ℤ
+integers [] = []
+integers (n ∷ ns) = pos n ∷ integers ns
+
+-- an answer in numbers: what it tells
+abbrev pub spelled : Answer → List ℤ
+spelled a = pos (answerTold a .number) ∷ integers (answerTold a .values)
+
+-- and several, one after the other
+abbrev pub spelledAll : List Answer → List ℤ
+spelledAll [] = []
+spelledAll (a ∷ rest) = spelled a ++ spelledAll rest
+
+-- what each of the calls is answered, the first made on s
+abbrev pub answersFrom : Plan → Lines → List Call → List Answer
+answersFrom p s [] = []
+answersFrom p s (c ∷ cs) = answer p s c ∷ answersFrom p (step p s c) cs
+
+-- the answers to a list of calls
+abbrev pub areAnswers : List Answer → List Answer → Row
+areAnswers xs ys = record { given = spelledAll xs; said = spelledAll ys }
+
+-- two lists of integers are the same
+abbrev pub sameAll : List ℤ → List ℤ → Bool
+sameAll [] [] = true
+sameAll [] (y ∷ ys) = false
+sameAll (x ∷ xs) [] = false
+sameAll (x ∷ xs) (y ∷ ys) = leZ x y && (leZ y x && sameAll xs ys)
 
 -- each row says what is given
-unfoldable pub holds : List Row → Bool
-holds [] = true
-holds (r ∷ rs) = leZ (r .given) (r .said) && (leZ (r .said) (r .given) && holds rs)
+unfoldable pub allHold : List Row → Bool
+allHold [] = true
+allHold (r ∷ rs) = sameAll (r .given) (r .said) && allHold rs
 
 -- C1. "P2's hold times: R1 3, 4, 7; R2 2, 4. Budgets 7 and 4."
 unfoldable pub c1 : List Row → List Row
@@ -53,6 +90,35 @@ c2 rest =
     ∷ isNumber (holdTime (paper 61) 2 1) 10
     ∷ rest
 
+-- C3. "A release and a request at one instant: the paper's instant 3 holds when the request is called first. Release first, and P2
+-- leaves the queue."
+unfoldable pub c3 : List Row → List Row
+c3 rest =
+    areAnswers (answersFrom (paper 61) fresh toThree) (Granted ∷ Waits 0 7 ∷ Ticked 0 0 ∷ Ticked 0 0 ∷ [])
+    ∷ areAnswers (answersFrom (paper 61) (run (paper 61) toThree) (Request 11 0 ∷ Release 12 0 ∷ [])) (Waits 1 24 ∷ Next 11 ∷ [])
+    ∷ isTest (isHead 1 (run (paper 61) (toThree ++ (Request 11 0 ∷ Release 12 0 ∷ [])) 0)) true
+    ∷ areAnswers (answersFrom (paper 61) (run (paper 61) toThree) (Release 12 0 ∷ Request 11 0 ∷ [])) (Next 2 ∷ Waits 0 10 ∷ [])
+    ∷ isTest (queued 1 (run (paper 61) (toThree ++ (Release 12 0 ∷ [])) 0)) false
+    ∷ rest
+
+-- C4. "The paper's third task of P2 is granted R1 at 11 and has 7 ticks: cut at 18, not released at 19."
+unfoldable pub c4 : List Row → List Row
+c4 rest =
+    isTest (Rules.holds 7 (run (paper 61) toEleven 0)) true
+    ∷ areAnswers (answersFrom (paper 61) (run (paper 61) toEleven) (Tick ∷ Tick ∷ Tick ∷ Tick ∷ Tick ∷ Tick ∷ Tick ∷ Release 13 0 ∷ []))
+    (Ticked 0 0 ∷ Ticked 0 0 ∷ Ticked 0 0 ∷ Ticked 0 0 ∷ Ticked 0 0 ∷ Ticked 0 0 ∷ Ticked 1 1 ∷ Refused 16 ∷ [])
+    ∷ rest
+
+-- C5. "Hold time equal to budget left: granted. One more: sent back."
+unfoldable pub c5 : List Row → List Row
+c5 rest =
+    areAnswers (answersFrom equal fresh (Request 1 0 ∷ Request 2 0 ∷ Request 3 0 ∷ Release 1 0 ∷ []))
+    (Granted ∷ Waits 1 7 ∷ Waits 0 3 ∷ Next 2 ∷ [])
+    ∷ areAnswers (answersFrom equal fresh (Request 1 0 ∷ Request 2 0 ∷ Request 3 0 ∷ Tick ∷ Release 1 0 ∷ Release 3 0 ∷ []))
+    (Granted ∷ Waits 1 7 ∷ Waits 0 3 ∷ Ticked 0 0 ∷ Next 3 ∷ Next 2 ∷ [])
+    ∷ isTest (queued 0 (run equal (Request 1 0 ∷ Request 2 0 ∷ Request 3 0 ∷ Tick ∷ Release 1 0 ∷ []) 0)) true
+    ∷ rest
+
 -- C6. "the second has B2 4, tolerance 44, slack 40, waiting side 3 × 10 + 1 × 10 = 40, met. With T 60: slack 39, not met. The first:
 -- slack 36, side 60, not met."
 unfoldable pub c6 : List Row → List Row
@@ -73,6 +139,13 @@ c6 rest =
     ∷ isTest (met (paper 61) 5) false
     ∷ rest
 
+-- the listing: "granted 20 bus", "waits 10 bus 0 3", "tick 0 0" twice, "tick 1 1", "refused 16", "released 10 bus free"
+unfoldable pub listing : List Row → List Row
+listing rest =
+    areAnswers (answersFrom bus fresh seven)
+    (Granted ∷ Waits 0 3 ∷ Ticked 0 0 ∷ Ticked 0 0 ∷ Ticked 1 1 ∷ Refused 16 ∷ Free ∷ [])
+    ∷ rest
+
 -- the whole table
 abbrev pub table : List Row
-table = c1 (c2 (c6 []))
+table = c1 (c2 (c3 (c4 (c5 (c6 (listing []))))))

@@ -1,17 +1,20 @@
 -- What a column of hold times tells of budgets and wait times, and when a table holds all hold times.
-use Prim.Native.Nat.{ℕ, _+_, _*_, _-_, _/_, _<_}
+use Prim.Native.Nat.{ℕ, _+_, _*_, _-_, _/_, _<_, _≤_}
 use mathlib.Core.Bool.{Bool, true, false, cond, _&&_}
 use mathlib.Core.List.{List}
 use mathlib.Core.Path.{_≡_, refl, ap, _∙_}
 use native.Mathlib.Omega.{arith}
+use native.Mathlib.Nat.{le-antisymm}
+use borrow.Author.Tests.{eqb-true, eq-eqb}
 use lib.Dec.{eqb}
-use lib.ListN.{getD, replicate, take, drop, length-replicate, length-drop}
+use lib.ListN.{length, getD, replicate, take, drop, length-replicate, length-drop}
 use lib.Seq.{length-take-le, getD-take, getD-drop}
 use Rattle.folds.specs.Below.{maxBelow}
+use Rattle.folds.proofs.Tests.{and-parts}
 use Rattle.folds.proofs.Figures.{sum-same, max-same}
 use Rattle.folds.proofs.Arrays.{by-eq, maxedBelow, maxed-length, maxed-at, cell-eqb}
 use Rattle.folds.proofs.Parts.{part-span}
-use Rattle.folds.proofs.Ranges.{max-where-bound, max-plus}
+use Rattle.folds.proofs.Ranges.{max-where-bound, max-where-at, max-plus}
 use Rattle.rows.specs.declared.SectionRow.{SectionRow}
 use Rattle.plan.specs.Plan.{Plan, Valid}
 use Rattle.equations.specs.Sharing.{processorOf, sectionOn, uses, global}
@@ -19,7 +22,7 @@ use Rattle.equations.specs.HoldTimes.{longestOn, interference, holdTime, holdAt
 use Rattle.equations.proofs.Laws.{budget-holds}
 use Rattle.tables.specs.Tables.{cell, Columns, Column, Tasks, Distinct, placeAt, maxOf, othersOf, sumAbove}
 use Rattle.tables.proofs.Places.{place-processor}
-use Rattle.tables.proofs.Users.{cellOf}
+use Rattle.tables.proofs.Users.{cellOf, markAt, mark-high}
 use Rattle.tables.proofs.Tops.{above-sum}
 
 -- one column of a table, as it is lent
@@ -44,6 +47,10 @@ module _ (p : Plan) where
   -- the greatest of those for each task and resource, after the sections below n
   abbrev pub heldBelow : ℕ → List ℕ
   heldBelow n = maxedBelow n (cellOf p) heldOf (replicate 1024 0)
+
+  -- and for each processor and resource
+  abbrev pub sharesBelow : ℕ → List ℕ
+  sharesBelow n = maxedBelow n (markAt p) heldOf (replicate 128 0)
 
   -- the greatest of a user's is its hold time
   most-held : (j q : ℕ) → maxBelow (p .sections) (λ s. cond (sectionOn p j q s) (heldOf s) 0) ≡ holdAt p j q
@@ -84,6 +91,15 @@ module _ (p : Plan) (v : Valid p) where
       let f = v .section-fits s l in
       rw (ej, eq, er) (sums (p .section s .task) (p .section s .resource) (f .task) (omega (arith, f .resource, v .resources)))
 
+  -- where section s counts among the budgets, by the table of tasks
+  pub mark-told : (t : List ℕ) (s : ℕ) {j q : ℕ} {row : SectionRow} → Tasks p t → s < p .sections → row ≡ p .section s → j ≡ row .task → q ≡ row .resource → q * 8 + getD t (placeAt j) 0 / 256 ≡ markAt p s
+  mark-told t s h l er ej eq =
+      let lj = v .section-fits s l .task in
+      rw (ej, eq, er, h .place (p .section s .task) lj, place-processor p v (p .section s .task) lj)
+
+  pub mark-below : (t : List ℕ) (s : ℕ) {j q : ℕ} {row : SectionRow} → Tasks p t → s < p .sections → row ≡ p .section s → j ≡ row .task → q ≡ row .resource → q * 8 + getD t (placeAt j) 0 / 256 < 128
+  mark-below t s h l er ej eq = rw (mark-told t s h l er ej eq) (mark-high p v s l)
+
   -- what the table of tasks and a column tell
   module _ (t column : List ℕ) (q : ℕ) (of : Tasks p t) (holds : Column 64 (λ i. holdAt p i q) column) where
     pub budget-told : (n k : ℕ) → n ≡ p .tasks → maxOf t column n k ≡ budget p k q
@@ -114,3 +130,49 @@ module _ (p : Plan) (v : Valid p) where
       own s j q l lj =
           let below : p .section s .task < 64 = omega (arith, v .tasks, v .section-fits s l .task) in
           cell-eqb 64 (p .section s .task) j (p .section s .resource) q below lj
+
+  -- the greatest of what a processor's sections on q make is its budget
+  most-shared : (k q : ℕ) → k < 8 → maxBelow (p .sections) (λ s. cond (eqb (markAt p s) (q * 8 + k)) (heldOf p s) 0) ≡ budget p k q
+  most-shared k q lk =
+      rw budget-holds
+      (le-antisymm
+      (max-where-bound (p .sections) _ (λ s. eqb (markAt p s) (q * 8 + k)) (heldOf p) (λ s l t. section s l (eqb-true _ _ t)))
+      (max-where-bound (p .tasks) _ (λ i. eqb (processorOf p i) k) (λ i. holdAt p i q) (λ i l t. task i (eqb-true _ _ t))))
+    where
+      section : (s : ℕ) → s < p .sections → markAt p s ≡ q * 8 + k → heldOf p s ≤ maxBelow (p .tasks) (λ i. cond (eqb (processorOf p i) k) (holdAt p i q) 0)
+      section s l e =
+          let j : ℕ = p .section s .task in
+          let r : ℕ = p .section s .resource in
+          let lj : j < p .tasks = v .section-fits s l .task in
+          let low : processorOf p j < 8 = omega (arith, v .processors, v .task-fits j lj .processor) in
+          let own : processorOf p j ≡ k = omega (arith, low) in
+          let on : r ≡ q = omega (arith, low) in
+          let in-task : heldOf p s ≤ maxBelow (p .sections) (λ x. cond (sectionOn p j r x) (heldOf p x) 0) =
+          max-where-at (p .sections) s (sectionOn p j r) (heldOf p) l (rw (eq-eqb j j refl, eq-eqb r r refl)) in
+          let held : heldOf p s ≤ holdAt p j q = omega (arith, in-task, most-held p j r ∙ ap (holdAt p j) on) in
+          let most = max-where-at (p .tasks) j (λ i. eqb (processorOf p i) k) (λ i. holdAt p i q) lj (eq-eqb _ k own) in
+          omega (arith, held, most)
+
+      task : (i : ℕ) → processorOf p i ≡ k → holdAt p i q ≤ maxBelow (p .sections) (λ s. cond (eqb (markAt p s) (q * 8 + k)) (heldOf p s) 0)
+      task i own =
+          omega (
+            arith,
+            most-held p i q,
+            max-where-bound (p .sections) (maxBelow (p .sections) (λ s. cond (eqb (markAt p s) (q * 8 + k)) (heldOf p s) 0)) (sectionOn p i q) (heldOf p)
+                (λ s l t. max-where-at (p .sections) s (λ x. eqb (markAt p x) (q * 8 + k)) (heldOf p) l (eq-eqb _ _ (at s t))),
+          )
+        where
+          at : (s : ℕ) → sectionOn p i q s ≡ true → markAt p s ≡ q * 8 + k
+          at s t =
+              let both = and-parts _ _ t in
+              let in-task : p .section s .task ≡ i = eqb-true _ _ (both .0) in
+              let on : p .section s .resource ≡ q = eqb-true _ _ (both .1) in
+              rw (in-task, on, own)
+
+  -- and with all budgets
+  pub shares-told : (n : ℕ) {t : List ℕ} → n ≡ p .sections → t ≡ sharesBelow p n → (length t ≡ 128) × ((k q : ℕ) → k < 8 → q < 16 → getD t (q * 8 + k) 0 ≡ budget p k q)
+  shares-told n e f =
+      rw (f, e) (
+        maxed-length (p .sections) (markAt p) (heldOf p) (replicate 128 0) ∙ length-replicate {A = ℕ} 128 0,
+        λ k q lk lq. maxed-at (p .sections) 128 (markAt p) (heldOf p) (q * 8 + k) (omega arith) ∙ most-shared k q lk,
+      )

@@ -98,24 +98,13 @@ fn task_places(file: &[u8]) -> [u16; 256]
 fn raised(top: Top, resource: u16, length: u16) -> Top
     ensures { λ r. ⌜ r ≡ raise top resource length ⌝ }
 {
-    if top.resource == resource {
-        return Top {
-            first: folds::longer(top.first, length),
-            second: top.second,
-            resource: top.resource,
-        };
-    }
-    if top.first < length {
-        return Top {
-            first: length,
-            second: top.first,
-            resource,
-        };
-    }
+    let same = top.resource == resource;
+    let longer = top.first < length;
+    let other = folds::chosen(longer, top.first, folds::longer(top.second, length));
     Top {
-        first: top.first,
-        second: folds::longer(top.second, length),
-        resource: top.resource,
+        first: folds::longer(top.first, length),
+        second: folds::chosen(same, top.second, other),
+        resource: folds::chosen(longer, resource, top.resource),
     }
 }
 
@@ -283,6 +272,36 @@ pub fn hold_table(file: &[u8], tasks: &[u16], globals: [bool; 16]) -> [u16; 1024
         let shared = globals[q];
         let hold = folds::chosen(shared, row.length + added[j * 16 + q], 0);
         table[at] = folds::longer(table[at], hold);
+        i += 1;
+    }
+    table
+}
+
+// The same, and in the same pass the budgets where all were 0, that of processor k on resource q at q * 8 + k.
+pub fn hold_and_budget(
+    file: &[u8],
+    tasks: &[u16],
+    globals: [bool; 16],
+    budgets: &mut [u16],
+) -> [u16; 1024]
+    requires { ⌜ (Checked (now file)) × (Tasks (planOf (now file)) (now tasks)) × (Globals (planOf (now file)) globals) × (now budgets ≡ replicate 128 0) ⌝ }
+    ensures { λ r. ⌜ (Columns (holdAt (planOf (now (file .entry)))) r) × (length (now (budgets .exit)) ≡ 128) × ((k q : ℕ) → k < 8 → q < 16 → getD (now (budgets .exit)) (q * 8 + k) 0 ≡ budget (planOf (now (file .entry))) k q) ⌝ }
+{
+    let counts = plan::checked::counts(file);
+    let s = counts.sections as usize;
+    let added = interference_table(tasks, folds::wide(counts.tasks));
+    let mut table = [0u16; 1024];
+    let mut i = 0;
+    while i < s {
+        let row = plan::checked::section(file, i);
+        let j = folds::wide(row.task);
+        let q = folds::wide(row.resource);
+        let at = q * 64 + j;
+        let shared = globals[q];
+        let hold = folds::chosen(shared, row.length + added[j * 16 + q], 0);
+        table[at] = folds::longer(table[at], hold);
+        let b = q * 8 + (tasks[192 + j] / 256) as usize;
+        budgets[b] = folds::longer(budgets[b], hold);
         i += 1;
     }
     table

@@ -13,8 +13,8 @@ text-requires c κs = search needs
 below-zero-requires : tie.Need-below-zero-requires
 below-zero-requires c κs = search needs
 
-print-decimal-requires : tie.Need-print-decimal-requires
-print-decimal-requires c κs = search needs
+digits-requires : tie.Need-digits-requires
+digits-requires c κs = search needs
 
 cast-number : tie.Need-cast-number
 cast-number c = cast-fits _ (c .before .fits .z) (c .if1 .left)
@@ -35,7 +35,7 @@ signed-spec =
     slice-aggregate-text
     text-requires
     below-zero-requires
-    print-decimal-requires
+    digits-requires
     cast-number
     number-requires
     returns

@@ -1,0 +1,250 @@
+// Calls of the machine: a plan file stands at the front of the case, its length in two bytes before it.
+use crate::given;
+use crate::print;
+use crate::same;
+use machine::Reply;
+use protocol::Answer;
+use rows::TaskRow;
+use state::Line;
+use state::Standing;
+use state::State;
+ghost use Prim.Native.Nat.{_<_};
+
+// What a call gave, its answer printed: whether it was refused, and the next state.
+struct Outcome {
+    refused: bool,
+    state: State,
+}
+
+fn file_end(case: &[u8]) -> usize
+    ensures { λ r. ⌜ r < 70000 ⌝ }
+{
+    2 + given::size(given::word(case, 0))
+}
+
+fn file(case: &[u8]) -> &[u8] {
+    given::part(case, 2, file_end(case))
+}
+
+fn behind(case: &[u8]) -> &[u8] {
+    given::part(case, file_end(case), case.len())
+}
+
+fn is_refusal(answer: Answer) -> bool {
+    match answer {
+        Answer::Refused(_) => true,
+        Answer::Granted => false,
+        Answer::Waits(_, _) => false,
+        Answer::Next(_) => false,
+        Answer::Free => false,
+        Answer::Ticked(_, _) => false,
+    }
+}
+
+// An answer; behind the words of a tick the number of cuts that came with them.
+fn answer(answer: Answer, cut_count: u32) {
+    match answer {
+        Answer::Granted => print::text(b"granted"),
+        Answer::Waits(ahead, limit) => {
+            print::text(b"waits");
+            print::number(ahead as u64);
+            print::number(limit as u64);
+        }
+        Answer::Next(tag) => {
+            print::text(b"to");
+            print::number(tag as u64);
+        }
+        Answer::Free => print::text(b"free"),
+        Answer::Ticked(cuts, grants) => {
+            print::text(b"tick");
+            print::number(cuts as u64);
+            print::number(grants as u64);
+            print::number(cut_count as u64);
+        }
+        Answer::Refused(k) => print::refused(k),
+    }
+}
+
+fn replied(reply: Reply) -> Outcome {
+    let told = reply.answer;
+    let state = reply.state;
+    answer(told, 0);
+    Outcome {
+        refused: is_refusal(told),
+        state,
+    }
+}
+
+// A tick. One that is refused cuts nobody.
+fn tick(file: &[u8], state: State) -> Outcome {
+    let reply = machine::tick(file, state);
+    let told = reply.answer;
+    let next = reply.state;
+    answer(told, reply.cut_count);
+    let refused = is_refusal(told);
+    if refused & (reply.cut_count != 0) {
+        print::text(b" but cuts");
+    }
+    Outcome {
+        refused,
+        state: next,
+    }
+}
+
+fn none(state: State) -> Outcome {
+    print::text(b"none");
+    Outcome {
+        refused: false,
+        state,
+    }
+}
+
+// The call of this letter; a tick has tag 0 and resource 0.
+fn call(file: &[u8], state: State, letter: u8, tag: u16, resource: u8) -> Outcome {
+    match letter {
+        b'Q' => replied(machine::request(file, state, tag, resource)),
+        b'R' => replied(machine::release(file, state, tag, resource)),
+        b'T' => {
+            if (tag == 0) & (resource == 0) {
+                return tick(file, state);
+            }
+            none(state)
+        }
+        _ => none(state),
+    }
+}
+
+// Whether a task of processor k with this row is in line for q, in this place.
+fn stands(s: Standing, processor: u8, q: u8, k: u8, place: u8) -> bool {
+    (processor == k) & (s.resource == q) & (s.place == place)
+}
+
+// The task in a place of the queue of processor k for q, where there is one.
+fn in_place(rows: [TaskRow; 64], tasks: [Standing; 64], q: u8, k: u8, place: u8) {
+    let mut u = 0;
+    while u < 64 {
+        let row = rows[u];
+        if stands(tasks[u], row.processor, q, k, place) {
+            print::which(place == 0, b"", b" ");
+            print::digits(u as u64);
+        }
+        u += 1;
+    }
+}
+
+// Processor k, and its tasks in line for q in order of place.
+fn turn(rows: [TaskRow; 64], tasks: [Standing; 64], q: u8, k: u8) {
+    print::digits(k as u64);
+    print::text(b"(");
+    let mut place = 0u8;
+    while place < 64 {
+        in_place(rows, tasks, q, k, place);
+        place += 1;
+    }
+    print::text(b")");
+}
+
+// A held resource: the hold left, the budget left, and its processors in order.
+fn line(rows: [TaskRow; 64], tasks: [Standing; 64], q: u8, l: Line) {
+    print::number(q as u64);
+    print::text(b":");
+    print::digits(l.hold_left as u64);
+    print::text(b"/");
+    print::digits(l.budget_left as u64);
+    print::text(b":");
+    let queue = l.queue;
+    let mut i = 0;
+    while i < 8 {
+        if i < l.queued as usize {
+            turn(rows, tasks, q, queue[i]);
+        }
+        i += 1;
+    }
+}
+
+// The resources that are held, and by whom.
+fn held(rows: [TaskRow; 64], tasks: [Standing; 64], lines: [Line; 16]) {
+    let mut some = false;
+    let mut q = 0u8;
+    while q < 16 {
+        let l = lines[q as usize];
+        if l.queued != 0 {
+            line(rows, tasks, q, l);
+            some = true;
+        }
+        q += 1;
+    }
+    print::which(some, b"", b" nobody");
+}
+
+// What a state shows, with the processors of the tasks from the plan file.
+fn shown(file: &[u8], state: State) {
+    let found = plan::read(file);
+    let rows = found.rows;
+    let processors = rows.tasks;
+    let tasks = state.tasks;
+    let lines = state.lines;
+    print::text(b" |");
+    held(processors, tasks, lines);
+}
+
+// One of the calls of a list: a letter, a tag, a resource. After one that is refused the state is to be as it was.
+fn next(file: &[u8], state: State, bytes: &[u8]) -> State {
+    print::text(b"; ");
+    let letter = given::byte(bytes, 0);
+    let tag = given::byte(bytes, 1);
+    let resource = given::byte(bytes, 2);
+    let outcome = call(file, state, letter, tag as u16, resource);
+    let after = outcome.state;
+    if outcome.refused & !same::states(after, state) {
+        print::text(b" changed");
+    }
+    after
+}
+
+// A fresh machine, or why there is none.
+fn start(file: &[u8]) -> State {
+    let started = machine::start(file);
+    if started.refusal == 0 {
+        print::text(b"start");
+    } else {
+        print::refused(started.refusal);
+    }
+    started.state
+}
+
+// A list of calls of three bytes each from a fresh machine on, with every answer; what the last state shows; whether a run of the
+// whole list ends there.
+pub fn list(case: &[u8]) {
+    let file = file(case);
+    let calls = behind(case);
+    let mut state = start(file);
+    let n = calls.len() / 3;
+    let mut x = 0;
+    while x < n {
+        let after = next(file, state, given::part(calls, x * 3, x * 3 + 3));
+        state = after;
+        x += 1;
+    }
+    shown(file, state);
+    let end = machine::run(file, calls);
+    print::which(same::states(state, end), b" run", b" run differs");
+}
+
+// One call on a given state, and what the next one shows where it is not refused. Its tag has two bytes, so that it can be one
+// that no plan has.
+pub fn one(case: &[u8]) {
+    let file = file(case);
+    let rest = behind(case);
+    let state = given::state(rest);
+    let bytes = given::part(rest, 336, rest.len());
+    let letter = given::byte(bytes, 0);
+    let tag = given::word(bytes, 1);
+    let resource = given::byte(bytes, 3);
+    let outcome = call(file, state, letter, tag, resource);
+    let after = outcome.state;
+    print::which(same::states(after, state), b" unchanged", b" changed");
+    if !outcome.refused {
+        shown(file, after);
+    }
+}

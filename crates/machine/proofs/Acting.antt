@@ -1,0 +1,87 @@
+-- The tables of a plan and a state: what they tell the test of soundness, and what it tells of the call.
+use Prim.Native.Nat.{ℕ, _<_, _≤_}
+use mathlib.Core.Bool.{Bool, true, false, not}
+use mathlib.Core.List.{List}
+use mathlib.Core.Path.{_≡_, refl, _∙_}
+use native.Mathlib.Omega.{arith}
+use borrow.Author.Tests.{eq-eqb}
+use lib.ListN.{getD}
+use Rattle.folds.proofs.Tests.{held, failed}
+use Rattle.plan.specs.Reading.{refusal}
+use Rattle.plan.specs.Plan.{Plan, planOf, Checked, Valid}
+use Rattle.plan.proofs.Laws.{valid-plan}
+use Rattle.equations.specs.Sharing.{processorOf}
+use Rattle.equations.specs.HoldTimes.{holdAt}
+use Rattle.tables.specs.Tables.{Columns}
+use Rattle.ranks.proofs.Searches.{on-le}
+use Rattle.protocol.specs.declared.Call.{Call}
+use Rattle.protocol.specs.declared.Answer.the-variants.{Refused}
+use Rattle.protocol.specs.Machine.{callCode, answer}
+use Rattle.state.specs.declared.Standing.{Standing}
+use Rattle.state.specs.declared.State.{State}
+use Rattle.state.specs.Shows.{standing, shows}
+use Rattle.state.specs.Sound.{sound}
+use Rattle.state.specs.Seats.{Shares, Keys, Seats}
+use Rattle.state.specs.Tests.{stateTest}
+use Rattle.state.proofs.Tables.{key-in, seat-high}
+use Rattle.state.proofs.SoundTest.{sound-test}
+use Rattle.machine.specs.declared.Reply.{Reply}
+use Rattle.machine.specs.Replies.{callRefusal, reply, Next}
+use Rattle.machine.specs.Inner.{Done}
+use Rattle.machine.proofs.Answered.{reply-refused, next-refused}
+
+-- ── the seats of all 64 rows, tasks or not ──
+module _ (p : Plan) (v : Valid p) (ts : List Standing) (keys : List ℕ) (h : Keys p ts keys) where
+  pub keys-low : (u : ℕ) → u < 64 → getD keys u 0 < 8193
+  keys-low u l =
+      on-le (getD keys u 0 < 8193) (p .tasks) u (λ m. omega (arith, h .rest u l m)) (λ m. seat-high p v ts keys h u m)
+
+  -- a seat is at least its place
+  pub places-low : (u : ℕ) → u < 64 → standing ts u .resource < 16 → standing ts u .place < 64 → standing ts u .place ≤ getD keys u 0
+  places-low u l a b =
+      on-le (standing ts u .place ≤ getD keys u 0) (p .tasks) u (λ m. omega (arith, h .rest u l m))
+      (λ m. omega (arith, h .at u m, key-in (standing ts u) (processorOf p u) _ _ _ a b (refl, refl, refl)))
+
+-- ── the tables made of a plan that passed every check and of a state ──
+pub record Made (f : List ℕ) (s : State) (h b k t : List ℕ) : Type 0 where
+  pub plan : Checked f
+  pub holds : Columns (holdAt (planOf f)) h
+  pub budgets : Shares (planOf f) b
+  pub keys : Keys (planOf f) (s .tasks) k
+  pub seats : Seats (planOf f) (s .tasks) t
+
+-- the test by them is that of soundness
+module _ {f : List ℕ} {s : State} {h b k t : List ℕ} (m : Made f s h b k t) where
+  test-is : stateTest h b k t s ≡ sound (planOf f) s
+  test-is = sound-test (planOf f) (valid-plan f (m .plan)) s h b k t (m .holds) (m .budgets) (m .keys) (m .seats)
+
+  pub passed : {x : Bool} → x ≡ stateTest h b k t s → not x ≡ false → sound (planOf f) s ≡ true
+  passed e n = held (e ∙ test-is) n
+
+  pub not-passed : {x : Bool} → x ≡ stateTest h b k t s → not x ≡ true → sound (planOf f) s ≡ false
+  not-passed e n = failed (e ∙ test-is) n
+
+-- ── the reply, by the test ──
+module _ (f : List ℕ) (none : refusal f ≡ 0) (s : State) (c : Call) where
+  unsound-code : sound (planOf f) s ≡ false → callRefusal f s c ≡ 19
+  unfolding callRefusal
+  unsound-code h = rw (eq-eqb (refusal f) 0 none, h)
+
+  pub unsound-reply : sound (planOf f) s ≡ false → (Refused 19 ≡ reply f s c) × Next f s c s
+  unsound-reply h =
+      let k : callRefusal f s c ≡ 19 = unsound-code h in
+      (reply-refused f s c k (λ z. omega arith), next-refused f s c (λ z. omega (arith, k, z)))
+
+  sound-code : sound (planOf f) s ≡ true → callRefusal f s c ≡ callCode (planOf f) (shows (planOf f) s) c
+  unfolding callRefusal
+  sound-code h = rw (eq-eqb (refusal f) 0 none, h)
+
+  pub sound-answer : sound (planOf f) s ≡ true → answer (planOf f) (shows (planOf f) s) c ≡ reply f s c
+  unfolding answer reply
+  sound-answer h = rw (sound-code h)
+
+  pub sound-reply : sound (planOf f) s ≡ true → {r : Reply} → Done (planOf f) s c r → (r .answer ≡ reply f s c) × Next f s c (r .state)
+  sound-reply h {r} d = (
+    d .answer ∙ sound-answer h,
+    record { unchanged = λ n. d .unchanged (λ z. n (sound-code h ∙ z)); sound = λ z. d .sound; shows = λ z. d .shows },
+  )

@@ -1,0 +1,71 @@
+-- What a call is answered, refused or not: its number, and the cuts of a tick.
+use Prim.Native.Nat.{ℕ}
+use mathlib.Core.Bool.{Bool, cond}
+use mathlib.Core.List.{List, [], _∷_}
+use mathlib.Core.Path.{_≡_, refl, sym, ap, _∙_}
+use borrow.Author.Tests.{ne-eqb}
+use Rattle.folds.specs.Below.{countBelow}
+use Rattle.folds.proofs.WordLaws.{word-ones}
+use Rattle.folds.proofs.Arrays.{by-eq}
+use Rattle.plan.specs.Reading.{refusal}
+use Rattle.plan.specs.Plan.{Plan, planOf}
+use Rattle.equations.specs.Questions.{taskNumber}
+use Rattle.line.specs.Rules as Rules
+use Rattle.line.specs.Rules.{line, turn, cut, released}
+use Rattle.protocol.specs.declared.Call.{Call}
+use Rattle.protocol.specs.declared.Call.the-variants.{Request, Release, Tick}
+use Rattle.protocol.specs.declared.Answer.{Answer}
+use Rattle.protocol.specs.declared.Answer.the-variants.{Refused}
+use Rattle.protocol.specs.Machine.{Lines, terms, requestTold, releaseTold, told, answerTold}
+use Rattle.state.specs.declared.State.{State}
+use Rattle.state.specs.Shows.{shows}
+use Rattle.machine.specs.Replies.{callRefusal, reply, replyTold, Next, cutCount}
+use Rattle.machine.specs.Inner.{cutsIn}
+
+-- an answer by the rules has number 0
+request-number : (p : Plan) (i q : ℕ) (l : Rules.Line) → answerTold (requestTold p i q l) .number ≡ 0
+request-number p i q (line h b []) = refl
+request-number p i q (line h b (x ∷ rest)) = refl
+
+release-number : (p : Plan) (l : Rules.Line) → answerTold (releaseTold p l) .number ≡ 0
+release-number p (line h b []) = refl
+release-number p (line h b (turn k u us ∷ rest)) = refl
+
+told-number : (p : Plan) (s : Lines) (c : Call) → answerTold (told p s c) .number ≡ 0
+told-number p s (Request tag q) = request-number p (taskNumber p tag) q (s q)
+told-number p s (Release tag q) = release-number p (released (terms p q) (s q))
+told-number p s Tick = refl
+
+module _ (f : List ℕ) (s : State) where
+  -- a reply tells why the call is refused, or 0 and the values
+  pub reply-told : (c : Call) → answerTold (reply f s c) ≡ replyTold f s c
+  unfolding reply replyTold
+  reply-told c =
+      let x : Answer = told (planOf f) (shows (planOf f) s) c in
+      let k : ℕ = callRefusal f s c in
+      by-eq (λ (b : Bool). answerTold (cond b x (Refused k)) ≡ record { number = k; values = cond b (answerTold x .values) [] }) k 0
+      (λ e. ap (λ (n : ℕ). record { number = n; values = answerTold x .values }) (told-number (planOf f) (shows (planOf f) s) c ∙ sym e))
+      (λ d. refl)
+
+  -- the ones in the first word of a tick's reply
+  pub tick-cuts : cutsIn (reply f s Tick) ≡ cutCount f s
+  unfolding reply cutCount
+  tick-cuts =
+      let l : Lines = shows (planOf f) s in
+      let k : ℕ = callRefusal f s Tick in
+      by-eq (λ (b : Bool). cutsIn (cond b (told (planOf f) l Tick) (Refused k)) ≡ cond b (countBelow 16 (λ q. cut (l q))) 0) k 0
+      (λ e. word-ones 16 (λ q. cut (l q)))
+      (λ d. refl)
+
+  -- a plan that is refused
+  pub plan-refused : (c : Call) {k : ℕ} → k ≡ refusal f → (k ≡ 0 → ⊥) → callRefusal f s c ≡ k
+  unfolding callRefusal
+  plan-refused c e d = rw (← e, ne-eqb _ _ d)
+
+  -- a call that is refused
+  pub reply-refused : (c : Call) {k : ℕ} → callRefusal f s c ≡ k → (k ≡ 0 → ⊥) → Refused k ≡ reply f s c
+  unfolding reply
+  reply-refused c e d = rw (e, ne-eqb _ _ d)
+
+  pub next-refused : (c : Call) → (callRefusal f s c ≡ 0 → ⊥) → Next f s c s
+  next-refused c d = record { unchanged = λ n. refl; sound = λ z. absurd (d z); shows = λ z. absurd (d z) }

@@ -1,0 +1,221 @@
+-- What a request is refused for, what it tells where it is not, and what it then does.
+use Prim.Native.Nat.{ℕ, _+_, _*_, _<_, _≤_}
+use mathlib.Core.Bool.{Bool, true, false, cond}
+use mathlib.Core.List.{List}
+use mathlib.Core.Logic.{_≢_, _⊎_, inl, inr}
+use mathlib.Core.Path.{_≡_, refl, sym, _∙_}
+use native.Mathlib.Omega.{arith}
+use native.Mathlib.Nat.{mul-le-mul}
+use borrow.Author.Tests.{eq-eqb, ne-eqb, eqb-true, lt-ltb, le-ltb, ltb-true, not-false}
+use lib.Dec.{eqb, ltb}
+use lib.ListN.{length, getD}
+use Rattle.folds.proofs.Tests.{and-parts, code-zero, code-next}
+use Rattle.folds.proofs.Arrays.{by-eq}
+use Rattle.plan.specs.Plan.{Plan, Valid}
+use Rattle.equations.specs.Sharing.{processorOf, uses, global}
+use Rattle.equations.specs.HoldTimes.{holdAt, waitTime}
+use Rattle.equations.specs.Questions.{taskNumber, sharingCode, useCode}
+use Rattle.equations.proofs.Laws.{hold-low}
+use Rattle.protocol.specs.declared.Answer.{Answer}
+use Rattle.protocol.specs.declared.Answer.the-variants.{Granted, Waits}
+use Rattle.protocol.specs.declared.Call.the-variants.{Request}
+use Rattle.protocol.specs.Machine.{Lines, busy, requestCode, requestTold, answer, step}
+use Rattle.tables.specs.Tables.{Columns}
+use Rattle.state.specs.declared.State.{State}
+use Rattle.state.specs.Shows.{standing, lineAt, shows, noneInLine}
+use Rattle.state.specs.Sound.{sound}
+use Rattle.state.specs.Seats.{Shares, Seats}
+use Rattle.state.proofs.Tables.{low-processor}
+use Rattle.state.proofs.Good.{Whole}
+use Rattle.state.proofs.Wholes.{hold-user, whole-of, sound-of}
+use Rattle.steps.specs.Steps.{joined, taken, takenHolds}
+use Rattle.steps.proofs.Joins.{aheadOf, entering, hold-resource, join-room, joined-whole, joined-shows}
+use Rattle.steps.proofs.Asking.{taken-is, request-granted, request-waits, busy-is}
+use Rattle.machine.specs.Inner.{refusedAt, Done}
+
+-- a table's figure for resource q, whose number is r
+pub column-at : (f : ℕ → ℕ → ℕ) (t : List ℕ) {j q r : ℕ} → Columns f t → r ≡ q → j < 64 → q < 16 → getD t (r * 64 + j) 0 ≡ f j q
+column-at f t {j} {q} c e a b = rw e (c .at j q a b)
+
+-- ── the number ──
+module _ (p : Plan) (l : Lines) (tag q : ℕ) {i : ℕ} (e : i ≡ taskNumber p tag) where
+  -- 11 to 14 are those of the use
+  use-refused : {k : ℕ} → k ≡ useCode p tag q → k ≢ 0 → k ≡ requestCode p l tag q
+  unfolding requestCode
+  use-refused {k} h d = rw (← h, ne-eqb k 0 d)
+
+  pub request-11 : p .tasks ≤ i → 11 ≡ requestCode p l tag q
+  unfolding useCode
+  request-11 h = use-refused (rw (← e, le-ltb i (p .tasks) h)) (λ z. omega arith)
+
+  pub request-12 : i < p .tasks → p .resources ≤ q → 12 ≡ requestCode p l tag q
+  unfolding useCode
+  request-12 a h = use-refused (rw (← e, lt-ltb i (p .tasks) a, le-ltb q (p .resources) h)) (λ z. omega arith)
+
+  pub request-share : {k : ℕ} → i < p .tasks → q < p .resources → k ≡ sharingCode p i q → 1 ≤ k → k ≡ requestCode p l tag q
+  unfolding useCode
+  request-share a b h n = use-refused (rw (← e, lt-ltb i (p .tasks) a, lt-ltb q (p .resources) b) h) (λ z. omega arith)
+
+module _ (p : Plan) (v : Valid p) where
+  -- who has a hold time may use the resource, and the other way round
+  use-clear : (tag q : ℕ) {i : ℕ} → i ≡ taskNumber p tag → i < p .tasks → 1 ≤ holdAt p i q → useCode p tag q ≡ 0
+  unfolding useCode sharingCode
+  use-clear tag q {i} e a some =
+      let u = and-parts (global p q) (uses p i q) (hold-user p v i q some) in
+      rw (← e, lt-ltb i (p .tasks) a, lt-ltb q (p .resources) (hold-resource p v i q some), u .0, u .1)
+
+  hold-some : (i q : ℕ) → sharingCode p i q ≡ 0 → 1 ≤ holdAt p i q
+  unfolding sharingCode holdAt
+  hold-some i q z =
+      let u : uses p i q ≡ true = code-zero (uses p i q) _ 12 z in
+      let g : global p q ≡ true = code-zero (global p q) 0 13 (code-next (uses p i q) _ 12 z) in
+      rw (g, u) (hold-low p v i q u)
+
+-- both are 0 where the number is
+clear-parts : (k : ℕ) (b : Bool) → cond (eqb k 0) (cond b 15 0) k ≡ 0 → (k ≡ 0) × (b ≡ false)
+clear-parts k b =
+    by-eq (λ (t : Bool). cond t (cond b 15 0) k ≡ 0 → (k ≡ 0) × (b ≡ false)) k 0 (λ z h. (z, off b h)) (λ d h. absurd (d h))
+  where
+    off : (b : Bool) → cond {A = ℕ} b 15 0 ≡ 0 → b ≡ false
+    off true h = let bad : ⊥ = omega arith in absurd bad
+    off false h = refl
+
+-- task i is in line for nothing and may join the line of q
+pub record Free (p : Plan) (s : State) (i q : ℕ) : Type 0 where
+  pub task : i < p .tasks
+  pub resource : q < p .resources
+  pub some : 1 ≤ holdAt p i q
+  pub idle : standing (s .tasks) i ≡ noneInLine
+
+module _ (p : Plan) (v : Valid p) (s : State) (h : sound p s ≡ true) (tag q : ℕ) where
+  whole : Whole p s
+  whole = whole-of p v s h
+
+  module _ {i : ℕ} (e : i ≡ taskNumber p tag) (a : i < p .tasks) (some : 1 ≤ holdAt p i q) where
+    pub request-15 : standing (s .tasks) i .resource ≢ 255 → 15 ≡ requestCode p (shows p s) tag q
+    unfolding requestCode
+    request-15 n =
+        rw (use-clear p v tag q e a some, ← e, busy-is p v s whole i a, ne-eqb (standing (s .tasks) i .resource) 255 n)
+
+    pub request-0 : standing (s .tasks) i .resource ≡ 255 → 0 ≡ requestCode p (shows p s) tag q
+    unfolding requestCode
+    request-0 z =
+        rw (use-clear p v tag q e a some, ← e, busy-is p v s whole i a, eq-eqb (standing (s .tasks) i .resource) 255 z)
+
+  -- what the number 0 tells
+  pub request-free : {i : ℕ} → i ≡ taskNumber p tag → requestCode p (shows p s) tag q ≡ 0 → Free p s i q
+  unfolding requestCode useCode
+  request-free {i} e z =
+      let c = clear-parts (useCode p tag q) (busy p (shows p s) i) (rw e z) in
+      let t = rw (← e) at (c .0) in
+      let a : i < p .tasks = ltb-true i (p .tasks) (code-zero (ltb i (p .tasks)) _ 10 t) in
+      let u = code-next (ltb i (p .tasks)) _ 10 t in
+      let r : standing (s .tasks) i .resource ≡ 255 =
+      eqb-true (standing (s .tasks) i .resource) 255 (not-false _ (sym (busy-is p v s whole i a) ∙ c .1)) in
+      record {
+        task = a;
+        resource = ltb-true q (p .resources) (code-zero (ltb q (p .resources)) _ 11 u);
+        some = hold-some p v i q (code-next (ltb q (p .resources)) _ 11 u);
+        idle = none r (whole .rows i (omega (arith, v .tasks)));
+      }
+    where
+      none : standing (s .tasks) i .resource ≡ 255
+          → (standing (s .tasks) i ≡ noneInLine) ⊎ (1 ≤ holdAt p i (standing (s .tasks) i .resource))
+          → standing (s .tasks) i ≡ noneInLine
+      none r (inl e) = e
+      none r (inr x) = let bad : ⊥ = omega (arith, v .resources, hold-resource p v i (standing (s .tasks) i .resource) x) in absurd bad
+
+  -- ── what a request does ──
+  pub ask-refused : {k : ℕ} → k ≡ requestCode p (shows p s) tag q → k ≢ 0 → Done p s (Request tag q) (refusedAt s k)
+  unfolding answer step
+  ask-refused {k} e d =
+      record {
+        answer = rw (← e, ne-eqb k 0 d);
+        unchanged = λ n. refl;
+        sound = h;
+        shows = rw (← e, ne-eqb k 0 d);
+      }
+
+-- a request that is not refused, on a sound state, with the tables of the plan and the state
+pub record Accepted (p : Plan) (s : State) (tag q : ℕ) (holds budgets seats : List ℕ) : Type 0 where
+  pub valid : Valid p
+  pub sound : sound p s ≡ true
+  pub tasks-long : length (s .tasks) ≡ 64
+  pub lines-long : length (s .lines) ≡ 16
+  pub code : requestCode p (shows p s) tag q ≡ 0
+  pub columns : Columns (holdAt p) holds
+  pub shares : Shares p budgets
+  pub seated : Seats p (s .tasks) seats
+
+-- what the code calls the task, its processor and the resource: i, k and q, and the last two m and r where they index a table
+pub record Named (p : Plan) (tag q i k r m : ℕ) : Type 0 where
+  pub task : i ≡ taskNumber p tag
+  pub processor : k ≡ processorOf p i
+  pub resource : r ≡ q
+  pub core : m ≡ k
+
+module _ {p : Plan} {s : State} {tag q : ℕ} {holds budgets seats : List ℕ} (h : Accepted p s tag q holds budgets seats) where
+  abbrev v : Valid p
+  v = h .valid
+
+  abbrev i : ℕ
+  i = taskNumber p tag
+
+  abbrev w : Whole p s
+  w = whole-of p v s (h .sound)
+
+  may : Free p s i q
+  may = request-free p v s (h .sound) tag q refl (h .code)
+
+  low : q < 16
+  low = omega (arith, v .resources, may .resource)
+
+  low-core : processorOf p i < 8
+  low-core = low-processor p v i (may .task)
+
+  -- it joins the line, whatever the answer
+  done : {a : Answer} → a ≡ requestTold p i q (shows p s q) → Done p s (Request tag q) (record { answer = a; state = entering p s i q })
+  unfolding answer step
+  done e =
+      record {
+        answer = rw (h .code) e;
+        unchanged = λ n. absurd (n (h .code));
+        sound = sound-of p v (entering p s i q) (joined-whole p v s w (h .tasks-long) (h .lines-long) i q (may .task) (may .some) (may .idle));
+        shows = rw (h .code) (joined-shows p v s w (h .tasks-long) (h .lines-long) i q (may .task) (may .some) (may .idle));
+      }
+
+  -- and so the code has it
+  module _ {j k r m n : ℕ} (g : Named p tag q j k r m) (e : n ≡ taken seats r k) where
+    ahead : n ≡ aheadOf p s i q
+    ahead = e ∙ rw (g .processor, g .task, g .resource) (taken-is p v s w q (processorOf p i) low low-core (h .seated))
+
+    pub ask-room : n ≡ 0 → lineAt s q .queued < 8
+    ask-room z = join-room p v s w (h .tasks-long) (h .lines-long) i q (may .task) (may .some) (may .idle) (sym ahead ∙ z)
+
+    module _ {next : State} (made : next ≡ joined s q j k n (getD holds (r * 64 + j) 0) (getD budgets (r * 8 + m) 0)) where
+      joined-is : next ≡ entering p s i q
+      joined-is =
+          made
+          ∙ rw (
+            ahead,
+            g .core,
+            g .processor,
+            g .task,
+            g .resource,
+            h .columns .at i q (omega (arith, v .tasks, may .task)) low,
+            h .shares .at (processorOf p i) q low-core low,
+          )
+
+      pub ask-granted : lineAt s r .queued ≡ 0 → Done p s (Request tag q) (record { answer = Granted; state = next })
+      ask-granted z = rw joined-is (done (sym (request-granted p v s w i q (rw (g .resource) at z))))
+
+      pub ask-waits : {x y : ℕ} → lineAt s r .queued ≢ 0 → x ≡ takenHolds holds seats r k → y ≡ waitTime p k r
+          → Done p s (Request tag q) (record { answer = Waits n (x + (n + 1) * y); state = next })
+      ask-waits {x} {y} d a b =
+          let queued : 1 ≤ lineAt s q .queued = omega (arith, rw (g .resource) at d) in
+          rw joined-is
+          (done (rw (e, a, b, g .processor, g .task, g .resource) (sym (request-waits p v s w i q queued low (may .task) (h .seated) (h .columns)))))
+
+-- a limit has 32 bits
+pub waits-high : (n w : ℕ) → n ≤ 64 → w ≤ 524280 → (n + 1) * w ≤ 34078200
+waits-high n w a b = mul-le-mul {n₁ = n + 1} {n₂ = 65} (omega arith) b

@@ -1,0 +1,155 @@
+-- A release: the number by which it is refused, and what it does where it is not.
+use Prim.Native.Nat.{ℕ, _+_, _*_, _-_, _<_, _≤_}
+use mathlib.Core.Bool.{true, cond, true≢false}
+use mathlib.Core.List.{List}
+use mathlib.Core.Logic.{_≢_}
+use mathlib.Core.Path.{_≡_, refl, sym, _∙_}
+use native.Mathlib.Omega.{arith}
+use borrow.Author.Tests.{ltb-true, eq-eqb, ne-eqb, lt-ltb, le-ltb}
+use lib.Dec.{eqb, ltb}
+use lib.ListN.{getD}
+use mir.Val.{boolByte}
+use Rattle.folds.proofs.Tests.{code-zero, code-next}
+use Rattle.rows.specs.declared.TaskRow.{TaskRow}
+use Rattle.plan.specs.Plan.{Plan, Valid}
+use Rattle.equations.specs.Questions.{taskNumber}
+use Rattle.line.specs.Rules.{holds}
+use Rattle.protocol.specs.declared.Answer.{Answer}
+use Rattle.protocol.specs.declared.Answer.the-variants.{Next}
+use Rattle.protocol.specs.declared.Call.the-variants.{Release}
+use Rattle.protocol.specs.Machine.{Lines, releaseCode, answer, step}
+use Rattle.ranks.proofs.Searches.{on-eq}
+use Rattle.state.specs.declared.Line.{Line}
+use Rattle.state.specs.declared.State.{State}
+use Rattle.state.specs.Shows.{lineAt, slot, shows}
+use Rattle.state.specs.Sound.{sound}
+use Rattle.state.specs.Seats.{seat, Seats}
+use Rattle.state.proofs.Good.{Whole}
+use Rattle.state.proofs.Wholes.{whole-of, sound-of}
+use Rattle.steps.specs.Steps.{Sized, Ready, left}
+use Rattle.steps.proofs.Passing.{flag, seat-read}
+use Rattle.steps.proofs.Ready.{Tabled, sized, ready}
+use Rattle.steps.proofs.Leaving.{head-low, holder-none, holder-seat, left-whole, left-shows, next-seat, next-told}
+use Rattle.machine.specs.Inner.{refusedAt, Done, firstSeat, NewHead, grantedTold}
+
+-- ── the number, test by test ──
+module _ (p : Plan) (m : Lines) (tag q : ℕ) where
+  pub release-unknown : p .tasks ≤ taskNumber p tag → 11 ≡ releaseCode p m tag q
+  unfolding releaseCode
+  release-unknown l = rw (le-ltb _ _ l)
+
+  pub release-past : taskNumber p tag < p .tasks → p .resources ≤ q → 12 ≡ releaseCode p m tag q
+  unfolding releaseCode
+  release-past l r = rw (lt-ltb _ _ l, le-ltb _ _ r)
+
+  release-by : taskNumber p tag < p .tasks → q < p .resources → releaseCode p m tag q ≡ cond (holds (taskNumber p tag) (m q)) 0 16
+  unfolding releaseCode
+  release-by l r = rw (lt-ltb _ _ l, lt-ltb _ _ r)
+
+  -- what 0 tells
+  release-zero : releaseCode p m tag q ≡ 0 → (q < p .resources) × (holds (taskNumber p tag) (m q) ≡ true)
+  unfolding releaseCode
+  release-zero e =
+      let a = code-next (ltb (taskNumber p tag) (p .tasks)) _ 10 e in
+      (ltb-true _ _ (code-zero (ltb q (p .resources)) _ 11 a), code-zero _ 0 15 (code-next (ltb q (p .resources)) _ 11 a))
+
+-- a release of a resource that is there by a task that is there, and the seats of the state
+pub record Asks (p : Plan) (s : State) (tag q : ℕ) (seats : List ℕ) : Type 0 where
+  pub valid : Valid p
+  pub whole : sound p s ≡ true
+  pub seats-at : Seats p (s .tasks) seats
+  pub task : taskNumber p tag < p .tasks
+  pub resource : q < p .resources
+
+module _ {p : Plan} {s : State} {tag q : ℕ} {seats : List ℕ} (a : Asks p s tag q seats) where
+  low : q < 16
+  low = omega (arith, a .valid .resources, a .resource)
+
+  pub release-free : lineAt s q .queued ≡ 0 → 16 ≡ releaseCode p (shows p s) tag q
+  release-free e = sym (release-by p (shows p s) tag q (a .task) (a .resource) ∙ rw (holder-none p s q (taskNumber p tag) e))
+
+  module _ (held : lineAt s q .queued ≢ 0) where
+    -- the head's first seat is in the table
+    pub head-seat : seat q (slot (lineAt s q) 0) 0 < 8193
+    head-seat = omega (arith, low, head-low p (a .valid) s (whole-of p (a .valid) s (a .whole)) q low (omega arith))
+
+    -- who sits there holds: x, read by copies of the numbers, beside the task's number i
+    module _ {r k x i : ℕ} (er : r ≡ q) (ek : k ≡ slot (lineAt s q) 0) (ex : x ≡ getD seats ((r * 8 + k) * 64) 0) (ei : i ≡ taskNumber p tag) where
+      release-seat : releaseCode p (shows p s) tag q ≡ cond (eqb x (i + 1)) 0 16
+      release-seat =
+          let at : seat q (slot (lineAt s q) 0) 0 ≡ (r * 8 + k) * 64 = omega arith in
+          let h = holder-seat p (a .valid) s (whole-of p (a .valid) s (a .whole)) q low (omega arith) (a .seats-at) (taskNumber p tag) in
+          release-by p (shows p s) tag q (a .task) (a .resource) ∙ rw (h, at, ← ex, ← ei)
+
+      pub release-holder : x ≡ i + 1 → 0 ≡ releaseCode p (shows p s) tag q
+      release-holder e = sym (release-seat ∙ rw (eq-eqb x (i + 1) e))
+
+      pub release-other : x ≢ i + 1 → 16 ≡ releaseCode p (shows p s) tag q
+      release-other n = sym (release-seat ∙ rw (ne-eqb x (i + 1) n))
+
+-- ── the answer ──
+-- r is the head's first task, as its number plus 1, read by a copy w of the head's number
+module _ {p : Plan} {seats : List ℕ} {q gone : ℕ} {l : Line} (h : NewHead p seats q gone l) {w r : ℕ} (ew : w ≡ slot l 0)
+    (er : r ≡ getD seats ((q * 8 + w) * 64 + boolByte (eqb (slot l 0) gone)) 0) where
+  first-read : r ≡ getD seats (firstSeat q gone l) 0
+  first-read = rw flag at (seat-read seats q (slot l 0) (boolByte (eqb (slot l 0) gone)) ew er)
+
+  pub first-task : (1 ≤ r) × (r ≤ p .tasks)
+  first-task = (omega (arith, first-read, h .some), omega (arith, first-read, h .task))
+
+  pub granted-next : {row : TaskRow} → l .queued ≢ 0 → row ≡ p .task (r - 1) → Next (row .tag) ≡ grantedTold p seats q gone l
+  unfolding grantedTold
+  granted-next n e = rw (e, first-read, ne-eqb _ _ n)
+
+-- ── refused ──
+pub free-refused : (p : Plan) (s : State) (tag q : ℕ) {k : ℕ} → sound p s ≡ true → k ≡ releaseCode p (shows p s) tag q → k ≢ 0
+    → Done p s (Release tag q) (refusedAt s k)
+unfolding answer step
+free-refused p s tag q h e n =
+    record {
+      answer = rw (← e, ne-eqb _ _ n);
+      unchanged = λ z. refl;
+      sound = h;
+      shows = rw (← e, ne-eqb _ _ n);
+    }
+
+-- ── not refused ──
+-- the release is right, and the tables are those of the state; r is a copy of the resource's number
+pub record Frees (p : Plan) (s : State) (tag q r : ℕ) (holds budgets keys seats : List ℕ) : Type 0 where
+  pub valid : Valid p
+  pub whole : sound p s ≡ true
+  pub tables : Tabled p s holds budgets keys seats
+  pub code : releaseCode p (shows p s) tag q ≡ 0
+  pub copy : r ≡ q
+
+module _ {p : Plan} {s : State} {tag q r : ℕ} {holds budgets keys seats : List ℕ} (f : Frees p s tag q r holds budgets keys seats) where
+  w : Whole p s
+  w = whole-of p (f .valid) s (f .whole)
+
+  pub free-low : r < 16
+  free-low = omega (arith, f .copy, f .valid .resources, release-zero p (shows p s) tag q (f .code) .0)
+
+  held : 1 ≤ lineAt s r .queued
+  held =
+      on-eq (1 ≤ lineAt s r .queued) (lineAt s r .queued) 0
+      (λ z. absurd (true≢false (sym (release-zero p (shows p s) tag q (f .code) .1) ∙ holder-none p s q (taskNumber p tag) (rw (f .copy) at z))))
+      (λ n. omega arith)
+
+  pub free-ready : (Sized holds budgets keys seats) × (r < 16) × (Ready seats r (lineAt s r))
+  free-ready = (sized p (f .valid) s w (f .tables), free-low, ready p (f .valid) s w (f .tables) r free-low held)
+
+  module _ {n : State} (e : n ≡ left holds budgets keys seats r s) where
+    pub free-next : 1 ≤ lineAt n r .queued → NewHead p seats r (slot (lineAt s r) 0) (lineAt n r)
+    free-next =
+        rw e (λ a. let g = next-seat p (f .valid) s w (f .tables) r free-low held a in record { placed = g .0; some = g .1; task = g .2 })
+
+    pub free-done : {a : Answer} → a ≡ grantedTold p seats r (slot (lineAt s r) 0) (lineAt n r)
+        → Done p s (Release tag q) (record { answer = a; state = n })
+    unfolding answer step grantedTold
+    free-done j =
+        record {
+          answer = rw (f .code, ← f .copy, j, e) (sym (next-told p (f .valid) s w (f .tables) r free-low held));
+          unchanged = λ z. absurd (z (f .code));
+          sound = rw e (sound-of p (f .valid) _ (left-whole p (f .valid) s w (f .tables) r free-low held));
+          shows = rw (f .code, ← f .copy, e) (left-shows p (f .valid) s w (f .tables) r free-low held);
+        }

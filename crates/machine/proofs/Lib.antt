@@ -1,0 +1,9 @@
+pub mod Lengths
+pub mod Shared
+pub mod Answered
+pub mod Acting
+pub mod Asked
+pub mod Freed
+pub mod Beaten
+pub mod Bytes
+pub mod Kept

@@ -1,0 +1,236 @@
+-- The tables are made of the plan and the state, and the test by them is that of soundness.
+use borrow.Author.Needs.{needs}
+use Rattle.plan.proofs.Laws.{valid-plan}
+use Rattle.machine.proofs.Acting.{keys-low, places-low, Made, passed, not-passed, unsound-reply, sound-reply}
+use Rattle.machine.proofs.act.Statement.{statement}
+use Rattle.machine.proofs.act.Tie as tie
+use Rattle.machine.proofs.act.Reads as reads
+use Rattle.machine.proofs.act.Lts as lts
+use Rattle.machine.proofs.request_on.Reads as request-on-reads
+use Rattle.machine.proofs.tick_on.Reads as tick-on-reads
+use Rattle.machine.proofs.release_on.Reads as release-on-reads
+use Rattle.machine.proofs.refuse.Reads as refuse-reads
+use Rattle.state.proofs.fill_seats.Reads as fill-seats-reads
+use Rattle.state.proofs.key_table.Reads as key-table-reads
+use Rattle.state.proofs.passes.Reads as passes-reads
+use Rattle.tables.proofs.globals.Reads as globals-reads
+use Rattle.tables.proofs.hold_and_budget.Reads as hold-and-budget-reads
+use Rattle.tables.proofs.task_table.Reads as task-table-reads
+
+-- once the tables are made
+abbrev Here : Type 0
+Here =
+    lts.After-fill-seats (
+      globals-reads.Asked,
+      globals-reads.Learnt,
+      task-table-reads.Asked,
+      task-table-reads.Learnt,
+      hold-and-budget-reads.Asked,
+      hold-and-budget-reads.Learnt,
+      key-table-reads.Asked,
+      key-table-reads.Learnt,
+      fill-seats-reads.Asked,
+      fill-seats-reads.Learnt,
+      passes-reads.Asked,
+      passes-reads.Learnt,
+      refuse-reads.Asked,
+      refuse-reads.Learnt,
+      request-on-reads.Asked,
+      request-on-reads.Learnt,
+      release-on-reads.Asked,
+      release-on-reads.Learnt,
+      tick-on-reads.Asked,
+      tick-on-reads.Learnt,
+    )
+    reads.Pre reads.Post
+
+-- they are those of the plan and the state
+made : (c : Here)
+    → let k = c .before .before .before in let h = k .before .before .before in let a = h .before .before .before .before .before .before .args in
+    Made (a .file .now) (a .state) (h .hold-and-budget .result) (h .hold-and-budget .last .1 .1 .1 .0) (k .key-table .result) (c .fill-seats .last .1 .1 .1 .0)
+made c =
+    let k = c .before .before .before in
+    let h = k .before .before .before in
+    record {
+      plan = h .before .before .before .before .before .before .pre;
+      holds = h .hold-and-budget .ensures .0;
+      budgets = record { long = h .hold-and-budget .ensures .1; at = h .hold-and-budget .ensures .2 };
+      keys = k .key-table .ensures;
+      seats = c .fill-seats .ensures;
+    }
+
+globals-requires : tie.Need-globals-requires
+globals-requires c κs = search needs
+
+task-table-requires : tie.Need-task-table-requires
+task-table-requires c κs = search needs
+
+slice-aggregate-hold-and-budget : tie.Need-slice-aggregate-hold-and-budget
+slice-aggregate-hold-and-budget c = search needs
+
+slice-aggregate-hold-and-budget-2 : tie.Need-slice-aggregate-hold-and-budget-2
+slice-aggregate-hold-and-budget-2 c = search needs
+
+hold-and-budget-requires : tie.Need-hold-and-budget-requires
+hold-and-budget-requires c κs = search needs
+
+key-table-requires : tie.Need-key-table-requires
+key-table-requires c κs = search needs
+
+slice-aggregate-fill-seats : tie.Need-slice-aggregate-fill-seats
+slice-aggregate-fill-seats c = search needs
+
+slice-aggregate-fill-seats-2 : tie.Need-slice-aggregate-fill-seats-2
+slice-aggregate-fill-seats-2 c = search needs
+
+fill-seats-requires : tie.Need-fill-seats-requires
+fill-seats-requires c κs = search needs
+
+slice-aggregate-passes : tie.Need-slice-aggregate-passes
+slice-aggregate-passes c = search needs
+
+slice-aggregate-passes-2 : tie.Need-slice-aggregate-passes-2
+slice-aggregate-passes-2 c = search needs
+
+slice-aggregate-passes-3 : tie.Need-slice-aggregate-passes-3
+slice-aggregate-passes-3 c = search needs
+
+slice-aggregate-passes-4 : tie.Need-slice-aggregate-passes-4
+slice-aggregate-passes-4 c = search needs
+
+passes-requires : tie.Need-passes-requires
+passes-requires c κs =
+    let m = made (c .before .before .before .before .before) in
+    let v = valid-plan _ (m .plan) in
+    (m .holds .long, m .budgets .long, m .keys .long, m .seats .long, m .seats .low, keys-low _ v _ _ (m .keys), places-low _ v _ _ (m .keys))
+
+refuse-requires : tie.Need-refuse-requires
+refuse-requires c κs = search needs
+
+returns : tie.Need-returns
+returns c =
+    let t = c .before .before in
+    let m = made (t .before .before .before .before .before .before) in
+    rw (c .refuse .ensures) (unsound-reply _ (m .plan .none) _ _ (not-passed m (t .passes .ensures) (c .before .if1 .taken)))
+
+enum-known-call : tie.Need-enum-known-call
+enum-known-call c = search needs
+
+slice-aggregate-request-on : tie.Need-slice-aggregate-request-on
+slice-aggregate-request-on c = search needs
+
+slice-aggregate-request-on-2 : tie.Need-slice-aggregate-request-on-2
+slice-aggregate-request-on-2 c = search needs
+
+slice-aggregate-request-on-3 : tie.Need-slice-aggregate-request-on-3
+slice-aggregate-request-on-3 c = search needs
+
+request-on-requires : tie.Need-request-on-requires
+request-on-requires c κs =
+    let i = c .before .before .before .before .before .before in
+    let m = made (i .before .before .before .before .before .before .before) in
+    (m .plan, m .holds, m .budgets, m .seats, passed m (i .before .passes .ensures) (i .if1 .left))
+
+enum-known-call-2 : tie.Need-enum-known-call-2
+enum-known-call-2 c = search needs
+
+slice-aggregate-release-on : tie.Need-slice-aggregate-release-on
+slice-aggregate-release-on c = search needs
+
+slice-aggregate-release-on-2 : tie.Need-slice-aggregate-release-on-2
+slice-aggregate-release-on-2 c = search needs
+
+slice-aggregate-release-on-3 : tie.Need-slice-aggregate-release-on-3
+slice-aggregate-release-on-3 c = search needs
+
+slice-aggregate-release-on-4 : tie.Need-slice-aggregate-release-on-4
+slice-aggregate-release-on-4 c = search needs
+
+release-on-requires : tie.Need-release-on-requires
+release-on-requires c κs =
+    let i = c .before .before .before .before .before .before .before in
+    let m = made (i .before .before .before .before .before .before .before) in
+    (m .plan, m .holds, m .budgets, m .keys, m .seats, passed m (i .before .passes .ensures) (i .if1 .left))
+
+enum-told : tie.Need-enum-told
+enum-told c = search needs
+
+slice-aggregate-tick-on : tie.Need-slice-aggregate-tick-on
+slice-aggregate-tick-on c = search needs
+
+slice-aggregate-tick-on-2 : tie.Need-slice-aggregate-tick-on-2
+slice-aggregate-tick-on-2 c = search needs
+
+slice-aggregate-tick-on-3 : tie.Need-slice-aggregate-tick-on-3
+slice-aggregate-tick-on-3 c = search needs
+
+slice-aggregate-tick-on-4 : tie.Need-slice-aggregate-tick-on-4
+slice-aggregate-tick-on-4 c = search needs
+
+tick-on-requires : tie.Need-tick-on-requires
+tick-on-requires c κs =
+    let i = c .before .before .before .before .before .before in
+    let m = made (i .before .before .before .before .before .before .before) in
+    (m .plan, m .holds, m .budgets, m .keys, m .seats, passed m (i .before .passes .ensures) (i .if1 .left))
+
+returns-2 : tie.Need-returns-2
+returns-2 c =
+    let i = c .before .before .before .before .before .before .before in
+    let m = made (i .before .before .before .before .before .before .before) in
+    let h = passed m (i .before .passes .ensures) (i .if1 .left) in
+    rw (c .before .before .before .before .before .call .given .1) (sound-reply _ (m .plan .none) _ _ h (c .request-on .ensures))
+
+returns-3 : tie.Need-returns-3
+returns-3 c =
+    let i = c .before .before .before .before .before .before .before .before in
+    let m = made (i .before .before .before .before .before .before .before) in
+    let h = passed m (i .before .passes .ensures) (i .if1 .left) in
+    rw (c .before .before .before .before .before .before .call2 .given .1) (sound-reply _ (m .plan .none) _ _ h (c .release-on .ensures))
+
+returns-4 : tie.Need-returns-4
+returns-4 c =
+    let i = c .before .before .before .before .before .before .before in
+    let m = made (i .before .before .before .before .before .before .before) in
+    let h = passed m (i .before .passes .ensures) (i .if1 .left) in
+    rw (c .before .before .before .before .before .enum-told .given .1) (sound-reply _ (m .plan .none) _ _ h (c .tick-on .ensures))
+
+pub act-spec : {M : Type 1} → statement M
+act-spec =
+    tie.close
+    (tie.spec
+    globals-requires
+    task-table-requires
+    slice-aggregate-hold-and-budget
+    slice-aggregate-hold-and-budget-2
+    hold-and-budget-requires
+    key-table-requires
+    slice-aggregate-fill-seats
+    slice-aggregate-fill-seats-2
+    fill-seats-requires
+    slice-aggregate-passes
+    slice-aggregate-passes-2
+    slice-aggregate-passes-3
+    slice-aggregate-passes-4
+    passes-requires
+    refuse-requires
+    returns
+    enum-known-call
+    slice-aggregate-request-on
+    slice-aggregate-request-on-2
+    slice-aggregate-request-on-3
+    request-on-requires
+    enum-known-call-2
+    slice-aggregate-release-on
+    slice-aggregate-release-on-2
+    slice-aggregate-release-on-3
+    slice-aggregate-release-on-4
+    release-on-requires
+    enum-told
+    slice-aggregate-tick-on
+    slice-aggregate-tick-on-2
+    slice-aggregate-tick-on-3
+    slice-aggregate-tick-on-4
+    tick-on-requires
+    returns-2
+    returns-3
+    returns-4)

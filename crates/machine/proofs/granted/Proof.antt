@@ -1,0 +1,85 @@
+-- With somebody queued, the seat of the new head is taken by a task.
+use native.Mathlib.Omega.{arith}
+use borrow.Author.Needs.{needs}
+use borrow.Author.Tests.{eq-eqb}
+use lib.Dec.{eqb}
+use Rattle.steps.proofs.Passing.{flag-low}
+use Rattle.state.specs.Shows.{slot}
+use Rattle.machine.specs.Inner.{grantedTold}
+use Rattle.machine.proofs.Freed.{first-task, granted-next}
+use Rattle.machine.proofs.granted.Statement.{statement}
+use Rattle.machine.proofs.granted.Tie as tie
+
+returns : tie.Need-returns
+unfolding grantedTold
+returns c = rw (eq-eqb _ _ (c .if1 .taken))
+
+array-read-k : tie.Need-array-read-k
+array-read-k c = search needs
+
+mul-first : tie.Need-mul-first
+mul-first c = search needs
+
+wide-requires : tie.Need-wide-requires
+wide-requires c κs = search needs
+
+add-first : tie.Need-add-first
+add-first c = search needs
+
+mul-first-2 : tie.Need-mul-first-2
+mul-first-2 c = search needs
+
+cast-first : tie.Need-cast-first
+cast-first c = search needs
+
+add-first-2 : tie.Need-add-first-2
+add-first-2 c =
+    let a = c .before .before .before .before .before .before in
+    let head = a .pre .3 (omega (arith, c .before .before .if1 .left)) in
+    omega (arith, head .placed, a .pre .2, c .wide .ensures .0, flag-low (eqb (slot (a .args .line) 0) (a .args .gone)))
+
+shared-slice-read-first : tie.Need-shared-slice-read-first
+shared-slice-read-first c =
+    let a = c .before .before .before .before .before .before .before in
+    let head = a .pre .3 (omega (arith, c .before .before .before .if1 .left)) in
+    omega (arith, head .placed, a .pre .1, a .pre .2, c .before .wide .ensures .0, flag-low (eqb (slot (a .args .line) 0) (a .args .gone)))
+
+wide-requires-2 : tie.Need-wide-requires-2
+wide-requires-2 c κs = search needs
+
+sub-task : tie.Need-sub-task
+sub-task c =
+    let b = c .before .before .before .before in
+    let head = b .before .before .before .before .pre .3 (omega (arith, b .if1 .left)) in
+    first-task head (c .before .before .wide .ensures .0) (c .wide2 .ensures .0) .0
+
+task-requires : tie.Need-task-requires
+task-requires c κs =
+    let b = c .before .before .before .before in
+    let p = b .before .before .before .before .pre in
+    let f = first-task (p .3 (omega (arith, b .if1 .left))) (c .before .before .wide .ensures .0) (c .wide2 .ensures .0) in
+    (p .0, omega (arith, f .0, f .1))
+
+returns-2 : tie.Need-returns-2
+returns-2 c =
+    let b = c .before .before .before .before .before in
+    let head = b .before .before .before .before .pre .3 (omega (arith, b .if1 .left)) in
+    granted-next head (c .before .before .before .wide .ensures .0) (c .before .wide2 .ensures .0) (b .if1 .left) (c .task .ensures)
+
+pub granted-spec : {M : Type 1} → statement M
+granted-spec =
+    tie.close
+    (tie.spec
+    returns
+    array-read-k
+    mul-first
+    wide-requires
+    add-first
+    mul-first-2
+    cast-first
+    add-first-2
+    shared-slice-read-first
+    wide-requires-2
+    sub-task
+    task-requires
+    returns-2)

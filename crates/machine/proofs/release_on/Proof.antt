@@ -1,0 +1,109 @@
+-- A release that is not refused finds the resource held, so its holder leaves.
+use mathlib.Core.Path.{sym, _∙_}
+use borrow.Author.Needs.{needs}
+use Rattle.plan.specs.Plan.{planOf}
+use Rattle.plan.proofs.Laws.{valid-plan}
+use Rattle.machine.proofs.Lengths.{length-mapped}
+use Rattle.machine.proofs.Freed.{free-refused, Frees, free-low, free-ready, free-next, free-done}
+use Rattle.machine.proofs.release_on.Statement.{statement}
+use Rattle.machine.proofs.release_on.Tie as tie
+use Rattle.machine.proofs.release_on.Reads as reads
+use Rattle.machine.proofs.release_on.Lts as lts
+use Rattle.folds.proofs.wide.Reads as wide-reads
+use Rattle.machine.proofs.granted.Reads as granted-reads
+use Rattle.machine.proofs.refuse.Reads as refuse-reads
+use Rattle.machine.proofs.release_code.Reads as release-code-reads
+use Rattle.steps.proofs.leave.Reads as leave-reads
+
+-- once the release is known to be right
+abbrev Here : Type 0
+Here =
+    lts.After-wide (
+      release-code-reads.Asked,
+      release-code-reads.Learnt,
+      refuse-reads.Asked,
+      refuse-reads.Learnt,
+      wide-reads.Asked,
+      wide-reads.Learnt,
+      leave-reads.Asked,
+      leave-reads.Learnt,
+      granted-reads.Asked,
+      granted-reads.Learnt,
+    ) reads.Pre reads.Post
+
+right : (c : Here) → let a = c .before .before .before .before .before .before .before .before .args in
+    Frees (planOf (a .file .now)) (a .t2) (a .tag) (a .q) (c .wide .result) (a .holds .now) (a .budgets .now) (a .keys .now) (a .seats .now)
+right c =
+    let p = c .before .before .before .before .before .before .before .before .pre in
+    record {
+      valid = valid-plan _ (p .0);
+      whole = p .5;
+      tables = record {
+        holds-at = p .1;
+        budgets-at = p .2;
+        keys-at = p .3;
+        seats-at = p .4;
+        tasks-long = search (needs, length-mapped);
+        lines-long = search (needs, length-mapped);
+      };
+      code = sym (c .before .before .release-code .ensures) ∙ c .before .if1 .left;
+      copy = c .wide .ensures .0;
+    }
+
+release-code-requires : tie.Need-release-code-requires
+release-code-requires c κs = search needs
+
+refuse-requires : tie.Need-refuse-requires
+refuse-requires c κs = search needs
+
+returns : tie.Need-returns
+returns c =
+    let p = c .before .before .before .before .before .before .before .before .pre in
+    rw (c .refuse .ensures) (free-refused _ _ _ _ (p .5) (c .before .before .release-code .ensures) (c .before .if1 .taken))
+
+wide-requires : tie.Need-wide-requires
+wide-requires c κs = search needs
+
+mul-line : tie.Need-mul-line
+mul-line c = search needs
+
+element-copy-out-line : tie.Need-element-copy-out-line
+element-copy-out-line c = free-low (right c)
+
+leave-requires : tie.Need-leave-requires
+leave-requires c κs = free-ready (right (c .before .before))
+
+mul-after : tie.Need-mul-after
+mul-after c = search needs
+
+element-copy-out-after : tie.Need-element-copy-out-after
+element-copy-out-after c = free-low (right (c .before .before .before))
+
+array-read-granted : tie.Need-array-read-granted
+array-read-granted c = search needs
+
+granted-requires : tie.Need-granted-requires
+granted-requires c κs =
+    let p = c .before .before .before .before .before .before .before .before .before .before .before .before .pre in
+    let f = right (c .before .before .before .before) in
+    (p .0, p .4 .long, free-low f, free-next f (c .before .leave .ensures))
+
+returns-2 : tie.Need-returns-2
+returns-2 c = free-done (right (c .before .before .before .before .before)) (c .before .before .leave .ensures) (c .granted .ensures)
+
+pub release-on-spec : {M : Type 1} → statement M
+release-on-spec =
+    tie.close
+    (tie.spec
+    release-code-requires
+    refuse-requires
+    returns
+    wide-requires
+    mul-line
+    element-copy-out-line
+    leave-requires
+    mul-after
+    element-copy-out-after
+    array-read-granted
+    granted-requires
+    returns-2)

@@ -1,0 +1,23 @@
+-- A fresh state shows nobody in line, and is sound where the plan is not refused.
+use borrow.Author.Needs.{needs}
+use Rattle.plan.proofs.Laws.{valid-plan}
+use Rattle.state.proofs.FreshLaws.{fresh-sound, fresh-shows}
+use Rattle.machine.proofs.start.Statement.{statement}
+use Rattle.machine.proofs.start.Tie as tie
+
+check-requires : tie.Need-check-requires
+check-requires c κs = search needs
+
+fresh-requires : tie.Need-fresh-requires
+fresh-requires c κs = search needs
+
+returns : tie.Need-returns
+returns c =
+    let file = c .before .before .shared-slice-known .given in
+    let e = c .fresh .ensures in (
+      (c .before .check .ensures, e),
+      rw e (λ z. fresh-sound _ (valid-plan _ (record { none = z; bytes = λ i l. file i .fits })), fresh-shows _),
+    )
+
+pub start-spec : {M : Type 1} → statement M
+start-spec = tie.close (tie.spec check-requires fresh-requires returns)

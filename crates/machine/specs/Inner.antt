@@ -1,0 +1,60 @@
+-- What the machine's private functions give. None of this is a rule of document 01.
+use Prim.Native.Nat.{ℕ, _-_, _≤_, _<_}
+use mathlib.Core.Bool.{true, cond}
+use mathlib.Core.List.{List, [], _∷_}
+use mathlib.Core.Logic.{_≢_}
+use mathlib.Core.Path.{_≡_}
+use lib.Count.{ones}
+use lib.Dec.{eqb}
+use lib.ListN.{getD}
+use Rattle.plan.specs.Plan.{Plan}
+use Rattle.protocol.specs.declared.Call.{Call}
+use Rattle.protocol.specs.declared.Answer.{Answer}
+use Rattle.protocol.specs.declared.Answer.the-variants.{Granted, Waits, Next, Free, Ticked, Refused}
+use Rattle.protocol.specs.Machine.{callCode, answer, step}
+use Rattle.state.specs.declared.Line.{Line}
+use Rattle.state.specs.declared.State.{State}
+use Rattle.state.specs.Shows.{shows, slot}
+use Rattle.state.specs.Sound.{sound}
+use Rattle.state.specs.Seats.{seat}
+use Rattle.machine.specs.declared.Reply.{Reply}
+use Rattle.machine.specs.Replies as Replies
+
+-- the refusal k of a call on a state
+abbrev pub refusedAt : State → ℕ → Reply
+refusedAt s k = record { answer = Refused k; state = s }
+
+-- a call on a sound state did what the rules say
+pub record Done (p : Plan) (s : State) (c : Call) (r : Reply) : Type 0 where
+  pub answer : r .answer ≡ answer p (shows p s) c
+  pub unchanged : callCode p (shows p s) c ≢ 0 → r .state ≡ s
+  pub sound : sound p (r .state) ≡ true
+  pub shows : shows p (r .state) ≡ step p (shows p s) c
+
+-- the seat of the first task of the head, once the first task of processor `gone` left
+abbrev pub firstSeat : ℕ → ℕ → Line → ℕ
+firstSeat q gone l = seat q (slot l 0) (cond (eqb (slot l 0) gone) 1 0)
+
+-- somebody sits there
+pub record NewHead (p : Plan) (seats : List ℕ) (q gone : ℕ) (l : Line) : Type 0 where
+  pub placed : slot l 0 < 8
+  pub some : 1 ≤ getD seats (firstSeat q gone l) 0
+  pub task : getD seats (firstSeat q gone l) 0 ≤ p .tasks
+
+-- what a release is answered: the tag of that task, or free
+unfoldable pub grantedTold : Plan → List ℕ → ℕ → ℕ → Line → Answer
+grantedTold p seats q gone l = cond (eqb (l .queued) 0) Free (Next (p .task (getD seats (firstSeat q gone l) 0 - 1) .tag))
+
+-- the ones in the first word of a tick's answer
+abbrev pub cutsIn : Answer → ℕ
+cutsIn Granted = 0
+cutsIn (Waits ahead most) = 0
+cutsIn (Next tag) = 0
+cutsIn Free = 0
+cutsIn (Ticked cuts grants) = ones cuts
+cutsIn (Refused k) = 0
+
+-- the state after three bytes that are one call or none
+abbrev pub AfterBytes : List ℕ → State → List Call → State → Type 0
+AfterBytes f s [] t = t ≡ s
+AfterBytes f s (c ∷ cs) t = Replies.Next f s c t

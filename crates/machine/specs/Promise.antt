@@ -1,0 +1,57 @@
+-- Demand 3, whole: one claim about a whole list of calls, from a fresh machine. Document 01, "The machine", last paragraph.
+use Prim.Native.Nat.{ℕ, zero, suc, _+_, _*_, _/_}
+use mathlib.Core.Bool.{true, cond, _&&_}
+use mathlib.Core.List.{List, [], _∷_, _++_}
+use mathlib.Core.Path.{_≡_}
+use lib.Dec.{eqb}
+use lib.ListN.{length, getD}
+use Rattle.plan.specs.Plan.{planOf, Checked}
+use Rattle.protocol.specs.declared.Call.{Call}
+use Rattle.protocol.specs.declared.Call.the-variants.{Request, Release, Tick}
+use Rattle.protocol.specs.Machine.{answer, run}
+use Rattle.protocol.specs.Waiting.{Served}
+use Rattle.state.specs.declared.State.{State}
+use Rattle.state.specs.Shows.{freshState, shows}
+use Rattle.state.specs.Sound.{sound}
+use Rattle.machine.specs.Replies.{reply, Next}
+
+-- The state that the operations return after a list of calls: "It starts from a fresh state; each call gets the same plan and the
+-- state that the last one returned, refused or not." `Next` is the contract of each of them
+pub data Returned (f : List ℕ) : List Call → State → Type 0 where
+  started : Returned f [] freshState
+  called : {cs : List Call} {s t : State} {c : Call} → Returned f cs s → Next f s c t → Returned f (cs ++ (c ∷ [])) t
+
+-- what is promised for a plan file and a list of calls
+pub record Promise (f : List ℕ) (calls : List Call) : Type 0 where
+  -- nobody who waits is kept past the limit; and so for each core in the queue
+  pub waiting : Served (planOf f) calls
+  -- what each call is answered, on the state that the calls before it returned, is what the rules say after these
+  pub answers : (before since : List Call) (c : Call) → calls ≡ before ++ (c ∷ since) → (s : State) → Returned f before s
+      → reply f s c ≡ answer (planOf f) (run (planOf f) before) c
+  -- "each returned state shows the same tasks in line, holders and heads": that after each of the calls is sound, and shows the lines
+  -- of the rules
+  pub states : (before since : List Call) → calls ≡ before ++ since → (s : State) → Returned f before s
+      → (sound (planOf f) s ≡ true) × (shows (planOf f) s ≡ run (planOf f) before)
+
+-- Demand 3: for every plan file that is accepted and every list of calls
+abbrev pub Demand3 : Type 0
+Demand3 = (f : List ℕ) → Checked f → (calls : List Call) → Promise f calls
+
+-- ── a list of calls as bytes ──
+
+-- "calls of 3 bytes: a letter (Q request, R release, T tick), a tag, a resource. After T both are 0." Any other three bytes are no
+-- call
+unfoldable pub callOf : ℕ → ℕ → ℕ → List Call
+callOf letter tag q =
+    cond (eqb letter 81) (Request tag q ∷ [])
+    (cond (eqb letter 82) (Release tag q ∷ [])
+    (cond (eqb letter 84 && (eqb tag 0 && eqb q 0)) (Tick ∷ []) []))
+
+-- the first n calls
+unfoldable pub callsBelow : ℕ → List ℕ → List Call
+callsBelow zero l = []
+callsBelow (suc n) l = callsBelow n l ++ callOf (getD l (n * 3) 0) (getD l (n * 3 + 1) 0) (getD l (n * 3 + 2) 0)
+
+-- the calls in these bytes
+abbrev pub callsOf : List ℕ → List Call
+callsOf l = callsBelow (length l / 3) l

@@ -1,0 +1,45 @@
+-- What the machine's operations do with a plan file and a state by value: document 01, "The machine" and "What each operation
+-- refuses, in order".
+use Prim.Native.Nat.{ℕ}
+use mathlib.Core.Bool.{true, cond}
+use mathlib.Core.List.{List}
+use mathlib.Core.Logic.{_≢_}
+use mathlib.Core.Path.{_≡_}
+use lib.Dec.{eqb}
+use Rattle.folds.specs.Below.{countBelow}
+use Rattle.plan.specs.Reading.{refusal, Told, answered}
+use Rattle.plan.specs.Plan.{planOf}
+use Rattle.line.specs.Rules.{cut}
+use Rattle.protocol.specs.declared.Call.{Call}
+use Rattle.protocol.specs.declared.Call.the-variants.{Tick}
+use Rattle.protocol.specs.declared.Answer.{Answer}
+use Rattle.protocol.specs.declared.Answer.the-variants.{Refused}
+use Rattle.protocol.specs.Machine.{callCode, step, told, answerTold}
+use Rattle.state.specs.declared.State.{State}
+use Rattle.state.specs.Shows.{shows}
+use Rattle.state.specs.Sound.{sound}
+
+-- "Each operation given a plan file first gives 1 to 9 as reading does; each call given a state then gives 19 if that state is not
+-- sound. After these" the call's own; 0 where it is not refused
+unfoldable pub callRefusal : List ℕ → State → Call → ℕ
+callRefusal f s c =
+    cond (eqb (refusal f) 0) (cond (sound (planOf f) s) (callCode (planOf f) (shows (planOf f) s) c) 19) (refusal f)
+
+-- what the call is answered: by the rules on what the state shows, or the refusal
+unfoldable pub reply : List ℕ → State → Call → Answer
+reply f s c = cond (eqb (callRefusal f s c) 0) (told (planOf f) (shows (planOf f) s) c) (Refused (callRefusal f s c))
+
+-- what the state is after the call: as it was where the call is refused, else a sound one that shows what the rules make of what it
+-- showed. Among states of the struct's lengths there is only one such (`next-one`)
+pub record Next (f : List ℕ) (s : State) (c : Call) (next : State) : Type 0 where
+  pub unchanged : callRefusal f s c ≢ 0 → next ≡ s
+  pub sound : callRefusal f s c ≡ 0 → sound (planOf f) next ≡ true
+  pub shows : callRefusal f s c ≡ 0 → shows (planOf f) next ≡ step (planOf f) (shows (planOf f) s) c
+
+-- what the answer tells: the refusal, or 0 and the values of the rules' answer
+unfoldable pub replyTold : List ℕ → State → Call → Told
+replyTold f s c = answered (callRefusal f s c) (answerTold (told (planOf f) (shows (planOf f) s) c) .values)
+
+-- the number of resources whose holds end in a tick; 0 where it is refused
+unfoldable pub cutCount : List ℕ → State → ℕ
+cutCount f s = cond (eqb (callRefusal f s Tick) 0) (countBelow 16 (λ q. cut (shows (planOf f) s q))) 0

@@ -1,0 +1,371 @@
+// The machine: start, request, release and tick, each on a plan file and a state by value. Each takes any bytes and any state, and
+// refuses by number what it does not accept.
+use protocol::Answer;
+use protocol::Call;
+use state::Line;
+use state::State;
+ghost use mathlib.Core.Path.{_≡_};
+ghost use mathlib.Core.Logic.{_≢_};
+ghost use mathlib.Core.Bool.{true};
+ghost use Prim.Native.Nat.{_+_, _*_, _≤_, _<_};
+ghost use lib.ListN.{length};
+ghost use Rattle.plan.specs.Reading.{refusal};
+ghost use Rattle.plan.specs.Plan.{planOf, Checked};
+ghost use Rattle.equations.specs.HoldTimes.{holdAt, waitTime};
+ghost use Rattle.equations.specs.Questions.{sharingCode};
+ghost use Rattle.tables.specs.Tables.{Columns};
+ghost use Rattle.protocol.specs.declared.Call.the-variants.{Request, Release, Tick};
+ghost use Rattle.protocol.specs.Machine.{requestCode, releaseCode, answerTold, fresh, run};
+ghost use Rattle.state.specs.Shows.{freshState, shows};
+ghost use Rattle.state.specs.Sound.{sound};
+ghost use Rattle.state.specs.Seats.{Shares, Keys, Seats};
+ghost use Rattle.machine.specs.Replies.{reply, replyTold, Next, cutCount};
+ghost use Rattle.machine.specs.Inner.{refusedAt, Done, NewHead, grantedTold, cutsIn, AfterBytes};
+ghost use Rattle.machine.specs.Promise.{Returned, Promise, callOf, callsOf};
+
+// The answer to a call, and the next state.
+pub struct Reply {
+    pub answer: Answer,
+    pub state: State,
+}
+
+// The answer to a tick, the number of cuts in it, and the next state.
+pub struct TickReply {
+    pub answer: Answer,
+    pub cut_count: u32,
+    pub state: State,
+}
+
+// Why the plan is refused, 0 where it is not; and the fresh state, in both cases.
+pub struct Started {
+    pub refusal: u8,
+    pub state: State,
+}
+
+// A fresh machine.
+pub fn start(file: &[u8]) -> Started
+    ensures { λ r. ⌜ (r .refusal ≡ refusal (now (file .entry))) × (r .state ≡ freshState) ⌝ }
+    ensures { λ r. ⌜ (refusal (now (file .entry)) ≡ 0 → sound (planOf (now (file .entry))) (r .state) ≡ true) × (shows (planOf (now (file .entry))) (r .state) ≡ fresh) ⌝ }
+{
+    Started {
+        refusal: plan::check(file),
+        state: state::fresh(),
+    }
+}
+
+// The refusal k of a call on a state.
+fn refuse(state: State, k: u8) -> Reply
+    ensures { λ r. ⌜ r ≡ refusedAt state k ⌝ }
+{
+    Reply {
+        answer: Answer::Refused(k),
+        state,
+    }
+}
+
+// The wait time of processor k on q: the sum of the budgets of the others.
+fn wait_of(file: &[u8], budgets: &[u16], q: usize, k: u8) -> u32
+    requires { ⌜ (Checked (now file)) × (Shares (planOf (now file)) (now budgets)) × (q < 16) ⌝ }
+    ensures { λ r. ⌜ (r ≡ waitTime (planOf (now (file .entry))) k q) × (r ≤ 524280) ⌝ }
+{
+    let counts = plan::checked::counts(file);
+    let m = folds::wide(counts.processors);
+    let mut sum = 0u32;
+    let mut l = 0;
+    while l < m {
+        let own = l == folds::wide(k);
+        sum += folds::chosen(own, 0, budgets[q * 8 + l]) as u32;
+        l += 1;
+    }
+    sum
+}
+
+// 13 and 14 for a task with no hold time of q: it has no section on q, or q is local.
+fn sharing_code(file: &[u8], i: usize, q: u8) -> u8
+    requires { ⌜ (Checked (now file)) × (i < planOf (now file) .tasks) × (holdAt (planOf (now file)) i q ≡ 0) ⌝ }
+    ensures { λ r. ⌜ (r ≡ sharingCode (planOf (now (file .entry))) i q) × (1 ≤ r) ⌝ }
+{
+    if tables::longest_on(file, i, q) == 0 {
+        return 13;
+    }
+    14
+}
+
+// 11 to 15, 0 where none, of a request on a sound state.
+fn request_code(file: &[u8], state: State, holds: &[u16], tag: u16, q: u8) -> u8
+    requires { ⌜ (Checked (now file)) × (Columns (holdAt (planOf (now file))) (now holds)) × (sound (planOf (now file)) state ≡ true) ⌝ }
+    ensures { λ r. ⌜ r ≡ requestCode (planOf (now (file .entry))) (shows (planOf (now (file .entry))) state) tag q ⌝ }
+{
+    let counts = plan::checked::counts(file);
+    let i = tables::task_number(file, tag);
+    if folds::wide(counts.tasks) <= i {
+        return 11;
+    }
+    if counts.resources <= q {
+        return 12;
+    }
+    if holds[folds::wide(q) * 64 + i] == 0 {
+        return sharing_code(file, i, q);
+    }
+    let standing = state.tasks[i];
+    if standing.resource != 255 {
+        return 15;
+    }
+    0
+}
+
+// A request on a sound state.
+fn request_on(
+    file: &[u8],
+    state: State,
+    holds: &[u16],
+    budgets: &[u16],
+    seats: &[u8],
+    tag: u16,
+    q: u8,
+) -> Reply
+    requires { ⌜ (Checked (now file)) × (Columns (holdAt (planOf (now file))) (now holds)) × (Shares (planOf (now file)) (now budgets)) × (Seats (planOf (now file)) (state .tasks) (now seats)) × (sound (planOf (now file)) state ≡ true) ⌝ }
+    ensures { λ r. ⌜ Done (planOf (now (file .entry))) state (Request tag q) r ⌝ }
+{
+    let code = request_code(file, state, holds, tag, q);
+    if code != 0 {
+        return refuse(state, code);
+    }
+    let i = tables::task_number(file, tag);
+    let row = plan::checked::task(file, i);
+    let k = row.processor;
+    let r = folds::wide(q);
+    let ahead = steps::ahead_of(holds, seats, r, k);
+    let held = state.lines[r];
+    let hold = holds[r * 64 + i];
+    let budget = budgets[r * 8 + folds::wide(k)];
+    let next = steps::join(state, q, i, k, ahead.count, hold, budget);
+    if held.queued == 0 {
+        return Reply {
+            answer: Answer::Granted,
+            state: next,
+        };
+    }
+    let wait = wait_of(file, budgets, r, k);
+    Reply {
+        answer: Answer::Waits(ahead.count, ahead.holds + (ahead.count as u32 + 1) * wait),
+        state: next,
+    }
+}
+
+// 11, 12 and 16, 0 where none, of a release on a sound state.
+fn release_code(file: &[u8], state: State, seats: &[u8], tag: u16, q: u8) -> u8
+    requires { ⌜ (Checked (now file)) × (Seats (planOf (now file)) (state .tasks) (now seats)) × (sound (planOf (now file)) state ≡ true) ⌝ }
+    ensures { λ r. ⌜ r ≡ releaseCode (planOf (now (file .entry))) (shows (planOf (now (file .entry))) state) tag q ⌝ }
+{
+    let counts = plan::checked::counts(file);
+    let i = tables::task_number(file, tag);
+    if folds::wide(counts.tasks) <= i {
+        return 11;
+    }
+    if counts.resources <= q {
+        return 12;
+    }
+    let line = state.lines[q as usize];
+    if line.queued == 0 {
+        return 16;
+    }
+    let queue = line.queue;
+    let first = seats[(folds::wide(q) * 8 + folds::wide(queue[0])) * 64];
+    if folds::wide(first) == i + 1 {
+        return 0;
+    }
+    16
+}
+
+// Who is granted q, once the first task of processor `gone` left and the line is as given.
+fn granted(file: &[u8], line: Line, seats: &[u8], q: usize, gone: u8) -> Answer
+    requires { ⌜ (Checked (now file)) × (length (now seats) ≡ 8193) × (q < 16) × (1 ≤ line .queued → NewHead (planOf (now file)) (now seats) q gone line) ⌝ }
+    ensures { λ r. ⌜ r ≡ grantedTold (planOf (now (file .entry))) (now (seats .entry)) q gone line ⌝ }
+{
+    if line.queued == 0 {
+        return Answer::Free;
+    }
+    let queue = line.queue;
+    let k = queue[0];
+    let behind = k == gone;
+    let first = seats[(q * 8 + folds::wide(k)) * 64 + behind as usize];
+    let row = plan::checked::task(file, folds::wide(first) - 1);
+    Answer::Next(row.tag)
+}
+
+// A release on a sound state.
+fn release_on(
+    file: &[u8],
+    state: State,
+    holds: &[u16],
+    budgets: &[u16],
+    keys: &[u16],
+    seats: &[u8],
+    tag: u16,
+    q: u8,
+) -> Reply
+    requires { ⌜ (Checked (now file)) × (Columns (holdAt (planOf (now file))) (now holds)) × (Shares (planOf (now file)) (now budgets)) × (Keys (planOf (now file)) (state .tasks) (now keys)) × (Seats (planOf (now file)) (state .tasks) (now seats)) × (sound (planOf (now file)) state ≡ true) ⌝ }
+    ensures { λ r. ⌜ Done (planOf (now (file .entry))) state (Release tag q) r ⌝ }
+{
+    let code = release_code(file, state, seats, tag, q);
+    if code != 0 {
+        return refuse(state, code);
+    }
+    let r = folds::wide(q);
+    let line = state.lines[r];
+    let queue = line.queue;
+    let next = steps::leave(state, holds, budgets, keys, seats, r);
+    let after = next.lines[r];
+    Reply {
+        answer: granted(file, after, seats, r, queue[0]),
+        state: next,
+    }
+}
+
+// A tick of a sound state.
+fn tick_on(
+    file: &[u8],
+    state: State,
+    holds: &[u16],
+    budgets: &[u16],
+    keys: &[u16],
+    seats: &[u8],
+) -> Reply
+    requires { ⌜ (Checked (now file)) × (Columns (holdAt (planOf (now file))) (now holds)) × (Shares (planOf (now file)) (now budgets)) × (Keys (planOf (now file)) (state .tasks) (now keys)) × (Seats (planOf (now file)) (state .tasks) (now seats)) × (sound (planOf (now file)) state ≡ true) ⌝ }
+    ensures { λ r. ⌜ Done (planOf (now (file .entry))) state Tick r ⌝ }
+{
+    let before = state.lines;
+    let next = steps::tick(state, holds, budgets, keys, seats);
+    let after = next.lines;
+    Reply {
+        answer: Answer::Ticked(steps::cuts(before), steps::grants(before, after)),
+        state: next,
+    }
+}
+
+// 19, or what the call does, for a plan that passed every check.
+fn act(file: &[u8], state: State, call: Call) -> Reply
+    requires { ⌜ Checked (now file) ⌝ }
+    ensures { λ r. ⌜ (r .answer ≡ reply (now (file .entry)) state call) × Next (now (file .entry)) state call (r .state) ⌝ }
+{
+    let globals = tables::globals(file);
+    let rows = tables::task_table(file, globals);
+    let mut budgets = [0u16; 128];
+    let holds = tables::hold_and_budget(file, &rows, globals, &mut budgets);
+    let tasks = state.tasks;
+    let keys = state::key_table(file, tasks);
+    let mut seats = [0u8; 8193];
+    state::fill_seats(file, tasks, &keys, &mut seats);
+    if !state::passes(state, &holds, &budgets, &keys, &seats) {
+        return refuse(state, 19);
+    }
+    match call {
+        Call::Request(tag, q) => request_on(file, state, &holds, &budgets, &seats, tag, q),
+        Call::Release(tag, q) => release_on(file, state, &holds, &budgets, &keys, &seats, tag, q),
+        Call::Tick => tick_on(file, state, &holds, &budgets, &keys, &seats),
+    }
+}
+
+// A call on a state.
+pub fn call(file: &[u8], state: State, call: Call) -> Reply
+    ensures { λ r. ⌜ r .answer ≡ reply (now (file .entry)) state call ⌝ }
+    ensures { λ r. ⌜ Next (now (file .entry)) state call (r .state) ⌝ }
+    ensures { λ r. ⌜ answerTold (r .answer) ≡ replyTold (now (file .entry)) state call ⌝ }
+{
+    let code = plan::check(file);
+    if code != 0 {
+        return refuse(state, code);
+    }
+    act(file, state, call)
+}
+
+// A request of a resource by the task with this tag.
+pub fn request(file: &[u8], state: State, tag: u16, resource: u8) -> Reply
+    ensures { λ r. ⌜ r .answer ≡ reply (now (file .entry)) state (Request tag resource) ⌝ }
+    ensures { λ r. ⌜ Next (now (file .entry)) state (Request tag resource) (r .state) ⌝ }
+    ensures { λ r. ⌜ answerTold (r .answer) ≡ replyTold (now (file .entry)) state (Request tag resource) ⌝ }
+{
+    call(file, state, Call::Request(tag, resource))
+}
+
+// A release of it.
+pub fn release(file: &[u8], state: State, tag: u16, resource: u8) -> Reply
+    ensures { λ r. ⌜ r .answer ≡ reply (now (file .entry)) state (Release tag resource) ⌝ }
+    ensures { λ r. ⌜ Next (now (file .entry)) state (Release tag resource) (r .state) ⌝ }
+    ensures { λ r. ⌜ answerTold (r .answer) ≡ replyTold (now (file .entry)) state (Release tag resource) ⌝ }
+{
+    call(file, state, Call::Release(tag, resource))
+}
+
+// The number of ones in the first word of a tick's answer.
+fn cuts_in(answer: Answer) -> u32
+    ensures { λ r. ⌜ r ≡ cutsIn answer ⌝ }
+{
+    match answer {
+        Answer::Ticked(cuts, _) => u16::count_ones(cuts),
+        Answer::Granted => 0,
+        Answer::Waits(_, _) => 0,
+        Answer::Next(_) => 0,
+        Answer::Free => 0,
+        Answer::Refused(_) => 0,
+    }
+}
+
+// A tick.
+pub fn tick(file: &[u8], state: State) -> TickReply
+    ensures { λ r. ⌜ r .answer ≡ reply (now (file .entry)) state Tick ⌝ }
+    ensures { λ r. ⌜ Next (now (file .entry)) state Tick (r .state) ⌝ }
+    ensures { λ r. ⌜ r .«cut_count» ≡ cutCount (now (file .entry)) state ⌝ }
+    ensures { λ r. ⌜ answerTold (r .answer) ≡ replyTold (now (file .entry)) state Tick ⌝ }
+{
+    let reply = call(file, state, Call::Tick);
+    let answer = reply.answer;
+    let next = reply.state;
+    TickReply {
+        answer,
+        cut_count: cuts_in(answer),
+        state: next,
+    }
+}
+
+// The state after a call of three bytes, which is as it was where they are no call.
+fn after(file: &[u8], state: State, letter: u8, tag: u8, resource: u8) -> State
+    ensures { λ r. ⌜ AfterBytes (now (file .entry)) state (callOf letter tag resource) r ⌝ }
+{
+    match letter {
+        b'Q' => request(file, state, tables::half(tag), resource).state,
+        b'R' => release(file, state, tables::half(tag), resource).state,
+        b'T' => {
+            if (tag == 0) & (resource == 0) {
+                return tick(file, state).state;
+            }
+            state
+        }
+        _ => state,
+    }
+}
+
+// The state after a list of calls of three bytes each, from a fresh machine on. One or two bytes left over are no call.
+pub fn run(file: &[u8], calls: &[u8]) -> State
+    ensures { λ r. ⌜ Returned (now (file .entry)) (callsOf (now (calls .entry))) r ⌝ }
+    ensures { λ r. ⌜ (refusal (now (file .entry)) ≢ 0 → r ≡ freshState) × (refusal (now (file .entry)) ≡ 0 → (sound (planOf (now (file .entry))) r ≡ true) × (shows (planOf (now (file .entry))) r ≡ run (planOf (now (file .entry))) (callsOf (now (calls .entry))))) ⌝ }
+    ensures { λ r. ⌜ (refusal (now (file .entry)) ≡ 0 → Promise (now (file .entry)) (callsOf (now (calls .entry)))) ⌝ }
+{
+    let started = start(file);
+    let mut state = started.state;
+    let n = calls.len() / 3;
+    let mut x = 0;
+    while x < n {
+        let next = after(
+            file,
+            state,
+            calls[x * 3],
+            calls[x * 3 + 1],
+            calls[x * 3 + 2],
+        );
+        state = next;
+        x += 1;
+    }
+    state
+}

@@ -1,0 +1,144 @@
+-- From every sound state: whoever waits has what it waits for within its bound.
+use Prim.Native.Nat.{ℕ, _+_, _-_, _≤_, _<_}
+use mathlib.Core.Bool.{Bool, true, false, cond, not, and-false, or-true, true≢false}
+use mathlib.Core.List.{List, [], _∷_, _++_}
+use mathlib.Core.Logic.{_⊎_, inl, inr}
+use mathlib.Core.Path.{_≡_, refl, sym, ap, _∙_}
+use native.Mathlib.Omega.{arith}
+use borrow.Author.Tests.{not-true}
+use Rattle.folds.proofs.Tests.{and-parts}
+use Rattle.folds.proofs.Arrays.{by-eq}
+use Rattle.plan.specs.Plan.{Plan, Valid}
+use Rattle.equations.specs.HoldTimes.{waitTime}
+use Rattle.equations.specs.Questions.{taskNumber}
+use Rattle.line.specs.Rules.{Line, inLine, holds, queued, isHead, entered, released, ticked, limit}
+use Rattle.line.proofs.Waiting.{aheadIn, Waiting, wait-entered, wait-released, wait-ticked, wait-some, wait-bound}
+use Rattle.line.proofs.Heads.{Without, head-entered, head-released, head-ticked, head-some, head-bound}
+use Rattle.protocol.specs.declared.Call.{Call}
+use Rattle.protocol.specs.declared.Call.the-variants.{Request, Release, Tick}
+use Rattle.protocol.specs.Machine.{Lines, terms, callCode, effect, step, after}
+use Rattle.protocol.specs.Waiting.{isTick, ticks, without, Event, grants, ends, heads, occurs, Within}
+use Rattle.protocol.proofs.SoundLines.{known, SoundAt, SoundLines, fits, sound-step}
+
+module _ (p : Plan) where
+  -- what a call does to the line of q: nothing, or one of the moves
+  step-line : (R : ℕ → Line → Type 0) (s : Lines) (c : Call) (q : ℕ) → R 0 (s q) → ((i : ℕ) → R 0 (entered (terms p q) i (s q)))
+      → R 0 (released (terms p q) (s q)) → R 1 (ticked (terms p q) (s q)) → R (isTick c) (step p s c q)
+  unfolding step
+  step-line R s (Request tag r) q x e l t =
+      by-eq (λ (d : Bool). R 0 (cond d (effect p s (Request tag r)) s q)) (callCode p s (Request tag r)) 0
+      (λ _. by-eq (λ (d : Bool). R 0 (cond d (entered (terms p r) (taskNumber p tag) (s q)) (s q))) q r
+      (λ i. rw (← i) (e (taskNumber p tag)))
+      (λ _. x))
+      (λ _. x)
+  step-line R s (Release tag r) q x e l t =
+      by-eq (λ (d : Bool). R 0 (cond d (effect p s (Release tag r)) s q)) (callCode p s (Release tag r)) 0
+      (λ _. by-eq (λ (d : Bool). R 0 (cond d (released (terms p r) (s q)) (s q))) q r (λ i. rw (← i) l) (λ _. x))
+      (λ _. x)
+  step-line R s Tick q x e l t = t
+
+  tick-le : (c : Call) → isTick c ≤ 1
+  tick-le (Request tag q) = omega arith
+  tick-le (Release tag q) = omega arith
+  tick-le Tick = omega arith
+
+  -- an event in a list occurs in it
+  occurs-at : (e : Event p) (s : Lines) (early : List Call) (c : Call) (late : List Call) → e (after p s early) c ≡ true
+      → occurs p e s (early ++ (c ∷ late)) ≡ true
+  occurs-at e s [] c late h = rw h
+  occurs-at e s (d ∷ early) c late h = rw (occurs-at e (step p s d) early c late h) (or-true (e s d))
+
+  -- A bound on the wait in the line of q until it is `done`, which e tells: no move raises it, a tick lowers it, and it is never 0
+  record Potential (q : ℕ) (e : Event p) (done : Line → Bool) (Pot : ℕ → Line → Type 0) : Type 0 where
+    tells : (s : Lines) (c : Call) → done (s q) ≡ false → e s c ≡ false → done (step p s c q) ≡ false
+    enters : (n i : ℕ) (l : Line) → Pot n l → Pot n (entered (terms p q) i l)
+    leaves : (n : ℕ) (l : Line) → SoundAt p q l → Pot n l → done (released (terms p q) l) ≡ false → Pot n (released (terms p q) l)
+    falls : (n : ℕ) (l : Line) → SoundAt p q l → Pot n l → done (ticked (terms p q) l) ≡ false → Pot (n - 1) (ticked (terms p q) l)
+    some : (n : ℕ) (l : Line) → SoundAt p q l → Pot n l → 1 ≤ n
+
+  -- the two forms of a promise: so long as `over` does not occur the ticks are fewer than n; where they are as many, `met` occurred
+  pub record Bounded (over met : Event p) (s : Lines) (cs : List Call) (n : ℕ) : Type 0 where
+    pub waits : occurs p over s cs ≡ false → ticks cs < n
+    pub comes : n ≤ ticks cs → Within p met s cs n
+
+  -- which of the two it is
+  abbrev Either : Event p → Lines → List Call → ℕ → Type 0
+  Either e s cs n = Within p e s cs n ⊎ ((occurs p e s cs ≡ false) × (ticks cs < n))
+
+  either-later : (e : Event p) (s : Lines) (c : Call) (cs : List Call) (m n : ℕ) → e s c ≡ false → m + isTick c ≤ n
+      → Either e (step p s c) cs m → Either e s (c ∷ cs) n
+  either-later e s c cs m n h le (inl r) =
+      inl (record {
+        early = c ∷ r .early;
+        call = r .call;
+        late = r .late;
+        split = ap (λ (l : List Call). c ∷ l) (r .split);
+        happens = r .happens;
+        soon = omega (arith, r .soon);
+      })
+  either-later e s c cs m n h le (inr r) = inr (rw h (r .0), omega (arith, r .1))
+
+module _ (p : Plan) (v : Valid p) where
+  module _ (q : ℕ) (e : Event p) (done : Line → Bool) (Pot : ℕ → Line → Type 0) (f : Potential p q e done Pot) where
+    lowered : (s : Lines) (c : Call) (n : ℕ) → SoundLines p s → Pot n (s q) → done (step p s c q) ≡ false
+        → (m : ℕ) × (m + isTick c ≤ n) × Pot m (step p s c q)
+    lowered s c n w x =
+        step-line p (λ k l. done l ≡ false → (m : ℕ) × (m + k ≤ n) × Pot m l) s c q
+        (λ _. (n, omega arith, x))
+        (λ i _. (n, omega arith, f .enters n i (s q) x))
+        (λ d. (n, omega arith, f .leaves n (s q) (w q) x d))
+        (λ d. (n - 1, omega (arith, f .some n (s q) (w q) x), f .falls n (s q) (w q) x d))
+
+    either : (s : Lines) (cs : List Call) (n : ℕ) → SoundLines p s → Pot n (s q) → done (s q) ≡ false → Either p e s cs n
+    either s [] n w x d = inr (refl, f .some n (s q) (w q) x)
+    either s (c ∷ cs) n w x d =
+        go (e s c) refl
+        (λ h. let y = f .tells s c d h in
+        let g = lowered s c n w x y in
+        either-later p e s c cs (g .0) n h (g .1) (either (step p s c) cs (g .0) (sound-step p v s c w) (g .2) y))
+      where
+        go : (b : Bool) → e s c ≡ b → (e s c ≡ false → Either p e s (c ∷ cs) n) → Either p e s (c ∷ cs) n
+        go true h later =
+            inl (record { early = []; call = c; late = cs; split = refl; happens = h; soon = omega (arith, tick-le p c, f .some n (s q) (w q) x) })
+        go false h later = later h
+
+    -- where e is one of the calls that end the wait
+    bounded : (over : Event p) → ((s : Lines) (c : Call) → e s c ≡ true → over s c ≡ true)
+        → (s : Lines) (cs : List Call) (n : ℕ) → SoundLines p s → Pot n (s q) → done (s q) ≡ false → Bounded p over e s cs n
+    bounded over h s cs n w x d = go (either s cs n w x d)
+      where
+        go : Either p e s cs n → Bounded p over e s cs n
+        go (inl r) =
+            let o : occurs p over s cs ≡ true = rw (r .split) (occurs-at p over s (r .early) (r .call) (r .late) (h _ _ (r .happens))) in
+            record { waits = λ no. absurd (true≢false (sym o ∙ no)); comes = λ _. r }
+        go (inr r) = record { waits = λ _. r .1; comes = λ l. let bad : ⊥ = omega (arith, r .1) in absurd bad }
+
+  -- a task in line that does not hold
+  pub task-bound : (s : Lines) → SoundLines p s → (i q : ℕ) → inLine i (s q) ≡ true → holds i (s q) ≡ false
+      → (cs : List Call) → Bounded p (grants p i q) (grants p i q) s cs (limit (terms p q) i (aheadIn (terms p q) i (s q)))
+  task-bound s w i q a b cs =
+      bounded q (grants p i q) (holds i) (Waiting (terms p q) i)
+      (record {
+        tells = λ s c d h. rw d at h;
+        enters = λ n j l x. wait-entered (terms p q) i j x;
+        leaves = λ n l g x. wait-released (terms p q) i (known p q) (p .processors) (fits p v q) g x;
+        falls = λ n l g x. wait-ticked (terms p q) i (known p q) (p .processors) (fits p v q) g x;
+        some = λ n l g x. wait-some (terms p q) i (known p q) (p .processors) (fits p v q) g x;
+      })
+      (grants p i q) (λ s c h. h) s cs _ w (wait-bound (terms p q) i (known p q) (p .processors) (fits p v q) (s q) (w q) a b) b
+
+  -- a core that is queued and not head
+  pub core-bound : (s : Lines) → SoundLines p s → (k q : ℕ) → without k (s q) ≡ true
+      → (cs : List Call) → Bounded p (ends p k q) (heads p k q) s cs (waitTime p k q)
+  core-bound s w k q a cs =
+      let b = and-parts (queued k (s q)) (not (isHead k (s q))) a in
+      let n = not-true (isHead k (s q)) (b .1) in
+      bounded q (heads p k q) (isHead k) (Without (terms p q) k)
+      (record {
+        tells = λ s c d h. h;
+        enters = λ n j l x. head-entered (terms p q) k j x;
+        leaves = λ n l g x. head-released (terms p q) k x;
+        falls = λ n l g x. head-ticked (terms p q) k (known p q) (p .processors) g x;
+        some = λ n l g x. head-some (terms p q) k (known p q) (p .processors) g x;
+      })
+      (ends p k q) (λ s c h. rw (h, and-false)) s cs _ w (head-bound (terms p q) k (known p q) (p .processors) (s q) (fits p v q) (w q) (b .0) n) n

@@ -1,0 +1,3 @@
+pub mod SoundLines
+pub mod Bounds
+pub mod Promise

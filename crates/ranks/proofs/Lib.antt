@@ -1,0 +1,10 @@
+pub mod Searches
+pub mod Lists
+pub mod Ranked
+pub mod Same
+pub mod Shown
+pub mod Reading
+pub mod Join
+pub mod JoinKeeps
+pub mod Leave
+pub mod LeaveKeeps

@@ -1,0 +1,78 @@
+-- A sound state shows sound lines.
+use Prim.Native.Nat.{ℕ, zero, suc, _+_, _<_, _≤_}
+use mathlib.Core.Bool.{Bool, true, false, true≢false}
+use mathlib.Core.List.{_∷_}
+use mathlib.Core.Path.{_≡_, refl, sym, ap, _∙_}
+use native.Mathlib.Omega.{arith}
+use borrow.Author.Tests.{eqb-true, ne-eqb}
+use lib.Dec.{eqb}
+use lib.ListN.{length, List·getD-eq-default}
+use Rattle.folds.specs.Below.{maxBelow}
+use Rattle.folds.proofs.Tests.{or-out}
+use Rattle.plan.specs.Plan.{Plan, Valid}
+use Rattle.line.specs.Rules.{Terms, line, among, hasTurn}
+use Rattle.line.proofs.Sound.{Owns, Proper, nobody, stands, Sound, is-free, is-held}
+use Rattle.protocol.proofs.SoundLines.{known, SoundAt, SoundLines}
+use Rattle.ranks.specs.Ranks.{listFrom, taskAt, othersOf, turnOf, queueFrom}
+use Rattle.ranks.proofs.Searches.{on-le}
+use Rattle.ranks.proofs.Reading.{all-tasks}
+use Rattle.ranks.proofs.Ranked.{Ranked, Queued, Timed, task-rank, owner, full}
+use Rattle.state.specs.declared.State.{State}
+use Rattle.state.specs.Shows.{noLine, lineAt, slot, shows}
+use Rattle.state.specs.Sound.{sound}
+use Rattle.state.proofs.Wholes.{hold-user, whole-of}
+
+-- one of a list is one of its numbers' figures
+among-out : (i : ℕ) (f : ℕ → ℕ) (c a : ℕ) (C : Type 0) → among i (listFrom c a f) ≡ true → ((j : ℕ) → a ≤ j → j < a + c → f j ≡ i → C) → C
+unfolding listFrom
+among-out i f zero a C e h = absurd (true≢false (sym e))
+among-out i f (suc c) a C e h =
+    or-out (eqb (f a) i) (among i (listFrom c (suc a) f)) C e (λ t. h a (omega arith) (omega arith) (eqb-true (f a) i t))
+    (λ t. among-out i f c (suc a) C t (λ j p l. h j (omega arith) (omega arith)))
+
+-- a line over ranks, for whose tasks a hold time makes them known
+module _ {n m : ℕ} {t : Terms} {R : ℕ → ℕ → ℕ} (known : ℕ → Bool) (user : (u : ℕ) → 1 ≤ t .hold u → known u ≡ true) (r : Ranked n t R) where
+  -- the tasks of a turn
+  turn-owns : (k : ℕ) → 1 ≤ maxBelow n (R k) → Owns t known m k (taskAt n (R k) 1 ∷ othersOf n (R k))
+  turn-owns k a = record {
+    each = λ i e. among-out i (taskAt n (R k)) (maxBelow n (R k)) 1 _ (ap (among i) (sym (all-tasks n (R k) a)) ∙ e)
+        (λ j p l f. let b = full r k j p (omega arith) in
+        task i j p (rw f at b) (rw f at (task-rank n j (R k) b)));
+  }
+    where
+      task : (i j : ℕ) → 1 ≤ j → i < n → R k i ≡ j → (t .processor i ≡ k) × (known i ≡ true)
+      task i j p l e =
+          let o : k ≡ t .processor i = owner r k i l (omega arith) in
+          (sym o, user i (r .uses i l (rw (← o) (omega arith))))
+
+  module _ {c : ℕ} {g : ℕ → ℕ} (w : Queued n m R c g) where
+    -- nobody behind slot x has its processor
+    no-turn : (x d a : ℕ) → x < a → a + d ≤ c → hasTurn (g x) (listFrom d a (λ i. turnOf n R (g i))) ≡ false
+    unfolding listFrom
+    no-turn x zero a l b = refl
+    no-turn x (suc d) a l b =
+        rw (ne-eqb (g a) (g x) (λ e. omega (arith, w .once a x (omega arith) (omega arith) e))) (no-turn x d (suc a) (omega arith) (omega arith))
+
+    proper : (d a : ℕ) → a + d ≤ c → Proper t known m (listFrom d a (λ i. turnOf n R (g i)))
+    unfolding listFrom
+    proper zero a b = nobody
+    proper (suc d) a b =
+        stands (w .placed a (omega arith)) (no-turn a d (suc a) (omega arith) (omega arith)) (turn-owns (g a) (w .served a (omega arith)))
+        (proper d (suc a) (omega arith))
+
+  line-sound : (c : ℕ) (g : ℕ → ℕ) (h b : ℕ) → Queued n m R c g → Timed n t R c g h b → Sound t known m (line h b (queueFrom n R c g))
+  unfolding listFrom
+  line-sound zero g h b w k = let e = k .idle refl in rw (e .0, e .1) is-free
+  line-sound (suc c) g h b w k =
+      let x = k .runs (omega arith) in
+      is-held (record { runs = x .0; lent = x .1; covered = x .2; budgeted = x .3 }) (proper w (suc c) 0 (omega arith))
+
+-- past the last line nobody stands
+pub shown-sound : (p : Plan) → Valid p → (s : State) → length (s .lines) ≡ 16 → sound p s ≡ true → SoundLines p (shows p s)
+unfolding shows listFrom
+shown-sound p v s long h q =
+    on-le (SoundAt p q (shows p s q)) 16 q
+    (λ l. rw (List·getD-eq-default (s .lines) noLine {n = q} (rw long l)) is-free)
+    (λ l. let w = whole-of p v s h .lines q l in
+    line-sound (known p q) (λ u a. hold-user p v u q a) (w .ranked) (lineAt s q .queued) (slot (lineAt s q)) (lineAt s q .«hold_left»)
+    (lineAt s q .«budget_left») (w .queued) (w .timed))

@@ -1,0 +1,68 @@
+-- The invariant: `ok` says whether the rows passed are as they must be.
+use Prim.Native.Nat.{_≤_, _-_}
+use mathlib.Core.Path.{_≡_, refl}
+use native.Mathlib.Omega.{arith}
+use lib.ListN.{getD}
+use Rattle.folds.specs.Below.{allBelow}
+use Rattle.folds.proofs.Tests.{all-step, all-done}
+use Rattle.state.specs.Shows.{standing}
+use Rattle.state.specs.Tests.{taskTest}
+use Rattle.state.proofs.tasks_ok.Statement.{statement}
+use Rattle.state.proofs.tasks_ok.Tie as tie
+
+abbrev Inv-loop : tie.InvT-loop
+Inv-loop holds keys seats tasks ok₀ u₀ ok u = (u ≤ 64) × (ok ≡ allBelow u (λ v. taskTest holds seats (standing tasks v) (getD keys v 0) v))
+
+abbrev μ-loop : tie.MeasureT-loop
+μ-loop holds keys seats tasks ok₀ u₀ ok u = 64 - u
+
+loop-holds : tie.Need-loop-holds Inv-loop μ-loop
+unfolding allBelow
+loop-holds c = (omega arith, refl)
+
+mul-s : tie.Need-mul-s Inv-loop μ-loop
+mul-s c = omega arith
+
+array-copy-out-s : tie.Need-array-copy-out-s Inv-loop μ-loop
+array-copy-out-s c = omega arith
+
+mul-task-ok : tie.Need-mul-task-ok Inv-loop μ-loop
+mul-task-ok c = omega arith
+
+shared-slice-read-task-ok : tie.Need-shared-slice-read-task-ok Inv-loop μ-loop
+shared-slice-read-task-ok c = omega arith
+
+task-ok-requires : tie.Need-task-ok-requires Inv-loop μ-loop
+task-ok-requires c κs =
+    let l = c .before .before .before .loop in
+    let p = c .before .before .before .before .before .before .before .pre in
+    (p .0, p .2, omega arith, p .3 (l .u) (omega arith), p .4 (l .u) (omega arith))
+
+add-u : tie.Need-add-u Inv-loop μ-loop
+add-u c = omega arith
+
+loop-less : tie.Need-loop-less Inv-loop μ-loop
+loop-less c = omega arith
+
+loop-again : tie.Need-loop-again Inv-loop μ-loop
+loop-again c = (omega arith, all-step _ _ (c .before .before .before .before .loop .inv .1) (c .task-ok .ensures))
+
+returns : tie.Need-returns Inv-loop μ-loop
+returns c = all-done _ (c .before .loop .u) _ (omega arith) (c .before .loop .inv .1)
+
+pub tasks-ok-spec : {M : Type 1} → statement M
+tasks-ok-spec =
+    tie.close
+    (tie.spec
+    Inv-loop
+    μ-loop
+    loop-holds
+    mul-s
+    array-copy-out-s
+    mul-task-ok
+    shared-slice-read-task-ok
+    task-ok-requires
+    add-u
+    loop-less
+    loop-again
+    returns)

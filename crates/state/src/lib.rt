@@ -1,0 +1,274 @@
+// The state of the machine by value, the test whether it is sound, and the tables by which a call looks it up. The functions here
+// are for the crates above: each says in its `requires` what it relies on.
+ghost use mathlib.Core.Path.{_≡_};
+ghost use Prim.Native.Nat.{ℕ, _+_, _*_, _≤_, _<_, min};
+ghost use lib.ListN.{length, getD, replicate};
+ghost use Rattle.folds.specs.Below.{allBelow};
+ghost use Rattle.plan.specs.Plan.{planOf, Checked};
+ghost use Rattle.state.specs.Shows.{freshState, noLine, standing, slot};
+ghost use Rattle.state.specs.Seats.{seat, keyOf, Keys, Seats};
+ghost use Rattle.state.specs.Tests.{taskTest, slotsOf, slotTest, coreTest, clockTest, freeTest, lineTest, stateTest};
+
+// A task: the resource it is in line for, and its place in its processor's queue for it, from 0; 255 and 255 for none.
+pub struct Standing {
+    pub resource: u8,
+    pub place: u8,
+}
+
+// A resource: the number of processors queued, and they in order, then 255; the ticks left of the hold and of the head's budget,
+// 0 where it is free.
+pub struct Line {
+    pub queued: u8,
+    pub queue: [u8; 8],
+    pub hold_left: u16,
+    pub budget_left: u16,
+}
+
+pub struct State {
+    pub lines: [Line; 16],
+    pub tasks: [Standing; 64],
+}
+
+// The smaller of two numbers.
+fn least(a: usize, b: usize) -> usize
+    ensures { λ r. ⌜ r ≡ min a b ⌝ }
+{
+    if a <= b {
+        return a;
+    }
+    b
+}
+
+// Nobody in line.
+pub fn fresh() -> State
+    ensures { λ r. ⌜ r ≡ freshState ⌝ }
+{
+    let line = Line {
+        queued: 0,
+        queue: [255u8; 8],
+        hold_left: 0,
+        budget_left: 0,
+    };
+    let standing = Standing {
+        resource: 255,
+        place: 255,
+    };
+    State {
+        lines: [line; 16],
+        tasks: [standing; 64],
+    }
+}
+
+// The seat of a task of a processor, by its row.
+fn key_of(s: Standing, processor: u8) -> u16
+    requires { ⌜ processor < 8 ⌝ }
+    ensures { λ r. ⌜ (r ≡ keyOf s processor) × (r < 8193) ⌝ }
+{
+    if (s.resource < 16) & (s.place < 64) {
+        let queue = tables::half(s.resource) * 8 + tables::half(processor);
+        return queue * 64 + tables::half(s.place);
+    }
+    8192
+}
+
+// The seats of the tasks.
+pub fn key_table(file: &[u8], tasks: [Standing; 64]) -> [u16; 64]
+    requires { ⌜ Checked (now file) ⌝ }
+    ensures { λ r. ⌜ Keys (planOf (now (file .entry))) tasks r ⌝ }
+{
+    let counts = plan::checked::counts(file);
+    let n = folds::wide(counts.tasks);
+    let mut keys = [8192u16; 64];
+    let mut u = 0;
+    while u < n {
+        let row = plan::checked::task(file, u);
+        let s = tasks[u];
+        keys[u] = key_of(s, row.processor);
+        u += 1;
+    }
+    keys
+}
+
+// Puts down who sits where, each as its number plus 1, where nobody sat.
+pub fn fill_seats(file: &[u8], tasks: [Standing; 64], keys: &[u16], seats: &mut [u8])
+    requires { ⌜ (Checked (now file)) × (Keys (planOf (now file)) tasks (now keys)) × (now seats ≡ replicate 8193 0) ⌝ }
+    ensures { λ u. ⌜ Seats (planOf (now (file .entry))) tasks (now (seats .exit)) ⌝ }
+{
+    let counts = plan::checked::counts(file);
+    let n = folds::wide(counts.tasks);
+    let mut u = 0;
+    while u < n {
+        let at = keys[u] as usize;
+        seats[at] = (u + 1) as u8;
+        u += 1;
+    }
+}
+
+// Whether the row of task u, whose seat is `key`, is as it must be.
+fn task_ok(holds: &[u16], seats: &[u8], s: Standing, key: u16, u: usize) -> bool
+    requires { ⌜ (length (now holds) ≡ 1024) × (length (now seats) ≡ 8193) × (u < 64) × (key < 8193) × (s .resource < 16 → s .place < 64 → s .place ≤ key) ⌝ }
+    ensures { λ r. ⌜ r ≡ taskTest (now (holds .entry)) (now (seats .entry)) s key u ⌝ }
+{
+    if (s.resource == 255) & (s.place == 255) {
+        return true;
+    }
+    if (s.resource < 16) & (s.place < 64) {
+        let hold = holds[folds::wide(s.resource) * 64 + u];
+        let at = key as usize;
+        let before = at - least(folds::wide(s.place), 1);
+        let own = seats[at];
+        return (1 <= hold) & (folds::wide(own) == u + 1) & (1 <= seats[before]);
+    }
+    false
+}
+
+// Whether all are.
+fn tasks_ok(tasks: [Standing; 64], holds: &[u16], keys: &[u16], seats: &[u8]) -> bool
+    requires { ⌜ (length (now holds) ≡ 1024) × (length (now keys) ≡ 64) × (length (now seats) ≡ 8193) × ((u : ℕ) → u < 64 → getD (now keys) u 0 < 8193) × ((u : ℕ) → u < 64 → standing tasks u .resource < 16 → standing tasks u .place < 64 → standing tasks u .place ≤ getD (now keys) u 0) ⌝ }
+    ensures { λ r. ⌜ r ≡ allBelow 64 (λ u. taskTest (now (holds .entry)) (now (seats .entry)) (standing tasks u) (getD (now (keys .entry)) u 0) u) ⌝ }
+{
+    let mut ok = true;
+    let mut u = 0;
+    while u < 64 {
+        let s = tasks[u];
+        let fits = task_ok(holds, seats, s, keys[u], u);
+        ok = ok & fits;
+        u += 1;
+    }
+    ok
+}
+
+// The slot of each processor in a queue.
+fn slot_table(queue: [u8; 8]) -> [u8; 9]
+    ensures { λ r. ⌜ r ≡ slotsOf queue ⌝ }
+{
+    let mut slots = [0u8; 9];
+    let mut i = 0;
+    while i < 8 {
+        let at = least(folds::wide(queue[i]), 8);
+        slots[at] = (i + 1) as u8;
+        i += 1;
+    }
+    slots
+}
+
+// Whether slot i of a queue of c is as it must be.
+fn slot_ok(queue: [u8; 8], c: u8, slots: [u8; 9], i: usize) -> bool
+    requires { ⌜ i < 8 ⌝ }
+    ensures { λ r. ⌜ r ≡ slotTest queue c slots i ⌝ }
+{
+    let k = queue[i];
+    if i < folds::wide(c) {
+        let at = least(folds::wide(k), 8);
+        return (k < 8) & (folds::wide(slots[at]) == i + 1);
+    }
+    k == 255
+}
+
+// Whether all are.
+fn slots_ok(queue: [u8; 8], c: u8, slots: [u8; 9]) -> bool
+    ensures { λ r. ⌜ r ≡ allBelow 8 (slotTest queue c slots) ⌝ }
+{
+    let mut ok = true;
+    let mut i = 0;
+    while i < 8 {
+        let fits = slot_ok(queue, c, slots, i);
+        ok = ok & fits;
+        i += 1;
+    }
+    ok
+}
+
+// Whether the processors in a queue are those with a task in line for q.
+fn cores_ok(seats: &[u8], slots: [u8; 9], q: usize) -> bool
+    requires { ⌜ (length (now seats) ≡ 8193) × (q < 16) ⌝ }
+    ensures { λ r. ⌜ r ≡ allBelow 8 (coreTest (now (seats .entry)) slots q) ⌝ }
+{
+    let mut ok = true;
+    let mut k = 0;
+    while k < 8 {
+        let stands = least(folds::wide(slots[k]), 1);
+        let waits = least(folds::wide(seats[(q * 8 + k) * 64]), 1);
+        ok = ok & (stands == waits);
+        k += 1;
+    }
+    ok
+}
+
+// Whether the hold left and the budget left of q are within their bounds.
+fn clock_ok(line: Line, holds: &[u16], budgets: &[u16], seats: &[u8], q: usize) -> bool
+    requires { ⌜ (length (now holds) ≡ 1024) × (length (now budgets) ≡ 128) × (length (now seats) ≡ 8193) × (q < 16) × (1 ≤ line .queued → slot line 0 < 8) × (1 ≤ line .queued → 1 ≤ getD (now seats) (seat q (slot line 0) 0) 0) × (1 ≤ line .queued → getD (now seats) (seat q (slot line 0) 0) 0 < 65) ⌝ }
+    ensures { λ r. ⌜ r ≡ clockTest (now (holds .entry)) (now (budgets .entry)) (now (seats .entry)) q line ⌝ }
+{
+    let left = line.hold_left;
+    let rest = line.budget_left;
+    if line.queued == 0 {
+        return (left == 0) & (rest == 0);
+    }
+    let queue = line.queue;
+    let at = q * 8 + folds::wide(queue[0]);
+    let first = folds::wide(seats[at * 64]) - 1;
+    let most = holds[q * 64 + first];
+    let budget = budgets[at];
+    (1 <= left) & (left <= most) & (left <= rest) & (rest <= budget)
+}
+
+// Whether the row of a free resource q is as it must be.
+fn free_ok(line: Line, seats: &[u8], q: usize) -> bool
+    requires { ⌜ (length (now seats) ≡ 8193) × (q < 16) ⌝ }
+    ensures { λ r. ⌜ r ≡ freeTest (now (seats .entry)) q line ⌝ }
+{
+    let queue = line.queue;
+    let mut ok = true;
+    let mut k = 0;
+    while k < 8 {
+        let fits = (queue[k] == 255) & (seats[(q * 8 + k) * 64] == 0);
+        ok = ok & fits;
+        k += 1;
+    }
+    ok & (line.hold_left == 0) & (line.budget_left == 0)
+}
+
+// Whether the row of resource q is as it must be.
+fn line_ok(line: Line, holds: &[u16], budgets: &[u16], seats: &[u8], q: usize) -> bool
+    requires { ⌜ (length (now holds) ≡ 1024) × (length (now budgets) ≡ 128) × (length (now seats) ≡ 8193) × (q < 16) × ((x : ℕ) → x < 8193 → getD (now seats) x 0 < 65) ⌝ }
+    ensures { λ r. ⌜ r ≡ lineTest (now (holds .entry)) (now (budgets .entry)) (now (seats .entry)) q line ⌝ }
+{
+    if line.queued == 0 {
+        return free_ok(line, seats, q);
+    }
+    if line.queued <= 8 {
+        let queue = line.queue;
+        let slots = slot_table(queue);
+        if slots_ok(queue, line.queued, slots) & cores_ok(seats, slots, q) {
+            return clock_ok(line, holds, budgets, seats, q);
+        }
+    }
+    false
+}
+
+// Whether all are.
+fn lines_ok(lines: [Line; 16], holds: &[u16], budgets: &[u16], seats: &[u8]) -> bool
+    requires { ⌜ (length (now holds) ≡ 1024) × (length (now budgets) ≡ 128) × (length (now seats) ≡ 8193) × ((x : ℕ) → x < 8193 → getD (now seats) x 0 < 65) ⌝ }
+    ensures { λ r. ⌜ r ≡ allBelow 16 (λ q. lineTest (now (holds .entry)) (now (budgets .entry)) (now (seats .entry)) q (getD lines q noLine)) ⌝ }
+{
+    let mut ok = true;
+    let mut q = 0;
+    while q < 16 {
+        let line = lines[q];
+        let fits = line_ok(line, holds, budgets, seats, q);
+        ok = ok & fits;
+        q += 1;
+    }
+    ok
+}
+
+// Whether a state is sound, by the tables of its plan.
+pub fn passes(state: State, holds: &[u16], budgets: &[u16], keys: &[u16], seats: &[u8]) -> bool
+    requires { ⌜ (length (now holds) ≡ 1024) × (length (now budgets) ≡ 128) × (length (now keys) ≡ 64) × (length (now seats) ≡ 8193) × ((x : ℕ) → x < 8193 → getD (now seats) x 0 < 65) × ((u : ℕ) → u < 64 → getD (now keys) u 0 < 8193) × ((u : ℕ) → u < 64 → standing (state .tasks) u .resource < 16 → standing (state .tasks) u .place < 64 → standing (state .tasks) u .place ≤ getD (now keys) u 0) ⌝ }
+    ensures { λ r. ⌜ r ≡ stateTest (now (holds .entry)) (now (budgets .entry)) (now (keys .entry)) (now (seats .entry)) state ⌝ }
+{
+    let tasks = state.tasks;
+    let lines = state.lines;
+    tasks_ok(tasks, holds, keys, seats) & lines_ok(lines, holds, budgets, seats)
+}

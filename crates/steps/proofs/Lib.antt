@@ -1,0 +1,10 @@
+pub mod Marks
+pub mod Passing
+pub mod Taken
+pub mod Joins
+pub mod Asking
+pub mod Ready
+pub mod Falling
+pub mod Passed
+pub mod Leaving
+pub mod Ticks

@@ -1,0 +1,189 @@
+"""The machine in document 01's words: a second look at the results in machine_cases.py.
+
+A line is what is kept of one resource: the turns, each a processor with its tasks in line, the hold left and the budget left.
+"""
+from dataclasses import dataclass, field
+from functools import cache
+
+
+@dataclass
+class Line:
+    turns: list = field(default_factory=list)
+    hold: int = 0
+    budget: int = 0
+
+
+class Machine:
+    def __init__(self, plan):
+        self.plan = plan
+        self.lines = [Line() for _ in range(16)]
+
+    # ---- the analysis ----
+
+    def processor(self, i):
+        return self.plan.tasks[i].processor
+
+    @cache
+    def longest(self, i, q):
+        """The longest section of task i on q, 0 where it has none."""
+        return max((s.length for s in self.plan.sections if (s.task, s.resource) == (i, q)), default=0)
+
+    @cache
+    def is_global(self, q):
+        return len({self.processor(s.task) for s in self.plan.sections if s.resource == q}) > 1
+
+    @cache
+    def hold_time(self, i, q):
+        own = self.plan.tasks[i]
+        higher = [j for j, t in enumerate(self.plan.tasks) if t.processor == own.processor and t.priority > own.priority]
+        others = [r for r in range(len(self.plan.names)) if r != q and self.is_global(r)]
+        return self.longest(i, q) + sum(max((self.longest(j, r) for r in others), default=0) for j in higher)
+
+    @cache
+    def budget(self, k, q):
+        users = [i for i, t in enumerate(self.plan.tasks) if t.processor == k and self.longest(i, q)]
+        return max((self.hold_time(i, q) for i in users), default=0) if self.is_global(q) else 0
+
+    def wait_time(self, k, q):
+        return sum(self.budget(j, q) for j in range(self.plan.processors) if j != k)
+
+    # ---- the lines ----
+
+    def begin(self, q):
+        """The head gets its whole budget and its first task is granted; with nobody queued the resource is free."""
+        line = self.lines[q]
+        line.hold = line.budget = 0
+        if line.turns:
+            k, tasks = line.turns[0]
+            line.hold, line.budget = self.hold_time(tasks[0], q), self.budget(k, q)
+
+    def join(self, i, q):
+        """Task i joins the tail; the tasks that are ahead of it."""
+        line, k = self.lines[q], self.processor(i)
+        if k not in [j for j, _ in line.turns]:
+            line.turns.append((k, []))
+        tasks = dict(line.turns)[k]
+        tasks.append(i)
+        return tasks[:-1]
+
+    def leave(self, q):
+        """The holder leaves."""
+        line = self.lines[q]
+        k, tasks = line.turns[0]
+        tasks.pop(0)
+        if tasks and self.hold_time(tasks[0], q) <= line.budget:
+            line.hold = self.hold_time(tasks[0], q)
+            return
+        line.turns.pop(0)
+        if tasks:
+            line.turns.append((k, tasks))
+        self.begin(q)
+
+    def holder(self, q):
+        turns = self.lines[q].turns
+        return turns[0][1][0] if turns else None
+
+    def busy(self, i):
+        return any(i in tasks for line in self.lines for _, tasks in line.turns)
+
+    # ---- the calls ----
+
+    def request_refusal(self, i, q):
+        if not self.longest(i, q):
+            return 13
+        if not self.is_global(q):
+            return 14
+        return 15 if self.busy(i) else 0
+
+    def request(self, i, q):
+        refusal = self.request_refusal(i, q)
+        if refusal:
+            return f"refused {refusal}"
+        free, ahead = not self.lines[q].turns, self.join(i, q)
+        if free:
+            self.begin(q)
+            return "granted"
+        limit = sum(self.hold_time(j, q) for j in ahead) + (len(ahead) + 1) * self.wait_time(self.processor(i), q)
+        return f"waits {len(ahead)} {limit}"
+
+    def release(self, i, q):
+        if self.holder(q) != i:
+            return "refused 16"
+        self.leave(q)
+        return "free" if self.holder(q) is None else f"to {self.plan.tasks[self.holder(q)].tag}"
+
+    def tick(self):
+        held = [q for q in range(16) if self.lines[q].turns]
+        for q in held:
+            self.lines[q].hold -= 1
+            self.lines[q].budget -= 1
+        cut = [q for q in held if self.lines[q].hold == 0]
+        for q in cut:
+            self.leave(q)
+        granted = [q for q in cut if self.lines[q].turns]
+        return f"tick {sum(2 ** q for q in cut)} {sum(2 ** q for q in granted)} {len(cut)}"
+
+    def call(self, letter, tag, q):
+        """What a call is answered; `none` where this is no call."""
+        if letter not in "QR":
+            return self.tick() if (letter, tag, q) == ("T", 0, 0) else "none"
+        tags = [t.tag for t in self.plan.tasks]
+        if tag not in tags:
+            return "refused 11"
+        if q >= len(self.plan.names):
+            return "refused 12"
+        return self.request(tags.index(tag), q) if letter == "Q" else self.release(tags.index(tag), q)
+
+    def shown(self):
+        """For each resource that is held the hold left, the budget left, and its processors with their tasks."""
+        found = []
+        for q, line in enumerate(self.lines):
+            turns = "".join(f"{k}({' '.join(map(str, tasks))})" for k, tasks in line.turns)
+            if turns:
+                found.append(f"{q}:{line.hold}/{line.budget}:{turns}")
+        return " ".join(found) or "nobody"
+
+
+# ---- states by value ----
+
+
+def row_of(image, q):
+    """Of resource q the number queued, the slots, the hold left and the budget left."""
+    row = image[13 * q:13 * q + 13]
+    return row[0], row[1:9], int.from_bytes(row[9:11], "little"), int.from_bytes(row[11:13], "little")
+
+
+def queues_of(machine, standing, q):
+    """For each processor with a task in line for q those tasks by their places, or None where the places are not 0, 1, 2 ..."""
+    queues = {}
+    for place, u in sorted((place, u) for u, (r, place) in standing.items() if r == q):
+        queues.setdefault(machine.processor(u), []).append((place, u))
+    if any([place for place, _ in queue] != list(range(len(queue))) for queue in queues.values()):
+        return None
+    return {k: [u for _, u in queue] for k, queue in queues.items()}
+
+
+def in_bounds(machine, line, q):
+    if not line.turns:
+        return line.hold == line.budget == 0
+    k, tasks = line.turns[0]
+    return 1 <= line.hold <= machine.hold_time(tasks[0], q) and line.hold <= line.budget <= machine.budget(k, q)
+
+
+def loaded(plan, image):
+    """A machine in the state of these bytes, or None where that is not sound."""
+    machine = Machine(plan)
+    rows = [tuple(image[208 + 2 * u:210 + 2 * u]) for u in range(64)]
+    standing = {u: row for u, row in enumerate(rows) if row != (255, 255)}
+    for u, (q, _) in standing.items():
+        if u >= len(plan.tasks) or not machine.is_global(q) or not machine.longest(u, q):
+            return None
+    for q in range(16):
+        count, slots, hold, budget = row_of(image, q)
+        queues = queues_of(machine, standing, q)
+        if count > 8 or queues is None or sorted(slots[:count]) != sorted(queues) or set(slots[count:]) - {255}:
+            return None
+        machine.lines[q] = Line([(k, queues[k]) for k in slots[:count]], hold, budget)
+        if not in_bounds(machine, machine.lines[q], q):
+            return None
+    return machine
