@@ -27,11 +27,15 @@ pub fn read(file: &[u8]) -> u64 {
     }
 }
 
-/// Which hold time is asked is not known before, so neither side can leave any out.
+/// Which hold time is asked is not known before, so neither side can leave any out. The peer has resource q by task i at
+/// q * 64 + i, the proved table at i * 16 + q: x asks both for the same figure.
 #[inline(never)]
 pub fn hold_at(file: &[u8], x: u16) -> u64 {
     match peer::analysis::hold_times(file) {
-        Ok(times) => 256 * u64::from(times[usize::from(x % 1024)]),
+        Ok(times) => {
+            let x = usize::from(x % 1024);
+            256 * u64::from(times[x % 16 * 64 + x / 16])
+        }
         Err(number) => number.into(),
     }
 }

@@ -20,7 +20,7 @@ use Rattle.equations.specs.Blocking.{globalCount}
 use Rattle.equations.specs.Requirement.{asks, met, admitted}
 use Rattle.equations.specs.Questions.{taskNumber, sharingCode, useCode, processorCode, requirementCode}
 use Rattle.equations.proofs.Laws.{uses-longest}
-use Rattle.tables.specs.Tables.{Columns}
+use Rattle.holds.specs.Holds.{Cells}
 use Rattle.requirements.specs.declared.Requirement.{Requirement}
 use Rattle.requirements.specs.Figures.{requirementOf}
 use Rattle.analysis.specs.declared.Figure.{Figure}
@@ -89,10 +89,12 @@ module _ (p : Plan) where
   unfolding processorCode
   both-there k q l h = rw (lt-ltb k (p .processors) l, lt-ltb q (p .resources) h)
 
-  processor-clear : (k q : ℕ) → processorCode p k q ≡ 0 → q < p .resources
+  processor-clear : (k q : ℕ) → processorCode p k q ≡ 0 → (k < p .processors) × (q < p .resources)
   unfolding processorCode
-  processor-clear k q e =
-      ltb-true q (p .resources) (code-zero (ltb q (p .resources)) 0 11 (code-next (ltb k (p .processors)) _ 17 e))
+  processor-clear k q e = (
+    ltb-true k (p .processors) (code-zero (ltb k (p .processors)) _ 17 e),
+    ltb-true q (p .resources) (code-zero (ltb q (p .resources)) 0 11 (code-next (ltb k (p .processors)) _ 17 e)),
+  )
 
   -- the same for the task of a tag and a resource
   pub no-task : (tag q : ℕ) → p .tasks ≤ taskNumber p tag → 11 ≡ useCode p tag q
@@ -108,11 +110,12 @@ module _ (p : Plan) where
   use-asked tag q l h = rw (lt-ltb (taskNumber p tag) (p .tasks) l, lt-ltb q (p .resources) h)
 
 -- what a question about shares that is not refused tells
-pub share-clear : (f : List ℕ) (k q : ℕ) → shareCode f k q ≡ 0 → ((i : ℕ) → getD f i 0 < 256) → (Checked f) × (q < planOf f .resources)
+pub share-clear : (f : List ℕ) (k q : ℕ) → shareCode f k q ≡ 0 → ((i : ℕ) → getD f i 0 < 256) → (Checked f) × (k < planOf f .processors) × (q < planOf f .resources)
 unfolding shareCode
 share-clear f k q e b =
     let r = reading-clear f (processorCode (planOf f) k q) e in
-    (checked-file f (r .0) b, processor-clear (planOf f) k q (r .1))
+    let there = processor-clear (planOf f) k q (r .1) in
+    (checked-file f (r .0) b, there .0, there .1)
 
 -- 13, 14 or neither: who uses a resource has a longest section on it
 module _ (p : Plan) (v : Valid p) (i q : ℕ) where
@@ -131,19 +134,19 @@ module _ (p : Plan) (v : Valid p) (i q : ℕ) where
   unfolding sharingCode
   shared-used d g = rw (used d, g)
 
--- a table of columns is the list of its figures: x stands in column x / 64 at x % 64
-pub columns-list : (f : ℕ → ℕ → ℕ) (t : List ℕ) → Columns f t → t ≡ placedBelow 1024 (λ x. f (x % 64) (x / 64)) (replicate 1024 0)
-columns-list f t c =
+-- a table of cells is the list of its figures: x stands in the row of x / 16 at x % 16
+pub cells-list : (f : ℕ → ℕ → ℕ) (t : List ℕ) → Cells f t → t ≡ placedBelow 1024 (λ x. f (x / 16) (x % 16)) (replicate 1024 0)
+cells-list f t c =
     ext-getD 0 t _ (c .long ∙ sym (length-replicate {A = ℕ} 1024 0) ∙ sym (placed-length 1024 _ (replicate 1024 0)))
     (λ x l. at x (omega (arith, c .long)))
   where
-    at : (x : ℕ) → x < 1024 → getD t x 0 ≡ getD (placedBelow 1024 (λ y. f (y % 64) (y / 64)) (replicate 1024 0)) x 0
+    at : (x : ℕ) → x < 1024 → getD t x 0 ≡ getD (placedBelow 1024 (λ y. f (y / 16) (y % 16)) (replicate 1024 0)) x 0
     at x l =
-        let m : x % 64 < 64 = omega arith in
-        let d : x / 64 < 16 = omega arith in
-        ap (λ (y : ℕ). getD t y 0) (sym (div-add-mod' x 64))
-        ∙ c .at (x % 64) (x / 64) m d
-        ∙ sym (placed-at 1024 x (λ y. f (y % 64) (y / 64)) (replicate 1024 0) 0 l (rw length-replicate (omega arith)))
+        let d : x / 16 < 64 = omega arith in
+        let m : x % 16 < 16 = omega arith in
+        ap (λ (y : ℕ). getD t y 0) (sym (div-add-mod' x 16))
+        ∙ c .at (x / 16) (x % 16) d m
+        ∙ sym (placed-at 1024 x (λ y. f (y / 16) (y % 16)) (replicate 1024 0) 0 l (rw length-replicate (omega arith)))
 
 -- all hold times, refused and given
 module _ (f : List ℕ) where
@@ -151,9 +154,9 @@ module _ (f : List ℕ) where
   unfolding holdTimes
   times-refused e d = rw (← e, ne-eqb _ _ d)
 
-  pub times-given : {t : List ℕ} → refusal f ≡ 0 → Columns (holdAt (planOf f)) t → record { times = t; refusal = 0 } ≡ holdTimes f
+  pub times-given : {t : List ℕ} → refusal f ≡ 0 → Cells (holdAt (planOf f)) t → record { times = t; refusal = 0 } ≡ holdTimes f
   unfolding holdTimes
-  times-given {t} z c = rw (z, columns-list (holdAt (planOf f)) t c)
+  times-given {t} z c = rw (z, cells-list (holdAt (planOf f)) t c)
 
 -- a requirement given, and one refused
 pub requirement-given : {n : ℕ} {r s : Requirement} → 0 ≡ n → s ≡ r → requirements.Found s ≡ requirementGiven n r

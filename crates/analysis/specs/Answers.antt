@@ -86,11 +86,11 @@ abbrev pub admissionTold : AdmissionAnswer → Told
 admissionTold (admissions.Decided b) = record { number = 0; values = cond b 1 0 ∷ [] }
 admissionTold (admissions.Refused k) = record { number = k; values = [] }
 
--- all hold times of a plan at once: that of resource q by task i stands at q × 64 + i, 0 where the question for it would be
+-- all hold times of a plan at once: that of resource q by task i stands at i × 16 + q, 0 where the question for it would be
 -- refused, or there is no such task; all are 0 where the plan is refused
 unfoldable pub holdTimes : List ℕ → HoldTimes
 holdTimes f =
     record {
       refusal = refusal f;
-      times = cond (eqb (refusal f) 0) (placedBelow 1024 (λ x. holdAt (planOf f) (x % 64) (x / 64)) (replicate 1024 0)) (replicate 1024 0);
+      times = cond (eqb (refusal f) 0) (placedBelow 1024 (λ x. holdAt (planOf f) (x / 16) (x % 16)) (replicate 1024 0)) (replicate 1024 0);
     }

@@ -11,7 +11,8 @@ ghost use Rattle.equations.specs.HoldTimes.{holdTime, holdAt, budget, waitTime}
 ghost use Rattle.equations.specs.Blocking.{globalCount, ceiling};
 ghost use Rattle.equations.specs.Requirement.{asks, met, admitted};
 ghost use Rattle.equations.specs.Questions.{taskNumber, sharingCode, useCode, processorCode, requirementCode};
-ghost use Rattle.tables.specs.Tables.{Columns, Column, Globals, Tasks};
+ghost use Rattle.tables.specs.Tables.{Column, Globals, Tasks};
+ghost use Rattle.holds.specs.Holds.{Cells, Shares};
 ghost use Rattle.requirements.specs.Figures.{requirementOf};
 ghost use Rattle.analysis.specs.Answers.{figure, figureTold, holdCode, holdFigure, shareCode, requirementNumber, requirementFigures, requirementGiven, requirementValues, requirementTold, signedAnswered, admissionAnswer, admissionTold, holdTimes};
 
@@ -33,14 +34,14 @@ pub enum AdmissionAnswer {
     Refused(u8),
 }
 
-// All hold times of a plan, that of resource q by task i at q * 64 + i; all 0 where the plan is refused.
+// All hold times of a plan, that of resource q by task i at i * 16 + q; all 0 where the plan is refused.
 pub struct HoldTimes {
     pub times: [u16; 1024],
     pub refusal: u8,
 }
 
 // A processor's budget on a resource, and its wait time.
-struct Shares {
+struct BudgetAndWait {
     budget: u16,
     wait: u32,
 }
@@ -92,19 +93,17 @@ pub fn hold_time(file: &[u8], tag: u16, resource: u8) -> Figure
 }
 
 // Budget and wait time of processor k on resource q.
-fn shares_of(file: &[u8], k: u8, q: u8) -> Shares
-    requires { ⌜ (Checked (now file)) × (q < planOf (now file) .resources) ⌝ }
+fn shares_of(file: &[u8], k: u8, q: u8) -> BudgetAndWait
+    requires { ⌜ (Checked (now file)) × (k < planOf (now file) .processors) × (q < planOf (now file) .resources) ⌝ }
     ensures { λ r. ⌜ (r .budget ≡ budget (planOf (now (file .entry))) k q) × (r .wait ≡ waitTime (planOf (now (file .entry))) k q) ⌝ }
 {
-    let globals = tables::globals(file);
-    let tasks = tables::task_table(file, globals);
-    let holds = tables::hold_table(file, &tasks, globals);
-    let at = folds::wide(q) * 64;
-    let column = &holds[at..at + 64];
-    Shares {
-        budget: tables::budget_in(file, &tasks, column, k, q),
-        wait: tables::wait_in(file, &tasks, column, k, q),
-    }
+    let mut holds = [0u16; 1024];
+    let mut budgets = [0u16; 128];
+    holds::hold_table(file, &mut holds, &mut budgets);
+    let at = folds::wide(q);
+    let budget = budgets[folds::wide(k) * 16 + at];
+    let wait = holds::wait_in(file, &budgets, k, at);
+    BudgetAndWait { budget, wait }
 }
 
 // 18, then 12, of a checked file: 0 where neither.
@@ -165,9 +164,11 @@ fn requirement_at(file: &[u8], globals: [bool; 16], counts: &[u16], i: usize) ->
     ensures { λ r. ⌜ r ≡ requirementOf (planOf (now (file .entry))) i ⌝ }
 {
     let tasks = tables::task_table(file, globals);
-    let holds = tables::hold_table(file, &tasks, globals);
+    let mut holds = [0u16; 1024];
+    let mut budgets = [0u16; 128];
+    holds::hold_table(file, &mut holds, &mut budgets);
     let ceilings = requirements::ceilings(file);
-    requirements::requirement_of(file, &tasks, &holds, counts, globals, ceilings, i)
+    requirements::requirement_of(file, &tasks, &holds, &budgets, counts, globals, ceilings, i)
 }
 
 // 11 and 17, of a checked file, or the requirement of the task with this tag.
@@ -205,18 +206,28 @@ fn passes(
     file: &[u8],
     tasks: &[u16],
     holds: &[u16],
+    budgets: &[u16],
     counts: &[u16],
     globals: [bool; 16],
     ceilings: [u16; 16],
     i: usize,
 ) -> bool
-    requires { ⌜ (Checked (now file)) × (Tasks (planOf (now file)) (now tasks)) × (Columns (holdAt (planOf (now file))) (now holds)) × (Column 64 (globalCount (planOf (now file))) (now counts)) × (Globals (planOf (now file)) globals) × (Column 16 (ceiling (planOf (now file))) ceilings) × (i < planOf (now file) .tasks) ⌝ }
+    requires { ⌜ (Checked (now file)) × (Tasks (planOf (now file)) (now tasks)) × (Cells (holdAt (planOf (now file))) (now holds)) × (Shares (planOf (now file)) (now budgets)) × (Column 64 (globalCount (planOf (now file))) (now counts)) × (Globals (planOf (now file)) globals) × (Column 16 (ceiling (planOf (now file))) ceilings) × (i < planOf (now file) .tasks) ⌝ }
     ensures { λ r. ⌜ r ≡ (not (asks (planOf (now (file .entry))) i) || met (planOf (now (file .entry))) i) ⌝ }
 {
     if counts[i] == 0 {
         return true;
     }
-    let found = requirements::requirement_of(file, tasks, holds, counts, globals, ceilings, i);
+    let found = requirements::requirement_of(
+        file,
+        tasks,
+        holds,
+        budgets,
+        counts,
+        globals,
+        ceilings,
+        i,
+    );
     found.met
 }
 
@@ -225,18 +236,19 @@ fn all_pass(
     file: &[u8],
     tasks: &[u16],
     holds: &[u16],
+    budgets: &[u16],
     counts: &[u16],
     globals: [bool; 16],
     ceilings: [u16; 16],
 ) -> bool
-    requires { ⌜ (Checked (now file)) × (Tasks (planOf (now file)) (now tasks)) × (Columns (holdAt (planOf (now file))) (now holds)) × (Column 64 (globalCount (planOf (now file))) (now counts)) × (Globals (planOf (now file)) globals) × (Column 16 (ceiling (planOf (now file))) ceilings) ⌝ }
+    requires { ⌜ (Checked (now file)) × (Tasks (planOf (now file)) (now tasks)) × (Cells (holdAt (planOf (now file))) (now holds)) × (Shares (planOf (now file)) (now budgets)) × (Column 64 (globalCount (planOf (now file))) (now counts)) × (Globals (planOf (now file)) globals) × (Column 16 (ceiling (planOf (now file))) ceilings) ⌝ }
     ensures { λ r. ⌜ r ≡ admitted (planOf (now (file .entry))) ⌝ }
 {
     let plan_counts = plan::checked::counts(file);
     let n = folds::wide(plan_counts.tasks);
     let mut i = 0;
     while i < n {
-        if !passes(file, tasks, holds, counts, globals, ceilings, i) {
+        if !passes(file, tasks, holds, budgets, counts, globals, ceilings, i) {
             return false;
         }
         i += 1;
@@ -251,10 +263,12 @@ fn decided(file: &[u8]) -> bool
 {
     let globals = tables::globals(file);
     let tasks = tables::task_table(file, globals);
-    let holds = tables::hold_table(file, &tasks, globals);
+    let mut holds = [0u16; 1024];
+    let mut budgets = [0u16; 128];
+    holds::hold_table(file, &mut holds, &mut budgets);
     let counts = requirements::global_counts(file, globals);
     let ceilings = requirements::ceilings(file);
-    all_pass(file, &tasks, &holds, &counts, globals, ceilings)
+    all_pass(file, &tasks, &holds, &budgets, &counts, globals, ceilings)
 }
 
 // Whether the plan is admitted: every task with a global section has its requirement met.
@@ -280,10 +294,8 @@ pub fn hold_times(file: &[u8]) -> HoldTimes
             refusal: code,
         };
     }
-    let globals = tables::globals(file);
-    let tasks = tables::task_table(file, globals);
-    HoldTimes {
-        times: tables::hold_table(file, &tasks, globals),
-        refusal: 0,
-    }
+    let mut times = [0u16; 1024];
+    let mut budgets = [0u16; 128];
+    holds::hold_table(file, &mut times, &mut budgets);
+    HoldTimes { times, refusal: 0 }
 }

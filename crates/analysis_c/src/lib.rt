@@ -3,7 +3,7 @@ use analysis::AdmissionAnswer;
 ghost use mathlib.Core.Path.{_≡_};
 ghost use Rattle.analysis_c.specs.Number.{holdNumber, admissionNumber};
 
-// Works out all hold times of a plan and returns that at x modulo 1,024, where resource q by task i is q * 64 + i, above the
+// Works out all hold times of a plan and returns that at x modulo 1,024, where resource q by task i is i * 16 + q, above the
 // refusal in the low byte. Which one is asked is not known before, so a caller that measures this measures all.
 #[no_mangle]
 pub extern "C" fn hold_time_at(file: &[u8], x: u16) -> u64

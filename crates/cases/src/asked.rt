@@ -82,11 +82,14 @@ pub fn holds(case: &[u8]) {
     }
     print::text(b"holds");
     let times = found.times;
-    let mut i = 0;
-    while i < 1024 {
-        if times[i] != 0 {
-            print::number(times[i] as u64);
+    let mut x = 0;
+    while x < 1024 {
+        let q = x / 64;
+        let i = x % 64;
+        let time = times[i * 16 + q];
+        if time != 0 {
+            print::number(time as u64);
         }
-        i += 1;
+        x += 1;
     }
 }

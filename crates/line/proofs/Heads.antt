@@ -8,7 +8,8 @@ use borrow.Author.Tests.{eqb-false}
 use lib.Dec.{eqb}
 use Rattle.folds.proofs.Arrays.{by-eq}
 use Rattle.line.specs.Rules.{Terms, Turn, turn, Line, line, hasTurn, queued, isHead, begin, join, entered, leave, released, ticked}
-use Rattle.line.proofs.Sound.{Fits, by-test, by-leave, load, but, Sound, is-free, is-held, load-le}
+use Rattle.line.proofs.Cases.{by-test, by-leave}
+use Rattle.line.proofs.Sound.{Fits, load, but, Sound, is-free, is-held, load-le}
 
 module _ (t : Terms) (k : ℕ) where
   -- in a queue: k is head at most n after its head begins

@@ -1,3 +1,5 @@
+pub mod Cases
+pub mod FirstCome
 pub mod Sound
 pub mod Waiting
 pub mod Heads

@@ -4,12 +4,13 @@ use mathlib.Core.Bool.{Bool, true, false, cond, _||_, or-true, or-false, or-asso
 use mathlib.Core.List.{List, [], _∷_, _++_}
 use mathlib.Core.Path.{_≡_, refl, sym, ap}
 use native.Mathlib.Omega.{arith}
-use borrow.Author.Tests.{eqb-true, eqb-false, eq-eqb, ne-eqb, leb-true}
-use lib.Dec.{eqb, leb}
+use borrow.Author.Tests.{eqb-true, eqb-false, eq-eqb, ne-eqb}
+use lib.Dec.{eqb}
 use Rattle.folds.specs.Below.{sumBelow}
 use Rattle.folds.proofs.Tests.{or-out}
 use Rattle.folds.proofs.Arrays.{by-eq}
-use Rattle.line.specs.Rules.{Terms, Turn, turn, Line, line, free, among, hasTurn, begin, join, entered, goOn, sendBack, leave, released, ticked}
+use Rattle.line.specs.Rules.{Terms, Turn, turn, Line, line, free, among, hasTurn, begin, join, entered, leave, released, ticked}
+use Rattle.line.proofs.Cases.{by-test, by-leave, or-no}
 
 -- What is asked of the terms, for those tasks that may come and with so many processors: a task may hold for a tick or more, and for
 -- no more than its processor's budget; a processor waits for the budgets of all others
@@ -18,22 +19,6 @@ pub record Fits (t : Terms) (known : ℕ → Bool) (procs : ℕ) : Type 0 where
   pub within : (i : ℕ) → known i ≡ true → t .hold i ≤ t .budget (t .processor i)
   pub placed : (i : ℕ) → known i ≡ true → t .processor i < procs
   pub waits : (k : ℕ) → sumBelow procs (λ l. cond (eqb l k) 0 (t .budget l)) ≤ t .wait k
-
--- ── tests ──
-
--- a proof for each outcome of a test
-pub by-test : {A : Type 0} (R : A → Type 0) (b : Bool) {x y : A} → (b ≡ true → R x) → (b ≡ false → R y) → R (cond b x y)
-by-test R true f g = f refl
-by-test R false f g = g refl
-
--- the two ways on where a task is next
-pub by-leave : (t : Terms) (R : Line → Type 0) (b k u v : ℕ) (vs : List ℕ) (rest : List Turn) → (t .hold v ≤ b → R (goOn t b k v vs rest))
-    → R (sendBack t k v vs rest) → R (leave t b (turn k u (v ∷ vs) ∷ rest))
-by-leave t R b k u v vs rest f g = by-test R (leb (t .hold v) b) (λ e. f (leb-true (t .hold v) b e)) (λ _. g)
-
-pub or-no : (a b : Bool) → (a || b) ≡ false → (a ≡ false) × (b ≡ false)
-or-no true b e = absurd (true≢false e)
-or-no false b e = (refl, e)
 
 pub among-last : (i v : ℕ) (us : List ℕ) → among i (us ++ (v ∷ [])) ≡ (among i us || eqb v i)
 among-last i v [] = or-false (eqb v i)

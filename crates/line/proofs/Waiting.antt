@@ -11,7 +11,8 @@ use Rattle.folds.proofs.Tests.{or-out}
 use Rattle.folds.proofs.Arrays.{by-eq}
 use Rattle.line.specs.Rules.{Terms, Turn, turn, Line, line, queueOf, among, standsIn, inLine, holds, hasTurn, tasksOf, sumOf}
 use Rattle.line.specs.Rules.{begin, join, entered, goOn, leave, released, ticked, limit}
-use Rattle.line.proofs.Sound.{Fits, by-test, by-leave, or-no, among-last, load, but, load-but, Proper, nobody, stands, Sound, is-free, is-held, load-le}
+use Rattle.line.proofs.Cases.{by-test, by-leave, or-no}
+use Rattle.line.proofs.Sound.{Fits, among-last, load, but, load-but, Proper, nobody, stands, Sound, is-free, is-held, load-le}
 
 -- the tasks of a list that stand before task i
 abbrev pub aheadOf : ℕ → List ℕ → List ℕ

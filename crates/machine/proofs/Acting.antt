@@ -12,7 +12,7 @@ use Rattle.plan.specs.Plan.{Plan, planOf, Checked, Valid}
 use Rattle.plan.proofs.Laws.{valid-plan}
 use Rattle.equations.specs.Sharing.{processorOf}
 use Rattle.equations.specs.HoldTimes.{holdAt}
-use Rattle.tables.specs.Tables.{Columns}
+use Rattle.holds.specs.Holds.{Cells, Shares}
 use Rattle.ranks.proofs.Searches.{on-le}
 use Rattle.protocol.specs.declared.Call.{Call}
 use Rattle.protocol.specs.declared.Answer.the-variants.{Refused}
@@ -21,7 +21,7 @@ use Rattle.state.specs.declared.Standing.{Standing}
 use Rattle.state.specs.declared.State.{State}
 use Rattle.state.specs.Shows.{standing, shows}
 use Rattle.state.specs.Sound.{sound}
-use Rattle.state.specs.Seats.{Shares, Keys, Seats}
+use Rattle.state.specs.Seats.{Keys, Seats}
 use Rattle.state.specs.Tests.{stateTest}
 use Rattle.state.proofs.Tables.{key-in, seat-high}
 use Rattle.state.proofs.SoundTest.{sound-test}
@@ -45,7 +45,7 @@ module _ (p : Plan) (v : Valid p) (ts : List Standing) (keys : List ℕ) (h : Ke
 -- ── the tables made of a plan that passed every check and of a state ──
 pub record Made (f : List ℕ) (s : State) (h b k t : List ℕ) : Type 0 where
   pub plan : Checked f
-  pub holds : Columns (holdAt (planOf f)) h
+  pub holds : Cells (holdAt (planOf f)) h
   pub budgets : Shares (planOf f) b
   pub keys : Keys (planOf f) (s .tasks) k
   pub seats : Seats (planOf f) (s .tasks) t

@@ -20,11 +20,11 @@ use Rattle.protocol.specs.declared.Answer.{Answer}
 use Rattle.protocol.specs.declared.Answer.the-variants.{Granted, Waits}
 use Rattle.protocol.specs.declared.Call.the-variants.{Request}
 use Rattle.protocol.specs.Machine.{Lines, busy, requestCode, requestTold, answer, step}
-use Rattle.tables.specs.Tables.{Columns}
+use Rattle.holds.specs.Holds.{cell, Cells, share, Shares}
 use Rattle.state.specs.declared.State.{State}
 use Rattle.state.specs.Shows.{standing, lineAt, shows, noneInLine}
 use Rattle.state.specs.Sound.{sound}
-use Rattle.state.specs.Seats.{Shares, Seats}
+use Rattle.state.specs.Seats.{Seats}
 use Rattle.state.proofs.Tables.{low-processor}
 use Rattle.state.proofs.Good.{Whole}
 use Rattle.state.proofs.Wholes.{hold-user, whole-of, sound-of}
@@ -34,8 +34,8 @@ use Rattle.steps.proofs.Asking.{taken-is, request-granted, request-waits, busy-
 use Rattle.machine.specs.Inner.{refusedAt, Done}
 
 -- a table's figure for resource q, whose number is r
-pub column-at : (f : ℕ → ℕ → ℕ) (t : List ℕ) {j q r : ℕ} → Columns f t → r ≡ q → j < 64 → q < 16 → getD t (r * 64 + j) 0 ≡ f j q
-column-at f t {j} {q} c e a b = rw e (c .at j q a b)
+pub cell-at : (f : ℕ → ℕ → ℕ) (t : List ℕ) {j q r : ℕ} → Cells f t → r ≡ q → j < 64 → q < 16 → getD t (cell j r) 0 ≡ f j q
+cell-at f t {j} {q} c e a b = rw e (c .at j q a b)
 
 -- ── the number ──
 module _ (p : Plan) (l : Lines) (tag q : ℕ) {i : ℕ} (e : i ≡ taskNumber p tag) where
@@ -143,7 +143,7 @@ pub record Accepted (p : Plan) (s : State) (tag q : ℕ) (holds budgets seats : 
   pub tasks-long : length (s .tasks) ≡ 64
   pub lines-long : length (s .lines) ≡ 16
   pub code : requestCode p (shows p s) tag q ≡ 0
-  pub columns : Columns (holdAt p) holds
+  pub cells : Cells (holdAt p) holds
   pub shares : Shares p budgets
   pub seated : Seats p (s .tasks) seats
 
@@ -192,7 +192,7 @@ module _ {p : Plan} {s : State} {tag q : ℕ} {holds budgets seats : List ℕ} (
     pub ask-room : n ≡ 0 → lineAt s q .queued < 8
     ask-room z = join-room p v s w (h .tasks-long) (h .lines-long) i q (may .task) (may .some) (may .idle) (sym ahead ∙ z)
 
-    module _ {next : State} (made : next ≡ joined s q j k n (getD holds (r * 64 + j) 0) (getD budgets (r * 8 + m) 0)) where
+    module _ {next : State} (made : next ≡ joined s q j k n (getD holds (cell j r) 0) (getD budgets (share m r) 0)) where
       joined-is : next ≡ entering p s i q
       joined-is =
           made
@@ -202,7 +202,7 @@ module _ {p : Plan} {s : State} {tag q : ℕ} {holds budgets seats : List ℕ} (
             g .processor,
             g .task,
             g .resource,
-            h .columns .at i q (omega (arith, v .tasks, may .task)) low,
+            h .cells .at i q (omega (arith, v .tasks, may .task)) low,
             h .shares .at (processorOf p i) q low-core low,
           )
 
@@ -214,7 +214,7 @@ module _ {p : Plan} {s : State} {tag q : ℕ} {holds budgets seats : List ℕ} (
       ask-waits {x} {y} d a b =
           let queued : 1 ≤ lineAt s q .queued = omega (arith, rw (g .resource) at d) in
           rw joined-is
-          (done (rw (e, a, b, g .processor, g .task, g .resource) (sym (request-waits p v s w i q queued low (may .task) (h .seated) (h .columns)))))
+          (done (rw (e, a, b, g .processor, g .task, g .resource) (sym (request-waits p v s w i q queued low (may .task) (h .seated) (h .cells)))))
 
 -- a limit has 32 bits
 pub waits-high : (n w : ℕ) → n ≤ 64 → w ≤ 524280 → (n + 1) * w ≤ 34078200

@@ -11,14 +11,14 @@ ghost use Prim.Native.Nat.{_+_, _*_, _≤_, _<_};
 ghost use lib.ListN.{length};
 ghost use Rattle.plan.specs.Reading.{refusal};
 ghost use Rattle.plan.specs.Plan.{planOf, Checked};
-ghost use Rattle.equations.specs.HoldTimes.{holdAt, waitTime};
+ghost use Rattle.equations.specs.HoldTimes.{holdAt};
 ghost use Rattle.equations.specs.Questions.{sharingCode};
-ghost use Rattle.tables.specs.Tables.{Columns};
+ghost use Rattle.holds.specs.Holds.{Cells, Shares};
 ghost use Rattle.protocol.specs.declared.Call.the-variants.{Request, Release, Tick};
 ghost use Rattle.protocol.specs.Machine.{requestCode, releaseCode, answerTold, fresh, run};
 ghost use Rattle.state.specs.Shows.{freshState, shows};
 ghost use Rattle.state.specs.Sound.{sound};
-ghost use Rattle.state.specs.Seats.{Shares, Keys, Seats};
+ghost use Rattle.state.specs.Seats.{Keys, Seats};
 ghost use Rattle.machine.specs.Replies.{reply, replyTold, Next, cutCount};
 ghost use Rattle.machine.specs.Inner.{refusedAt, Done, NewHead, grantedTold, cutsIn, AfterBytes};
 ghost use Rattle.machine.specs.Promise.{Returned, Promise, callOf, callsOf};
@@ -63,23 +63,6 @@ fn refuse(state: State, k: u8) -> Reply
     }
 }
 
-// The wait time of processor k on q: the sum of the budgets of the others.
-fn wait_of(file: &[u8], budgets: &[u16], q: usize, k: u8) -> u32
-    requires { ⌜ (Checked (now file)) × (Shares (planOf (now file)) (now budgets)) × (q < 16) ⌝ }
-    ensures { λ r. ⌜ (r ≡ waitTime (planOf (now (file .entry))) k q) × (r ≤ 524280) ⌝ }
-{
-    let counts = plan::checked::counts(file);
-    let m = folds::wide(counts.processors);
-    let mut sum = 0u32;
-    let mut l = 0;
-    while l < m {
-        let own = l == folds::wide(k);
-        sum += folds::chosen(own, 0, budgets[q * 8 + l]) as u32;
-        l += 1;
-    }
-    sum
-}
-
 // 13 and 14 for a task with no hold time of q: it has no section on q, or q is local.
 fn sharing_code(file: &[u8], i: usize, q: u8) -> u8
     requires { ⌜ (Checked (now file)) × (i < planOf (now file) .tasks) × (holdAt (planOf (now file)) i q ≡ 0) ⌝ }
@@ -93,7 +76,7 @@ fn sharing_code(file: &[u8], i: usize, q: u8) -> u8
 
 // 11 to 15, 0 where none, of a request on a sound state.
 fn request_code(file: &[u8], state: State, holds: &[u16], tag: u16, q: u8) -> u8
-    requires { ⌜ (Checked (now file)) × (Columns (holdAt (planOf (now file))) (now holds)) × (sound (planOf (now file)) state ≡ true) ⌝ }
+    requires { ⌜ (Checked (now file)) × (Cells (holdAt (planOf (now file))) (now holds)) × (sound (planOf (now file)) state ≡ true) ⌝ }
     ensures { λ r. ⌜ r ≡ requestCode (planOf (now (file .entry))) (shows (planOf (now (file .entry))) state) tag q ⌝ }
 {
     let counts = plan::checked::counts(file);
@@ -104,7 +87,7 @@ fn request_code(file: &[u8], state: State, holds: &[u16], tag: u16, q: u8) -> u8
     if counts.resources <= q {
         return 12;
     }
-    if holds[folds::wide(q) * 64 + i] == 0 {
+    if holds[i * 16 + folds::wide(q)] == 0 {
         return sharing_code(file, i, q);
     }
     let standing = state.tasks[i];
@@ -124,7 +107,7 @@ fn request_on(
     tag: u16,
     q: u8,
 ) -> Reply
-    requires { ⌜ (Checked (now file)) × (Columns (holdAt (planOf (now file))) (now holds)) × (Shares (planOf (now file)) (now budgets)) × (Seats (planOf (now file)) (state .tasks) (now seats)) × (sound (planOf (now file)) state ≡ true) ⌝ }
+    requires { ⌜ (Checked (now file)) × (Cells (holdAt (planOf (now file))) (now holds)) × (Shares (planOf (now file)) (now budgets)) × (Seats (planOf (now file)) (state .tasks) (now seats)) × (sound (planOf (now file)) state ≡ true) ⌝ }
     ensures { λ r. ⌜ Done (planOf (now (file .entry))) state (Request tag q) r ⌝ }
 {
     let code = request_code(file, state, holds, tag, q);
@@ -137,8 +120,8 @@ fn request_on(
     let r = folds::wide(q);
     let ahead = steps::ahead_of(holds, seats, r, k);
     let held = state.lines[r];
-    let hold = holds[r * 64 + i];
-    let budget = budgets[r * 8 + folds::wide(k)];
+    let hold = holds[i * 16 + r];
+    let budget = budgets[folds::wide(k) * 16 + r];
     let next = steps::join(state, q, i, k, ahead.count, hold, budget);
     if held.queued == 0 {
         return Reply {
@@ -146,7 +129,7 @@ fn request_on(
             state: next,
         };
     }
-    let wait = wait_of(file, budgets, r, k);
+    let wait = holds::wait_in(file, budgets, k, r);
     Reply {
         answer: Answer::Waits(ahead.count, ahead.holds + (ahead.count as u32 + 1) * wait),
         state: next,
@@ -205,7 +188,7 @@ fn release_on(
     tag: u16,
     q: u8,
 ) -> Reply
-    requires { ⌜ (Checked (now file)) × (Columns (holdAt (planOf (now file))) (now holds)) × (Shares (planOf (now file)) (now budgets)) × (Keys (planOf (now file)) (state .tasks) (now keys)) × (Seats (planOf (now file)) (state .tasks) (now seats)) × (sound (planOf (now file)) state ≡ true) ⌝ }
+    requires { ⌜ (Checked (now file)) × (Cells (holdAt (planOf (now file))) (now holds)) × (Shares (planOf (now file)) (now budgets)) × (Keys (planOf (now file)) (state .tasks) (now keys)) × (Seats (planOf (now file)) (state .tasks) (now seats)) × (sound (planOf (now file)) state ≡ true) ⌝ }
     ensures { λ r. ⌜ Done (planOf (now (file .entry))) state (Release tag q) r ⌝ }
 {
     let code = release_code(file, state, seats, tag, q);
@@ -232,7 +215,7 @@ fn tick_on(
     keys: &[u16],
     seats: &[u8],
 ) -> Reply
-    requires { ⌜ (Checked (now file)) × (Columns (holdAt (planOf (now file))) (now holds)) × (Shares (planOf (now file)) (now budgets)) × (Keys (planOf (now file)) (state .tasks) (now keys)) × (Seats (planOf (now file)) (state .tasks) (now seats)) × (sound (planOf (now file)) state ≡ true) ⌝ }
+    requires { ⌜ (Checked (now file)) × (Cells (holdAt (planOf (now file))) (now holds)) × (Shares (planOf (now file)) (now budgets)) × (Keys (planOf (now file)) (state .tasks) (now keys)) × (Seats (planOf (now file)) (state .tasks) (now seats)) × (sound (planOf (now file)) state ≡ true) ⌝ }
     ensures { λ r. ⌜ Done (planOf (now (file .entry))) state Tick r ⌝ }
 {
     let before = state.lines;
@@ -249,10 +232,9 @@ fn act(file: &[u8], state: State, call: Call) -> Reply
     requires { ⌜ Checked (now file) ⌝ }
     ensures { λ r. ⌜ (r .answer ≡ reply (now (file .entry)) state call) × Next (now (file .entry)) state call (r .state) ⌝ }
 {
-    let globals = tables::globals(file);
-    let rows = tables::task_table(file, globals);
+    let mut holds = [0u16; 1024];
     let mut budgets = [0u16; 128];
-    let holds = tables::hold_and_budget(file, &rows, globals, &mut budgets);
+    holds::hold_table(file, &mut holds, &mut budgets);
     let tasks = state.tasks;
     let keys = state::key_table(file, tasks);
     let mut seats = [0u8; 8193];

@@ -12,6 +12,7 @@ use Rattle.plan.specs.Plan.{Plan}
 use Rattle.equations.specs.Blocking.{ceilDiv, blocking1, blocking2, waitingSide}
 use Rattle.equations.specs.Requirement.{tolerance, slack, met}
 use Rattle.tables.specs.Tables.{placeAt, under, beside}
+use Rattle.holds.specs.Holds.{cell}
 use Rattle.requirements.specs.declared.Requirement.{Requirement}
 
 -- Equation 5 over the tables: the tasks below n under the one at `mine`, each with the smaller of `times` and its count
@@ -19,10 +20,10 @@ unfoldable pub sumUnder : List ℕ → List ℕ → ℕ → ℕ → ℕ → ℕ
 sumUnder t counts n mine times =
     sumBelow n (λ j. cond (under mine (getD t (placeAt j) 0)) (min times (getD counts j 0) * getD t j 0) 0)
 
--- the figures of a column of the tasks beside task i, its own left out
-unfoldable pub sumBeside : List ℕ → List ℕ → ℕ → ℕ → ℕ
-sumBeside t column n i =
-    sumBelow n (λ j. cond (beside (getD t (placeAt i) 0) (getD t (placeAt j) 0) && not (eqb j i)) (getD column j 0) 0)
+-- the figures for q of the tasks beside task i, its own left out
+unfoldable pub sumBeside : List ℕ → List ℕ → ℕ → ℕ → ℕ → ℕ
+sumBeside t holds n i q =
+    sumBelow n (λ j. cond (beside (getD t (placeAt i) 0) (getD t (placeAt j) 0) && not (eqb j i)) (getD holds (cell j q) 0) 0)
 
 -- the demand of m tasks up to t: ceil(t / period) × time of each
 unfoldable pub demandOf : List ℕ → List ℕ → ℕ → ℕ → ℕ

@@ -14,7 +14,8 @@ ghost use Rattle.equations.specs.Sharing.{global, uses, higher};
 ghost use Rattle.equations.specs.HoldTimes.{holdAt};
 ghost use Rattle.equations.specs.Blocking.{ceiling, countOn, globalCount, longestLocal, blocking1, blocking2, waitingOn, waitingSide};
 ghost use Rattle.equations.specs.Requirement.{tolerance};
-ghost use Rattle.tables.specs.Tables.{Columns, Column, Globals, Tasks, placeAt};
+ghost use Rattle.tables.specs.Tables.{Column, Globals, Tasks, placeAt};
+ghost use Rattle.holds.specs.Holds.{Cells, Shares};
 ghost use Rattle.requirements.specs.Figures.{sumUnder, sumBeside, demandOf, comparison, requirementOf};
 
 // What a task's requirement compares: met when the waiting side is at most the slack.
@@ -158,10 +159,10 @@ fn blocking1_of(
     (counts[i] as u32 + 1) * longest as u32
 }
 
-// The sum of the figures of a column of the tasks of i's processor, its own left out.
-fn sum_beside(tasks: &[u16], column: &[u16], n: usize, i: usize) -> u32
-    requires { ⌜ (length (now tasks) ≡ 256) × (length (now column) ≡ 64) × (n ≤ 64) × (i < 64) ⌝ }
-    ensures { λ r. ⌜ (r ≡ sumBeside (now (tasks .entry)) (now (column .entry)) n i) × (r ≤ 4194240) ⌝ }
+// The sum of the figures for q of the tasks of i's processor, its own left out.
+fn sum_beside(tasks: &[u16], holds: &[u16], n: usize, i: usize, q: usize) -> u32
+    requires { ⌜ (length (now tasks) ≡ 256) × (length (now holds) ≡ 1024) × (n ≤ 64) × (i < 64) × (q < 16) ⌝ }
+    ensures { λ r. ⌜ (r ≡ sumBeside (now (tasks .entry)) (now (holds .entry)) n i q) × (r ≤ 4194240) ⌝ }
 {
     let mine = tasks[192 + i];
     let mut sum = 0u32;
@@ -169,24 +170,32 @@ fn sum_beside(tasks: &[u16], column: &[u16], n: usize, i: usize) -> u32
     while j < n {
         let place = tasks[192 + j];
         let is_fellow = (place / 256 == mine / 256) & !(j == i);
-        sum += folds::chosen(is_fellow, column[j], 0) as u32;
+        sum += folds::chosen(is_fellow, holds[j * 16 + q], 0) as u32;
         j += 1;
     }
     sum
 }
 
-// Equation 6: what task i waits for the global resource q, on which it has `count` sections. The column has the hold times of q.
-fn waiting_on(file: &[u8], tasks: &[u16], column: &[u16], count: u16, i: usize, q: u8) -> u64
-    requires { ⌜ (Checked (now file)) × (Tasks (planOf (now file)) (now tasks)) × (Column 64 (λ j. holdAt (planOf (now file)) j q) (now column)) × (i < planOf (now file) .tasks) × (uses (planOf (now file)) i q ≡ true) × (global (planOf (now file)) q ≡ true) × (count ≡ countOn (planOf (now file)) i q) ⌝ }
+// Equation 6: what task i waits for the global resource q, on which it has `count` sections.
+fn waiting_on(
+    file: &[u8],
+    tasks: &[u16],
+    holds: &[u16],
+    budgets: &[u16],
+    count: u16,
+    i: usize,
+    q: usize,
+) -> u64
+    requires { ⌜ (Checked (now file)) × (Tasks (planOf (now file)) (now tasks)) × (Cells (holdAt (planOf (now file))) (now holds)) × (Shares (planOf (now file)) (now budgets)) × (i < planOf (now file) .tasks) × (q < 16) × (uses (planOf (now file)) i q ≡ true) × (global (planOf (now file)) q ≡ true) × (count ≡ countOn (planOf (now file)) i q) ⌝ }
     ensures { λ r. ⌜ r ≡ waitingOn (planOf (now (file .entry))) i q ⌝ }
 {
     let counts = plan::checked::counts(file);
     let n = folds::wide(counts.tasks);
     let task = plan::checked::task(file, i);
     let k = task.processor;
-    let budget = tables::budget_in(file, tasks, column, k, q) as u32;
-    let wait = tables::wait_in(file, tasks, column, k, q);
-    let fellows = sum_beside(tasks, column, n, i);
+    let budget = budgets[folds::wide(k) * 16 + q] as u32;
+    let wait = holds::wait_in(file, budgets, k, q);
+    let fellows = sum_beside(tasks, holds, n, i, q);
     let times = (2 * fellows + (budget - 1)) / budget;
     count as u64 * times as u64 * wait as u64
 }
@@ -195,13 +204,14 @@ fn waiting_on(file: &[u8], tasks: &[u16], column: &[u16], count: u16, i: usize, 
 fn waiting_at(
     file: &[u8],
     tasks: &[u16],
-    column: &[u16],
+    holds: &[u16],
+    budgets: &[u16],
     shared: bool,
     count: u16,
     i: usize,
-    q: u8,
+    q: usize,
 ) -> u64
-    requires { ⌜ (Checked (now file)) × (Tasks (planOf (now file)) (now tasks)) × (Column 64 (λ j. holdAt (planOf (now file)) j q) (now column)) × (i < planOf (now file) .tasks) × (shared ≡ global (planOf (now file)) q) × (count ≡ countOn (planOf (now file)) i q) ⌝ }
+    requires { ⌜ (Checked (now file)) × (Tasks (planOf (now file)) (now tasks)) × (Cells (holdAt (planOf (now file))) (now holds)) × (Shares (planOf (now file)) (now budgets)) × (i < planOf (now file) .tasks) × (q < 16) × (shared ≡ global (planOf (now file)) q) × (count ≡ countOn (planOf (now file)) i q) ⌝ }
     ensures { λ r. ⌜ (r ≡ cond (global (planOf (now (file .entry))) q && uses (planOf (now (file .entry))) i q) (waitingOn (planOf (now (file .entry))) i q) 0) × (r ≤ 255 * 8320000 * 520000) ⌝ }
 {
     if !shared {
@@ -210,23 +220,28 @@ fn waiting_at(
     if count == 0 {
         return 0;
     }
-    waiting_on(file, tasks, column, count, i, q)
+    waiting_on(file, tasks, holds, budgets, count, i, q)
 }
 
-// Equation 7: the waiting side of task i. The table has the hold times of each resource by each task.
-fn waiting_side(file: &[u8], tasks: &[u16], holds: &[u16], globals: [bool; 16], i: usize) -> u64
-    requires { ⌜ (Checked (now file)) × (Tasks (planOf (now file)) (now tasks)) × (Columns (holdAt (planOf (now file))) (now holds)) × (Globals (planOf (now file)) globals) × (i < planOf (now file) .tasks) ⌝ }
+// Equation 7: the waiting side of task i, from the tables of all hold times and budgets.
+fn waiting_side(
+    file: &[u8],
+    tasks: &[u16],
+    holds: &[u16],
+    budgets: &[u16],
+    globals: [bool; 16],
+    i: usize,
+) -> u64
+    requires { ⌜ (Checked (now file)) × (Tasks (planOf (now file)) (now tasks)) × (Cells (holdAt (planOf (now file))) (now holds)) × (Shares (planOf (now file)) (now budgets)) × (Globals (planOf (now file)) globals) × (i < planOf (now file) .tasks) ⌝ }
     ensures { λ r. ⌜ r ≡ waitingSide (planOf (now (file .entry))) i ⌝ }
 {
     let counts = plan::checked::counts(file);
+    let n = folds::wide(counts.resources);
     let on = counts_on(file, i);
     let mut side = 0u64;
-    let mut q = 0u8;
-    while q < counts.resources {
-        let x = folds::wide(q);
-        let at = x * 64;
-        let shared = globals[x];
-        side += waiting_at(file, tasks, &holds[at..at + 64], shared, on[x], i, q);
+    let mut q = 0;
+    while q < n {
+        side += waiting_at(file, tasks, holds, budgets, globals[q], on[q], i, q);
         q += 1;
     }
     side
@@ -332,17 +347,18 @@ pub fn requirement_of(
     file: &[u8],
     tasks: &[u16],
     holds: &[u16],
+    budgets: &[u16],
     counts: &[u16],
     globals: [bool; 16],
     ceilings: [u16; 16],
     i: usize,
 ) -> Requirement
-    requires { ⌜ (Checked (now file)) × (Tasks (planOf (now file)) (now tasks)) × (Columns (holdAt (planOf (now file))) (now holds)) × (Column 64 (globalCount (planOf (now file))) (now counts)) × (Globals (planOf (now file)) globals) × (Column 16 (ceiling (planOf (now file))) ceilings) × (i < planOf (now file) .tasks) ⌝ }
+    requires { ⌜ (Checked (now file)) × (Tasks (planOf (now file)) (now tasks)) × (Cells (holdAt (planOf (now file))) (now holds)) × (Shares (planOf (now file)) (now budgets)) × (Column 64 (globalCount (planOf (now file))) (now counts)) × (Globals (planOf (now file)) globals) × (Column 16 (ceiling (planOf (now file))) ceilings) × (i < planOf (now file) .tasks) ⌝ }
     ensures { λ r. ⌜ r ≡ requirementOf (planOf (now (file .entry))) i ⌝ }
 {
     let blocking1 = blocking1_of(file, globals, ceilings, counts, i);
     let blocking2 = blocking2_of(file, tasks, counts, i);
     let tolerance = tolerance_of(file, tasks, i);
-    let side = waiting_side(file, tasks, holds, globals, i);
+    let side = waiting_side(file, tasks, holds, budgets, globals, i);
     compared(blocking1, blocking2, tolerance, side)
 }

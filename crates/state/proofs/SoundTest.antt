@@ -1,5 +1,5 @@
 -- The test by the tables is the test of soundness.
-use Prim.Native.Nat.{ℕ, _+_, _*_, _-_, _<_, _≤_, min}
+use Prim.Native.Nat.{ℕ, _+_, _-_, _<_, _≤_, min}
 use mathlib.Core.Bool.{Bool, true, false, cond, _&&_, true≢false}
 use mathlib.Core.List.{List}
 use mathlib.Core.Path.{_≡_, refl, sym, ap, _∙_}
@@ -17,7 +17,7 @@ use Rattle.plan.specs.Plan.{Plan, Valid}
 use Rattle.equations.specs.Sharing.{processorOf}
 use Rattle.equations.specs.HoldTimes.{holdAt}
 use Rattle.protocol.specs.Machine.{terms}
-use Rattle.tables.specs.Tables.{Columns}
+use Rattle.holds.specs.Holds.{cell, Cells, share, Shares}
 use Rattle.ranks.specs.Ranks.{taskAt}
 use Rattle.ranks.proofs.Searches.{on-eq, on-le, find-is}
 use Rattle.ranks.proofs.Ranked.{At, Ranked, task-rank, task-first, sole, ranks-few, full}
@@ -26,7 +26,7 @@ use Rattle.state.specs.declared.Line.{Line}
 use Rattle.state.specs.declared.State.{State}
 use Rattle.state.specs.Shows.{standing, noneInLine, lineAt, slot, rank}
 use Rattle.state.specs.Sound.{sound}
-use Rattle.state.specs.Seats.{share, seat, Shares, Keys, seatedAt, Seats}
+use Rattle.state.specs.Seats.{seat, Keys, seatedAt, Seats}
 use Rattle.state.specs.Tests.{taskTest, slotsOf, slotTest, coreTest, clockTest, queueTest, lineTest, stateTest}
 use Rattle.state.proofs.Tables.{Stands, key-in, stamped-last}
 use Rattle.state.proofs.Good.{Good, Whole}
@@ -65,15 +65,15 @@ module _ (holds seats : List ℕ) (s : Standing) (key u : ℕ) where
           inr (ltb-true (s .resource) 16 (l .0))
 
   row-out : s .resource < 16 → taskTest holds seats s key u ≡ true
-      → (s .place < 64) × (1 ≤ getD holds (s .resource * 64 + u) 0) × (getD seats key 0 ≡ u + 1) × (1 ≤ getD seats (key - min (s .place) 1) 0)
+      → (s .place < 64) × (1 ≤ getD holds (cell u (s .resource)) 0) × (getD seats key 0 ≡ u + 1) × (1 ≤ getD seats (key - min (s .place) 1) 0)
   unfolding taskTest
   row-out b t =
       let c = cond-out (ltb (s .place) 64) _ (rw (ne-eqb (s .resource) 255 (λ e. omega arith), lt-ltb (s .resource) 16 b) at t) in
-      let d = and-parts (leb 1 (getD holds (s .resource * 64 + u) 0) && eqb (getD seats key 0) (u + 1)) _ (c .1) in
-      let e = and-parts (leb 1 (getD holds (s .resource * 64 + u) 0)) _ (d .0) in
+      let d = and-parts (leb 1 (getD holds (cell u (s .resource)) 0) && eqb (getD seats key 0) (u + 1)) _ (c .1) in
+      let e = and-parts (leb 1 (getD holds (cell u (s .resource)) 0)) _ (d .0) in
       (ltb-true (s .place) 64 (c .0), leb-true 1 _ (e .0), eqb-true _ (u + 1) (e .1), leb-true 1 _ (d .1))
 
-  row-in : s .resource < 16 → s .place < 64 → 1 ≤ getD holds (s .resource * 64 + u) 0 → getD seats key 0 ≡ u + 1
+  row-in : s .resource < 16 → s .place < 64 → 1 ≤ getD holds (cell u (s .resource)) 0 → getD seats key 0 ≡ u + 1
       → 1 ≤ getD seats (key - min (s .place) 1) 0 → taskTest holds seats s key u ≡ true
   unfolding taskTest
   row-in a b c d e =
@@ -123,7 +123,7 @@ module _ (queue : List ℕ) where
       omega (arith, slot-last k (omega arith), max-where-at 8 i (standsAt k) (λ i. i + 1) b (eq-eqb _ k f))
 
 module _ (p : Plan) (v : Valid p) (ts : List Standing) (holds budgets keys seats : List ℕ)
-    (hs : Columns (holdAt p) holds) (bs : Shares p budgets) (ks : Keys p ts keys) (ss : Seats p ts seats) where
+    (hs : Cells (holdAt p) holds) (bs : Shares p budgets) (ks : Keys p ts keys) (ss : Seats p ts seats) where
   -- the row of task u passes
   abbrev passes : ℕ → Bool
   passes u = taskTest holds seats (standing ts u) (getD keys u 0) u
@@ -211,7 +211,7 @@ module _ (p : Plan) (v : Valid p) (ts : List Standing) (holds budgets keys seats
 
     -- the hold time of the head's first task, by its seat
     abbrev headHold : ℕ
-    headHold = getD holds (q * 64 + (getD seats (seat q (slot l 0) 0) 0 - 1)) 0
+    headHold = getD holds (cell (getD seats (seat q (slot l 0) 0) 0 - 1) q) 0
 
     head-is : slot l 0 < 8 → 1 ≤ maxBelow (p .tasks) (rank p ts q (slot l 0)) → headHold ≡ holdAt p (taskAt (p .tasks) (rank p ts q (slot l 0)) 1) q
     head-is lk a =
@@ -351,7 +351,7 @@ module _ (p : Plan) (v : Valid p) (ts : List Standing) (holds budgets keys seats
       j = standing ts u .place
 
 -- the whole state
-pub sound-test : (p : Plan) → Valid p → (s : State) (holds budgets keys seats : List ℕ) → Columns (holdAt p) holds → Shares p budgets
+pub sound-test : (p : Plan) → Valid p → (s : State) (holds budgets keys seats : List ℕ) → Cells (holdAt p) holds → Shares p budgets
     → Keys p (s .tasks) keys → Seats p (s .tasks) seats → stateTest holds budgets keys seats s ≡ sound p s
 unfolding stateTest taskTest
 sound-test p v s holds budgets keys seats hs bs ks ss =

@@ -8,22 +8,16 @@ use lib.ListN.{length, getD}
 use Rattle.folds.specs.Below.{maxBelow}
 use Rattle.plan.specs.Plan.{Plan}
 use Rattle.equations.specs.Sharing.{processorOf}
-use Rattle.equations.specs.HoldTimes.{budget}
 use Rattle.state.specs.declared.Standing.{Standing}
 use Rattle.state.specs.Shows.{standing, rank}
 
--- where the budget of processor k on q stands, and the queue of k for q
-abbrev pub share : ℕ → ℕ → ℕ
-share k q = q * 8 + k
-
--- a table of budgets
-pub record Shares (p : Plan) (t : List ℕ) : Type 0 where
-  pub long : length t ≡ 128
-  pub at : (k q : ℕ) → k < 8 → q < 16 → getD t (share k q) 0 ≡ budget p k q
+-- the number of the queue of processor k for q
+abbrev pub queueAt : ℕ → ℕ → ℕ
+queueAt k q = q * 8 + k
 
 -- the seat of the j-th place in the queue of processor k for q; 8,192 is the seat of tasks that are in no queue
 abbrev pub seat : ℕ → ℕ → ℕ → ℕ
-seat q k j = share k q * 64 + j
+seat q k j = queueAt k q * 64 + j
 
 -- the seat of a task of processor k with this row
 unfoldable pub keyOf : Standing → ℕ → ℕ

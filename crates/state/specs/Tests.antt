@@ -1,16 +1,17 @@
 -- The test of a state as the code makes it, by the tables. None of this is a rule of document 01: `Sound` has the rule.
-use Prim.Native.Nat.{ℕ, _+_, _*_, _-_, min}
+use Prim.Native.Nat.{ℕ, _+_, _-_, min}
 use mathlib.Core.Bool.{Bool, true, false, cond, _&&_}
 use mathlib.Core.List.{List}
 use lib.Dec.{eqb, leb, ltb}
 use lib.ListN.{getD, replicate}
 use Rattle.folds.specs.Below.{allBelow}
 use Rattle.folds.proofs.Arrays.{stampedBelow}
+use Rattle.holds.specs.Holds.{cell, share}
 use Rattle.state.specs.declared.Standing.{Standing}
 use Rattle.state.specs.declared.Line.{Line}
 use Rattle.state.specs.declared.State.{State}
 use Rattle.state.specs.Shows.{standing, lineAt, slot}
-use Rattle.state.specs.Seats.{share, seat}
+use Rattle.state.specs.Seats.{seat}
 
 -- the row of task u, whose seat is `key`: it sits there, and the seat before it in its queue is taken. In the first place that is
 -- its own
@@ -18,7 +19,7 @@ unfoldable pub taskTest : List ℕ → List ℕ → Standing → ℕ → ℕ →
 taskTest holds seats s key u =
     cond (eqb (s .resource) 255 && eqb (s .place) 255) true
     (cond (ltb (s .resource) 16 && ltb (s .place) 64)
-    (leb 1 (getD holds (s .resource * 64 + u) 0) && eqb (getD seats key 0) (u + 1) && leb 1 (getD seats (key - min (s .place) 1) 0))
+    (leb 1 (getD holds (cell u (s .resource)) 0) && eqb (getD seats key 0) (u + 1) && leb 1 (getD seats (key - min (s .place) 1) 0))
     false)
 
 -- the slot in which each processor stands plus 1; at 8 that of other numbers
@@ -38,7 +39,7 @@ coreTest seats slots q k = eqb (min (getD slots k 0) 1) (min (getD seats (seat q
 unfoldable pub clockTest : List ℕ → List ℕ → List ℕ → ℕ → Line → Bool
 clockTest holds budgets seats q l =
     cond (eqb (l .queued) 0) (eqb (l .«hold_left») 0 && eqb (l .«budget_left») 0)
-    (leb 1 (l .«hold_left») && leb (l .«hold_left») (getD holds (q * 64 + (getD seats (seat q (slot l 0) 0) 0 - 1)) 0)
+    (leb 1 (l .«hold_left») && leb (l .«hold_left») (getD holds (cell (getD seats (seat q (slot l 0) 0) 0 - 1) q) 0)
     && leb (l .«hold_left») (l .«budget_left») && leb (l .«budget_left») (getD budgets (share (slot l 0) q) 0))
 
 -- the queue of q: the slots, and the processors

@@ -113,7 +113,7 @@ fn task_ok(holds: &[u16], seats: &[u8], s: Standing, key: u16, u: usize) -> bool
         return true;
     }
     if (s.resource < 16) & (s.place < 64) {
-        let hold = holds[folds::wide(s.resource) * 64 + u];
+        let hold = holds[u * 16 + folds::wide(s.resource)];
         let at = key as usize;
         let before = at - least(folds::wide(s.place), 1);
         let own = seats[at];
@@ -206,10 +206,10 @@ fn clock_ok(line: Line, holds: &[u16], budgets: &[u16], seats: &[u8], q: usize) 
         return (left == 0) & (rest == 0);
     }
     let queue = line.queue;
-    let at = q * 8 + folds::wide(queue[0]);
-    let first = folds::wide(seats[at * 64]) - 1;
-    let most = holds[q * 64 + first];
-    let budget = budgets[at];
+    let head = folds::wide(queue[0]);
+    let first = folds::wide(seats[(q * 8 + head) * 64]) - 1;
+    let most = holds[first * 16 + q];
+    let budget = budgets[head * 16 + q];
     (1 <= left) & (left <= most) & (left <= rest) & (rest <= budget)
 }
 

@@ -24,7 +24,7 @@ use Rattle.steps.proofs.Ready.{seat-task}
 use Rattle.ranks.proofs.Lists.{list-snoc, list-length}
 use Rattle.ranks.proofs.Ranked.{task-rank, ranks-few, full}
 use Rattle.ranks.proofs.Reading.{tasks-in, in-line}
-use Rattle.tables.specs.Tables.{Columns}
+use Rattle.holds.specs.Holds.{cell, Cells}
 use Rattle.state.specs.declared.Standing.{Standing}
 use Rattle.state.specs.declared.Line.{Line}
 use Rattle.state.specs.declared.State.{State}
@@ -97,13 +97,13 @@ module _ (p : Plan) (v : Valid p) (s : State) (w : Whole p s) (q k : ℕ) (lq : 
     pub ahead-count : length (tasksOf k (queueOf (shows p s q))) ≡ taken seats q k
     ahead-count = ap length ahead-list ∙ list-length most 1 (taskAt (p .tasks) ranks) ∙ sym taken-is
 
-    module _ {holds : List ℕ} (c : Columns (holdAt p) holds) where
+    module _ {holds : List ℕ} (c : Cells (holdAt p) holds) where
       pub taken-holds : takenHolds holds seats q k ≡ sumOf (terms p q .hold) (listFrom most 1 (taskAt (p .tasks) ranks))
       unfolding takenHolds
       taken-holds =
           rw taken-is (sum-same most _ _ hold ∙ sum-list most (λ u. holdAt p u q) (taskAt (p .tasks) ranks))
         where
-          hold : (j : ℕ) → j < most → getD holds (q * 64 + (getD seats (seat q k j) 0 - 1)) 0 ≡ holdAt p (taskAt (p .tasks) ranks (suc j)) q
+          hold : (j : ℕ) → j < most → getD holds (cell (getD seats (seat q k j) 0 - 1) q) 0 ≡ holdAt p (taskAt (p .tasks) ranks (suc j)) q
           hold j l =
               let u : ℕ = taskAt (p .tasks) ranks (suc j) in
               let a : u < p .tasks = full (w .lines q lq .ranked) k (suc j) (omega arith) l in
@@ -127,7 +127,7 @@ module _ (p : Plan) (v : Valid p) (s : State) (w : Whole p s) (i q : ℕ) where
   unfolding shows listFrom
   request-granted e = rw e
 
-  pub request-waits : {seats holds : List ℕ} → 1 ≤ lineAt s q .queued → q < 16 → i < p .tasks → Seats p (s .tasks) seats → Columns (holdAt p) holds
+  pub request-waits : {seats holds : List ℕ} → 1 ≤ lineAt s q .queued → q < 16 → i < p .tasks → Seats p (s .tasks) seats → Cells (holdAt p) holds
       → requestTold p i q (shows p s q)
       ≡ Waits (taken seats q (processorOf p i))
       (takenHolds holds seats q (processorOf p i) + (taken seats q (processorOf p i) + 1) * waitTime p (processorOf p i) q)

@@ -20,7 +20,7 @@ use Rattle.ranks.proofs.Leave.{Leaves}
 use Rattle.state.specs.declared.Standing.{Standing}
 use Rattle.state.specs.declared.State.{State}
 use Rattle.state.specs.Shows.{noStanding, noneInLine, standing, lineAt, slot, rank}
-use Rattle.state.specs.Seats.{share, seat, keyOf}
+use Rattle.state.specs.Seats.{queueAt, seat, keyOf}
 use Rattle.state.proofs.Good.{Whole}
 use Rattle.state.proofs.Tables.{low-processor}
 use Rattle.steps.specs.Steps.{fallen, lowered}
@@ -71,7 +71,7 @@ fall-rank b c s m q k h same =
 
 -- `ended` has a 1 for the head's queue of each line of which E holds, and no other
 pub record Ended (s : State) (E : ℕ → Bool) (ended : List ℕ) : Type 0 where
-  pub at : (k q : ℕ) → k < 8 → q < 16 → getD ended (share k q) 0 ≡ cond (E q && eqb k (slot (lineAt s q) 0)) 1 0
+  pub at : (k q : ℕ) → k < 8 → q < 16 → getD ended (queueAt k q) 0 ≡ cond (E q && eqb k (slot (lineAt s q) 0)) 1 0
   pub none : getD ended 128 0 ≡ 0
 
 module _ (p : Plan) (v : Valid p) (s : State) (w : Whole p s) {holds budgets keys seats : List ℕ} (t : Tabled p s holds budgets keys seats)
@@ -93,7 +93,7 @@ module _ (p : Plan) (v : Valid p) (s : State) (w : Whole p s) {holds budgets key
       omega (arith, rank-own (standing (s .tasks) u) (processorOf p u) q k e f, max-at (p .tasks) u (rank p (s .tasks) q k) l, ranks-few r k) in
       let c : getD keys u 0 ≡ seat q k (standing (s .tasks) u .place) =
       t .keys-at .at u l ∙ rw (f, e, lt-ltb q 16 lq, lt-ltb (standing (s .tasks) u .place) 64 (omega (arith, v .tasks))) in
-      let d : getD keys u 0 / 64 ≡ share k q = omega (arith, v .tasks) in
+      let d : getD keys u 0 / 64 ≡ queueAt k q = omega (arith, v .tasks) in
       let y : k < 8 = omega (arith, low-processor p v u l) in
       rw (d, x .at k q y lq) (one (E q && eqb k (slot (lineAt s q) 0)))
     where

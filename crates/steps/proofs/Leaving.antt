@@ -21,7 +21,7 @@ use Rattle.ranks.proofs.Leave.{Leaves}
 use Rattle.state.specs.declared.Line.{Line}
 use Rattle.state.specs.declared.State.{State}
 use Rattle.state.specs.Shows.{noLine, lineAt, slot, rank, shownLine, shows}
-use Rattle.state.specs.Seats.{share, seat, Seats}
+use Rattle.state.specs.Seats.{queueAt, seat, Seats}
 use Rattle.state.proofs.Good.{Whole}
 use Rattle.steps.specs.Steps.{passed, left}
 use Rattle.steps.proofs.Ready.{Tabled, seat-some, first-task}
@@ -68,12 +68,12 @@ module _ (p : Plan) (v : Valid p) (s : State) (w : Whole p s) {holds budgets key
     abbrev L : State
     L = left holds budgets keys seats q s
 
-    ended : Ended s (λ r. eqb r q) (set (replicate 129 0) (share (slot (lineAt s q) 0) q) 1)
+    ended : Ended s (λ r. eqb r q) (set (replicate 129 0) (queueAt (slot (lineAt s q) 0) q) 1)
     ended = record {
-      at = λ k r lk lr. mark-at 129 (share (slot (lineAt s q) 0) q) (share k r) (omega (arith, gone-low)) (omega arith)
+      at = λ k r lk lr. mark-at 129 (queueAt (slot (lineAt s q) 0) q) (queueAt k r) (omega (arith, gone-low)) (omega arith)
           ∙ ap (λ (b : Bool). cond b 1 0) (cell-eqb 8 k (slot (lineAt s q) 0) r q lk gone-low ∙ both k r);
-      none = mark-at 129 (share (slot (lineAt s q) 0) q) 128 (omega (arith, gone-low)) (omega arith)
-          ∙ rw (ne-eqb 128 (share (slot (lineAt s q) 0) q) (λ e. omega (arith, gone-low)));
+      none = mark-at 129 (queueAt (slot (lineAt s q) 0) q) 128 (omega (arith, gone-low)) (omega arith)
+          ∙ rw (ne-eqb 128 (queueAt (slot (lineAt s q) 0) q) (λ e. omega (arith, gone-low)));
     }
       where
         both : (k r : ℕ) → (eqb k (slot (lineAt s q) 0) && eqb r q) ≡ (eqb r q && eqb k (slot (lineAt s r) 0))

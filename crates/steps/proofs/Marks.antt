@@ -11,7 +11,7 @@ use Rattle.folds.proofs.Tests.{and-parts}
 use Rattle.folds.proofs.Arrays.{stampedBelow, stamped-step}
 use Rattle.state.specs.declared.Line.{Line}
 use Rattle.state.specs.Shows.{noLine, slot}
-use Rattle.state.specs.Seats.{share}
+use Rattle.state.specs.Seats.{queueAt}
 use Rattle.steps.specs.Steps.{ends, endedOf}
 
 -- the end of a loop that gathers bits
@@ -25,7 +25,7 @@ cut-queued l e = ltb-true 0 (l .queued) (and-parts (ltb 0 (l .queued)) (eqb (l .
 -- the queues of the resources below n that lose their first
 abbrev pub endedBelow : List Line → ℕ → List ℕ
 endedBelow ls n =
-    stampedBelow n (λ q. cond (ends (getD ls q noLine)) (share (slot (getD ls q noLine) 0) q) 128)
+    stampedBelow n (λ q. cond (ends (getD ls q noLine)) (queueAt (slot (getD ls q noLine) 0) q) 128)
     (λ q. cond (ends (getD ls q noLine)) 1 0) (replicate 129 0)
 
 -- a turn of the loop where the tick cuts the holder, one where it does not, and its end

@@ -9,20 +9,20 @@ use lib.Dec.{ltb}
 use lib.ListN.{length, getD}
 use Rattle.plan.specs.Plan.{Plan, Valid}
 use Rattle.equations.specs.HoldTimes.{holdAt}
-use Rattle.tables.specs.Tables.{Columns}
+use Rattle.holds.specs.Holds.{Cells, Shares}
 use Rattle.ranks.specs.Ranks.{taskAt}
 use Rattle.ranks.proofs.Searches.{on-le}
 use Rattle.ranks.proofs.Ranked.{seated, sole, full}
 use Rattle.state.specs.declared.State.{State}
 use Rattle.state.specs.Shows.{lineAt, slot, rank}
-use Rattle.state.specs.Seats.{seat, Shares, Keys, Seats}
+use Rattle.state.specs.Seats.{seat, Keys, Seats}
 use Rattle.state.proofs.Good.{Whole}
 use Rattle.state.proofs.Tables.{seat-high}
 use Rattle.steps.specs.Steps.{Sized, Ready, Running}
 
 -- the tables of a state, and the lengths of its rows
 pub record Tabled (p : Plan) (s : State) (holds budgets keys seats : List ℕ) : Type 0 where
-  pub holds-at : Columns (holdAt p) holds
+  pub holds-at : Cells (holdAt p) holds
   pub budgets-at : Shares p budgets
   pub keys-at : Keys p (s .tasks) keys
   pub seats-at : Seats p (s .tasks) seats

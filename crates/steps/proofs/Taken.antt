@@ -10,6 +10,7 @@ use lib.ListN.{getD}
 use Rattle.folds.specs.Below.{allBelow, sumBelow}
 use Rattle.folds.proofs.Tests.{all-more, find-at, find-none}
 use Rattle.folds.proofs.Figures.{sum-step}
+use Rattle.holds.specs.Holds.{cell}
 use Rattle.state.specs.Seats.{seat}
 use Rattle.steps.specs.Steps.{taken, takenHolds}
 
@@ -20,7 +21,7 @@ module _ (holds seats : List ℕ) (q k : ℕ) where
 
   -- the hold time of the task with this number plus 1, and that of who has the i-th seat
   abbrev holdBy : ℕ → ℕ
-  holdBy r = getD holds (q * 64 + (r - 1)) 0
+  holdBy r = getD holds (cell (r - 1) q) 0
 
   abbrev holdIn : ℕ → ℕ
   holdIn i = holdBy (getD seats (seat q k i) 0)

@@ -23,7 +23,7 @@ use Rattle.ranks.proofs.LeaveKeeps.{tick-timed}
 use Rattle.state.specs.declared.Line.{Line}
 use Rattle.state.specs.declared.State.{State}
 use Rattle.state.specs.Shows.{noLine, lineAt, slot, rank, shownLine, shows}
-use Rattle.state.specs.Seats.{share}
+use Rattle.state.specs.Seats.{queueAt}
 use Rattle.state.proofs.Good.{Good, Whole}
 use Rattle.steps.specs.Steps.{passed, stepped, ends, endedOf, steppedLines, ticked, cutWord, grantWord}
 use Rattle.steps.proofs.Ready.{Tabled}
@@ -54,7 +54,7 @@ mark b = cond b 1 0
 module _ (p : Plan) (v : Valid p) (s : State) (w : Whole p s) where
   -- the queue that the line of q loses its first from
   abbrev key : ℕ → ℕ
-  key q = cond (ends (lineAt s q)) (share (slot (lineAt s q) 0) q) 128
+  key q = cond (ends (lineAt s q)) (queueAt (slot (lineAt s q) 0) q) 128
 
   head-low : (q : ℕ) → q < 16 → ends (lineAt s q) ≡ true → slot (lineAt s q) 0 < 8
   head-low q lq e = omega (arith, v .processors, w .lines q lq .queued .placed 0 (ends-held (lineAt s q) e))
@@ -62,29 +62,29 @@ module _ (p : Plan) (v : Valid p) (s : State) (w : Whole p s) where
   key-mark : (q : ℕ) → q < 16 → mark (ends (lineAt s q)) ≡ mark (ltb (key q) 128)
   key-mark q lq =
       on-test (mark (ends (lineAt s q)) ≡ mark (ltb (key q) 128)) (ends (lineAt s q))
-      (λ e. rw (e, lt-ltb (share (slot (lineAt s q) 0) q) 128 (omega (arith, head-low q lq e)))) (λ e. rw e)
+      (λ e. rw (e, lt-ltb (queueAt (slot (lineAt s q) 0) q) 128 (omega (arith, head-low q lq e)))) (λ e. rw e)
 
-  key-at : (k q : ℕ) → k < 8 → q < 16 → anyBelow 16 (λ r. eqb (key r) (share k q)) ≡ (ends (lineAt s q) && eqb k (slot (lineAt s q) 0))
+  key-at : (k q : ℕ) → k < 8 → q < 16 → anyBelow 16 (λ r. eqb (key r) (queueAt k q)) ≡ (ends (lineAt s q) && eqb k (slot (lineAt s q) 0))
   key-at k q lk lq =
       same-test _ _
-      (λ a. any-out 16 (λ r. eqb (key r) (share k q)) _ a (λ r lr e. out r lr (eqb-true _ _ e)))
+      (λ a. any-out 16 (λ r. eqb (key r) (queueAt k q)) _ a (λ r lr e. out r lr (eqb-true _ _ e)))
       (λ a. let b = and-parts (ends (lineAt s q)) (eqb k (slot (lineAt s q) 0)) a in
-      any-at 16 q (λ r. eqb (key r) (share k q)) lq (eq-eqb (key q) (share k q) (rw (b .0, eqb-true k (slot (lineAt s q) 0) (b .1)))))
+      any-at 16 q (λ r. eqb (key r) (queueAt k q)) lq (eq-eqb (key q) (queueAt k q) (rw (b .0, eqb-true k (slot (lineAt s q) 0) (b .1)))))
     where
-      out : (r : ℕ) → r < 16 → key r ≡ share k q → (ends (lineAt s q) && eqb k (slot (lineAt s q) 0)) ≡ true
+      out : (r : ℕ) → r < 16 → key r ≡ queueAt k q → (ends (lineAt s q) && eqb k (slot (lineAt s q) 0)) ≡ true
       out r lr e =
           on-test ((ends (lineAt s q) && eqb k (slot (lineAt s q) 0)) ≡ true) (ends (lineAt s r))
-          (λ c. let f : share (slot (lineAt s r) 0) r ≡ share k q = rw c at e in
+          (λ c. let f : queueAt (slot (lineAt s r) 0) r ≡ queueAt k q = rw c at e in
           let low : slot (lineAt s r) 0 < 8 = head-low r lr c in
           let i : r ≡ q = omega arith in
           let h : slot (lineAt s r) 0 ≡ k = omega arith in
           rw (← i, c) (eq-eqb k _ (sym h)))
-          (λ c. let f : 128 ≡ share k q = rw c at e in let bad : ⊥ = omega arith in absurd bad)
+          (λ c. let f : 128 ≡ queueAt k q = rw c at e in let bad : ⊥ = omega arith in absurd bad)
 
   ended : Ended s (λ q. ends (lineAt s q)) (endedOf (s .lines))
   unfolding endedOf
   ended = record {
-    at = λ k q lk lq. stamped (share k q) (omega arith) ∙ rw (lt-ltb (share k q) 128 (omega arith), key-at k q lk lq);
+    at = λ k q lk lq. stamped (queueAt k q) (omega arith) ∙ rw (lt-ltb (queueAt k q) 128 (omega arith), key-at k q lk lq);
     none = stamped 128 (omega arith) ∙ nothing (anyBelow 16 (λ r. eqb (key r) 128));
   }
     where

@@ -1,6 +1,6 @@
 -- What joining, leaving and a tick make of the rows of a state, by the tables. None of this is a rule of document 01: the rules are
 -- those of a line.
-use Prim.Native.Nat.{ℕ, _+_, _*_, _-_, _/_, _≤_, _<_}
+use Prim.Native.Nat.{ℕ, _+_, _-_, _/_, _≤_, _<_}
 use mathlib.Core.Bool.{Bool, cond, _&&_}
 use mathlib.Core.List.{List, [], _∷_}
 use mathlib.Core.Logic.{_≢_}
@@ -11,11 +11,12 @@ use Rattle.folds.specs.Below.{findBelow, sumBelow}
 use Rattle.folds.specs.Each.{eachBelow}
 use Rattle.folds.specs.Words.{wordBelow}
 use Rattle.folds.proofs.Arrays.{stampedBelow}
+use Rattle.holds.specs.Holds.{cell, share}
 use Rattle.state.specs.declared.Standing.{Standing}
 use Rattle.state.specs.declared.Line.{Line}
 use Rattle.state.specs.declared.State.{State}
 use Rattle.state.specs.Shows.{noStanding, noLine, noneInLine, lineAt, slot}
-use Rattle.state.specs.Seats.{share, seat}
+use Rattle.state.specs.Seats.{queueAt, seat}
 
 -- ── what the functions rely on ──
 
@@ -74,7 +75,7 @@ taken seats q k = findBelow 64 (λ j. eqb (getD seats (seat q k j) 0) 0)
 
 -- the hold times of those who sit there
 unfoldable pub takenHolds : List ℕ → List ℕ → ℕ → ℕ → ℕ
-takenHolds holds seats q k = sumBelow (taken seats q k) (λ j. getD holds (q * 64 + (getD seats (seat q k j) 0 - 1)) 0)
+takenHolds holds seats q k = sumBelow (taken seats q k) (λ j. getD holds (cell (getD seats (seat q k j) 0 - 1) q) 0)
 
 -- ── leaving ──
 
@@ -97,7 +98,7 @@ turned l c = set (shifted l) (c - 1) (getD l 0 0)
 module _ (holds budgets seats : List ℕ) (q : ℕ) where
   -- the hold time of the task in place j of the queue of processor k
   abbrev pub holdOf : ℕ → ℕ → ℕ
-  holdOf k j = getD holds (q * 64 + (getD seats (seat q k j) 0 - 1)) 0
+  holdOf k j = getD holds (cell (getD seats (seat q k j) 0 - 1) q) 0
 
   -- the head of a queue begins, once the first task of processor `gone` left
   unfoldable pub begun : ℕ → List ℕ → ℕ → Line
@@ -143,7 +144,7 @@ abbrev pub left : List ℕ → List ℕ → List ℕ → List ℕ → ℕ → St
 left holds budgets keys seats q s =
     record {
       lines = set (s .lines) q (passed holds budgets seats q (lineAt s q));
-      tasks = lowered keys (set (replicate 129 0) (share (slot (lineAt s q) 0) q) 1) (s .tasks);
+      tasks = lowered keys (set (replicate 129 0) (queueAt (slot (lineAt s q) 0) q) 1) (s .tasks);
     }
 
 -- ── a tick ──
@@ -155,7 +156,7 @@ ends l = ltb 0 (l .queued) && eqb (l .«hold_left») 1
 -- the queues that lose their first in a tick; 128 is no queue
 unfoldable pub endedOf : List Line → List ℕ
 endedOf ls =
-    stampedBelow 16 (λ q. cond (ends (getD ls q noLine)) (share (slot (getD ls q noLine) 0) q) 128)
+    stampedBelow 16 (λ q. cond (ends (getD ls q noLine)) (queueAt (slot (getD ls q noLine) 0) q) 128)
     (λ q. cond (ends (getD ls q noLine)) 1 0) (replicate 129 0)
 
 -- the lines after a tick

@@ -5,10 +5,11 @@ use state::Standing;
 use state::State;
 ghost use mathlib.Core.Path.{_≡_};
 ghost use mathlib.Core.Bool.{cond, _&&_};
-ghost use Prim.Native.Nat.{ℕ, _+_, _*_, _-_, _≤_, _<_};
+ghost use Prim.Native.Nat.{ℕ, _-_, _≤_, _<_};
 ghost use lib.Dec.{eqb, ltb};
 ghost use lib.ListN.{length, getD};
 ghost use Rattle.folds.specs.Words.{bitOf};
+ghost use Rattle.holds.specs.Holds.{cell};
 ghost use Rattle.state.specs.Shows.{noLine, lineAt, slot};
 ghost use Rattle.state.specs.Seats.{seat};
 ghost use Rattle.steps.specs.Steps.{Sized, Ready, Running, pushed, joined, taken, takenHolds, fallen, lowered, begun, passed, stepped, left, endedOf, steppedLines, ticked, cutWord, grantWord};
@@ -35,7 +36,7 @@ pub fn ahead_of(holds: &[u16], seats: &[u8], q: usize, k: u8) -> Ahead
                 holds: sum,
             };
         }
-        sum += holds[q * 64 + (sits - 1)] as u32;
+        sum += holds[(sits - 1) * 16 + q] as u32;
         j += 1;
     }
     Ahead {
@@ -125,10 +126,10 @@ fn lower(tasks: [Standing; 64], keys: &[u16], ended: &[u8]) -> [Standing; 64]
 // The hold time of the task in place j of the queue of processor k for q.
 fn hold_of(holds: &[u16], seats: &[u8], q: usize, k: u8, j: usize) -> u16
     requires { ⌜ (length (now holds) ≡ 1024) × (length (now seats) ≡ 8193) × (q < 16) × (k < 8) × (j < 64) × (1 ≤ getD (now seats) (seat q k j) 0) × (getD (now seats) (seat q k j) 0 < 65) ⌝ }
-    ensures { λ r. ⌜ r ≡ getD (now (holds .entry)) (q * 64 + (getD (now (seats .entry)) (seat q k j) 0 - 1)) 0 ⌝ }
+    ensures { λ r. ⌜ r ≡ getD (now (holds .entry)) (cell (getD (now (seats .entry)) (seat q k j) 0 - 1) q) 0 ⌝ }
 {
     let sits = folds::wide(seats[(q * 8 + folds::wide(k)) * 64 + j]);
-    holds[q * 64 + (sits - 1)]
+    holds[(sits - 1) * 16 + q]
 }
 
 // The head of a queue of c begins, once the first task of processor `gone` left.
@@ -158,7 +159,7 @@ fn begin(
         queued: c,
         queue,
         hold_left: hold_of(holds, seats, q, k, behind as usize),
-        budget_left: budgets[q * 8 + folds::wide(k)],
+        budget_left: budgets[folds::wide(k) * 16 + q],
     }
 }
 

@@ -1,4 +1,4 @@
--- Where each section counts in the tables, and what the marks tell: who uses what, and which resources are global.
+-- What the marks tell: who uses what, and which resources are global.
 use Prim.Native.Nat.{ℕ, _+_, _*_, _<_}
 use mathlib.Core.Bool.{Bool, false, cond, _&&_}
 use mathlib.Core.List.{List}
@@ -14,13 +14,10 @@ use Rattle.folds.proofs.Arrays.{markedBelow, marked-length, marked-at, placed-l
 use Rattle.plan.specs.Plan.{Plan, Valid}
 use Rattle.equations.specs.Sharing.{processorOf, usedOn, global}
 use Rattle.equations.proofs.Laws.{used-section}
-use Rattle.tables.specs.Tables.{cell, Marks, Globals}
+use Rattle.tables.specs.Tables.{Marks, Globals}
 
 module _ (p : Plan) where
-  -- where the hold time that section s makes counts, and where its use is marked
-  abbrev pub cellOf : ℕ → ℕ
-  cellOf s = cell (p .section s .task) (p .section s .resource)
-
+  -- where the use of section s is marked
   abbrev pub markAt : ℕ → ℕ
   markAt s = p .section s .resource * 8 + processorOf p (p .section s .task)
 
@@ -32,10 +29,7 @@ module _ (p : Plan) where
   globalsBelow n = placedBelow n (global p) (replicate 16 false)
 
 module _ (p : Plan) (v : Valid p) where
-  -- both lie within their tables
-  pub cell-high : (s : ℕ) → s < p .sections → cellOf p s < 1024
-  cell-high s l = omega (arith, v .tasks, v .resources, v .section-fits s l .task, v .section-fits s l .resource)
-
+  -- it lies within the table
   pub mark-high : (s : ℕ) → s < p .sections → markAt p s < 128
   mark-high s l =
       let f = v .section-fits s l in

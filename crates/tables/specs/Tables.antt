@@ -12,16 +12,7 @@ use Rattle.equations.specs.HoldTimes.{longestOff}
 use Rattle.equations.specs.Blocking.{longestGlobal}
 use Rattle.tables.specs.declared.Top.{Top}
 
--- where the figure of task j for resource q stands: the tasks of one resource stand side by side
-abbrev pub cell : ℕ → ℕ → ℕ
-cell j q = q * 64 + j
-
--- a table of the figure f of each task for each resource
-pub record Columns (f : ℕ → ℕ → ℕ) (t : List ℕ) : Type 0 where
-  pub long : length t ≡ 1024
-  pub at : (j q : ℕ) → j < 64 → q < 16 → getD t (cell j q) 0 ≡ f j q
-
--- a table of the figure f of each of n tasks or resources; of 64 tasks it is one column of that
+-- a table of the figure f of each of n tasks or resources
 pub record Column (n : ℕ) (f : ℕ → ℕ) (t : List ℕ) : Type 0 where
   pub long : length t ≡ n
   pub at : (j : ℕ) → j < n → getD t j 0 ≡ f j
@@ -88,26 +79,3 @@ raise t q x =
 -- the sum, over the tasks below n that are above the one at `mine`, of what the table tells for q
 unfoldable pub sumAbove : List ℕ → ℕ → ℕ → ℕ → ℕ
 sumAbove t n mine q = sumBelow n (λ j. cond (above mine (getD t (placeAt j) 0)) (offIn t q j) 0)
-
--- no two of the first n tasks have the same place
-abbrev pub Distinct : List ℕ → ℕ → Type 0
-Distinct t n = (i j : ℕ) → i < n → j < n → getD t (placeAt i) 0 ≡ getD t (placeAt j) 0 → i ≡ j
-
--- how many of the first n tasks have a place above task i's
-unfoldable pub rankIn : List ℕ → ℕ → ℕ → ℕ
-rankIn t n i = countBelow n (λ j. ltb (getD t (placeAt i) 0) (getD t (placeAt j) 0))
-
--- the first n tasks in the order of their ranks, each as its number plus 1
-pub record Order (t : List ℕ) (n : ℕ) (o : List ℕ) : Type 0 where
-  pub long : length o ≡ 64
-  pub full : (x : ℕ) → x < n → 1 ≤ getD o x 0
-  pub task : (x : ℕ) → x < n → getD o x 0 ≤ n
-  pub rank : (x : ℕ) → x < n → rankIn t n (getD o x 0 - 1) ≡ x
-
--- the greatest figure in a column of the tasks of processor k
-unfoldable pub maxOf : List ℕ → List ℕ → ℕ → ℕ → ℕ
-maxOf t column n k = maxBelow n (λ j. cond (eqb (getD t (placeAt j) 0 / 256) k) (getD column j 0) 0)
-
--- the sum of that of all processors below m other than k
-unfoldable pub othersOf : List ℕ → List ℕ → ℕ → ℕ → ℕ → ℕ
-othersOf t column n m k = sumBelow m (λ l. cond (eqb l k) 0 (maxOf t column n l))

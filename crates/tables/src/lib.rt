@@ -1,6 +1,6 @@
-// What the questions about one plan share, gathered in a few passes over its rows, and the hold times, budgets and wait times
-// made of it. Every function here is for the crates above: those that take a file rely on its having passed every check, and
-// those that take a table on its holding what it should; each says so in its `requires`.
+// What the questions about one plan share, gathered in a few passes over its rows, and a single hold time. Every function here is
+// for the crates above: those that take a file rely on its having passed every check, and those that take a table on its holding
+// what it should; each says so in its `requires`.
 ghost use mathlib.Core.Path.{_≡_};
 ghost use mathlib.Core.Bool.{cond};
 ghost use Prim.Native.Nat.{ℕ, _+_, _*_, _≤_, _<_};
@@ -8,9 +8,9 @@ ghost use lib.Dec.{eqb};
 ghost use lib.ListN.{length, getD, replicate};
 ghost use Rattle.folds.specs.Below.{sumBelow};
 ghost use Rattle.plan.specs.Plan.{planOf, Checked};
-ghost use Rattle.equations.specs.HoldTimes.{longestOn, holdTime, holdAt, budget, waitTime};
+ghost use Rattle.equations.specs.HoldTimes.{longestOn, holdTime};
 ghost use Rattle.equations.specs.Questions.{taskNumber};
-ghost use Rattle.tables.specs.Tables.{Columns, Column, Marks, Globals, Tasks, Distinct, Order, placeOf, placeAt, rankIn, raise, sumAbove, maxOf, othersOf};
+ghost use Rattle.tables.specs.Tables.{Marks, Globals, Tasks, placeOf, placeAt, raise, sumAbove};
 
 // The longest global section of a task, the resource that it is on, and the longest on any other.
 pub struct Top {
@@ -162,200 +162,6 @@ pub fn hold(file: &[u8], tasks: &[u16], longest: u16, i: usize, q: u8) -> u16
 {
     let counts = plan::checked::counts(file);
     longest + interference(tasks, folds::wide(counts.tasks), i, half(q))
-}
-
-// How many of the first n tasks have a place above task i's.
-fn rank_of(tasks: &[u16], n: usize, i: usize) -> usize
-    requires { ⌜ (length (now tasks) ≡ 256) × (n ≤ 64) × (i < 64) ⌝ }
-    ensures { λ r. ⌜ r ≡ rankIn (now (tasks .entry)) n i ⌝ }
-{
-    let mine = tasks[192 + i];
-    let mut count = 0u16;
-    let mut j = 0;
-    while j < n {
-        count += folds::chosen(mine < tasks[192 + j], 1, 0);
-        j += 1;
-    }
-    count as usize
-}
-
-// The first n tasks from the highest place down, each as its number plus 1.
-fn order_of(tasks: &[u16], n: usize) -> [u8; 64]
-    requires { ⌜ (length (now tasks) ≡ 256) × (n ≤ 64) × (Distinct (now tasks) n) ⌝ }
-    ensures { λ r. ⌜ Order (now (tasks .entry)) n r ⌝ }
-{
-    let mut order = [0u8; 64];
-    let mut i = 0;
-    while i < n {
-        let at = rank_of(tasks, n, i);
-        order[at] = (i + 1) as u8;
-        i += 1;
-    }
-    order
-}
-
-// The row where it goes on, a row of zeros where a new one begins.
-fn row_from(row: [u16; 16], same: bool) -> [u16; 16]
-    ensures { λ r. ⌜ r ≡ cond same row (replicate 16 0) ⌝ }
-{
-    if same {
-        return row;
-    }
-    [0u16; 16]
-}
-
-// The row with a task's longest section on a global resource other than q added at each q.
-fn row_with(row: [u16; 16], first: u16, second: u16, resource: u16) -> [u16; 16]
-    requires { ⌜ (first ≤ 1000) × (second ≤ 1000) × ((q : ℕ) → q < 16 → getD row q 0 ≤ 63000) ⌝ }
-    ensures { λ r. ⌜ (length r ≡ 16) × ((q : ℕ) → q < 16 → getD r q 0 ≡ getD row q 0 + cond (eqb resource q) second first) ⌝ }
-{
-    let mut sums = row;
-    let mut q = 0;
-    while q < 16 {
-        sums[q] += folds::chosen(resource == q as u16, second, first);
-        q += 1;
-    }
-    sums
-}
-
-// Puts a row into the table as that of task i.
-fn put_row(table: &mut [u16], row: [u16; 16], i: usize)
-    requires { ⌜ (length (now table) ≡ 1024) × (i < 64) ⌝ }
-    ensures { λ u. ⌜ (length (now (table .exit)) ≡ 1024) × ((j q : ℕ) → j < 64 → q < 16 → getD (now (table .exit)) (j * 16 + q) 0 ≡ cond (eqb j i) (getD row q 0) (getD (now (table .entry)) (j * 16 + q) 0)) ⌝ }
-{
-    let mut q = 0;
-    while q < 16 {
-        table[i * 16 + q] = row[q];
-        q += 1;
-    }
-}
-
-// For each task and resource the sum that `interference` gives: task i's row begins at i * 16. The tasks are taken from the highest
-// place down, so that one running row of sums serves all tasks of a processor.
-fn interference_table(tasks: &[u16], n: usize) -> [u16; 1024]
-    requires { ⌜ (length (now tasks) ≡ 256) × (n ≤ 64) × (Distinct (now tasks) n) × ((j : ℕ) → j < 128 → getD (now tasks) j 0 ≤ 1000) ⌝ }
-    ensures { λ r. ⌜ (length r ≡ 1024) × ((i q : ℕ) → i < n → q < 16 → getD r (i * 16 + q) 0 ≡ sumAbove (now (tasks .entry)) n (getD (now (tasks .entry)) (placeAt i) 0) q) ⌝ }
-{
-    let order = order_of(tasks, n);
-    let mut table = [0u16; 1024];
-    let mut row = [0u16; 16];
-    let mut last = 256u16;
-    let mut x = 0;
-    while x < n {
-        let i = folds::wide(order[x]) - 1;
-        let processor = tasks[192 + i] / 256;
-        let begun = row_from(row, processor == last);
-        put_row(&mut table, begun, i);
-        let next = row_with(begun, tasks[i], tasks[64 + i], tasks[128 + i]);
-        row = next;
-        last = processor;
-        x += 1;
-    }
-    table
-}
-
-// The hold times of each resource by each task that uses it, where it is global, else 0.
-pub fn hold_table(file: &[u8], tasks: &[u16], globals: [bool; 16]) -> [u16; 1024]
-    requires { ⌜ (Checked (now file)) × (Tasks (planOf (now file)) (now tasks)) × (Globals (planOf (now file)) globals) ⌝ }
-    ensures { λ r. ⌜ Columns (holdAt (planOf (now (file .entry)))) r ⌝ }
-{
-    let counts = plan::checked::counts(file);
-    let s = counts.sections as usize;
-    let added = interference_table(tasks, folds::wide(counts.tasks));
-    let mut table = [0u16; 1024];
-    let mut i = 0;
-    while i < s {
-        let row = plan::checked::section(file, i);
-        let j = folds::wide(row.task);
-        let q = folds::wide(row.resource);
-        let at = q * 64 + j;
-        let shared = globals[q];
-        let hold = folds::chosen(shared, row.length + added[j * 16 + q], 0);
-        table[at] = folds::longer(table[at], hold);
-        i += 1;
-    }
-    table
-}
-
-// The same, and in the same pass the budgets where all were 0, that of processor k on resource q at q * 8 + k.
-pub fn hold_and_budget(
-    file: &[u8],
-    tasks: &[u16],
-    globals: [bool; 16],
-    budgets: &mut [u16],
-) -> [u16; 1024]
-    requires { ⌜ (Checked (now file)) × (Tasks (planOf (now file)) (now tasks)) × (Globals (planOf (now file)) globals) × (now budgets ≡ replicate 128 0) ⌝ }
-    ensures { λ r. ⌜ (Columns (holdAt (planOf (now (file .entry)))) r) × (length (now (budgets .exit)) ≡ 128) × ((k q : ℕ) → k < 8 → q < 16 → getD (now (budgets .exit)) (q * 8 + k) 0 ≡ budget (planOf (now (file .entry))) k q) ⌝ }
-{
-    let counts = plan::checked::counts(file);
-    let s = counts.sections as usize;
-    let added = interference_table(tasks, folds::wide(counts.tasks));
-    let mut table = [0u16; 1024];
-    let mut i = 0;
-    while i < s {
-        let row = plan::checked::section(file, i);
-        let j = folds::wide(row.task);
-        let q = folds::wide(row.resource);
-        let at = q * 64 + j;
-        let shared = globals[q];
-        let hold = folds::chosen(shared, row.length + added[j * 16 + q], 0);
-        table[at] = folds::longer(table[at], hold);
-        let b = q * 8 + (tasks[192 + j] / 256) as usize;
-        budgets[b] = folds::longer(budgets[b], hold);
-        i += 1;
-    }
-    table
-}
-
-// The greatest figure in a column of the tasks of processor k.
-fn greatest_of(tasks: &[u16], column: &[u16], n: usize, k: u16) -> u16
-    requires { ⌜ (length (now tasks) ≡ 256) × (length (now column) ≡ 64) × (n ≤ 64) ⌝ }
-    ensures { λ r. ⌜ r ≡ maxOf (now (tasks .entry)) (now (column .entry)) n k ⌝ }
-{
-    let mut best = 0u16;
-    let mut j = 0;
-    while j < n {
-        let here = tasks[192 + j] / 256 == k;
-        best = folds::longer(best, folds::chosen(here, column[j], 0));
-        j += 1;
-    }
-    best
-}
-
-// The sum of that of all processors below m but k.
-fn sum_of_others(tasks: &[u16], column: &[u16], n: usize, m: usize, k: usize) -> u32
-    requires { ⌜ (length (now tasks) ≡ 256) × (length (now column) ≡ 64) × (n ≤ 64) × (m ≤ 8) ⌝ }
-    ensures { λ r. ⌜ (r ≡ othersOf (now (tasks .entry)) (now (column .entry)) n m k) × (r ≤ 524280) ⌝ }
-{
-    let mut sum = 0u32;
-    let mut l = 0;
-    while l < m {
-        let own = l == k;
-        let greatest = greatest_of(tasks, column, n, l as u16);
-        sum += folds::chosen(own, 0, greatest) as u32;
-        l += 1;
-    }
-    sum
-}
-
-// The budget of processor k on the resource of a column of hold times.
-pub fn budget_in(file: &[u8], tasks: &[u16], column: &[u16], k: u8, q: u8) -> u16
-    requires { ⌜ (Checked (now file)) × (Tasks (planOf (now file)) (now tasks)) × (Column 64 (λ i. holdAt (planOf (now file)) i q) (now column)) ⌝ }
-    ensures { λ r. ⌜ r ≡ budget (planOf (now (file .entry))) k q ⌝ }
-{
-    let counts = plan::checked::counts(file);
-    greatest_of(tasks, column, folds::wide(counts.tasks), half(k))
-}
-
-// The wait time of processor k on that resource.
-pub fn wait_in(file: &[u8], tasks: &[u16], column: &[u16], k: u8, q: u8) -> u32
-    requires { ⌜ (Checked (now file)) × (Tasks (planOf (now file)) (now tasks)) × (Column 64 (λ i. holdAt (planOf (now file)) i q) (now column)) ⌝ }
-    ensures { λ r. ⌜ r ≡ waitTime (planOf (now (file .entry))) k q ⌝ }
-{
-    let counts = plan::checked::counts(file);
-    let n = folds::wide(counts.tasks);
-    let m = folds::wide(counts.processors);
-    sum_of_others(tasks, column, n, m, folds::wide(k))
 }
 
 // The number of the task with this tag, the number of tasks where there is none.

@@ -1,5 +1,5 @@
 -- A table of each hold time is the list of them.
-use mathlib.Core.Path.{sym, _∙_}
+use mathlib.Core.Path.{refl, sym, _∙_}
 use borrow.Author.Needs.{needs}
 use Rattle.plan.specs.Plan.{Checked}
 use Rattle.analysis.proofs.Told.{checked-file, times-refused, times-given}
@@ -17,20 +17,17 @@ checked : (c : tie.Else1) → Checked (c .before .before .before .args .file .no
 checked c =
     checked-file _ (sym (c .before .check .ensures) ∙ c .if1 .left) (λ i. c .before .before .shared-slice-known .given i .fits)
 
-globals-requires : tie.Need-globals-requires
-globals-requires c κs = checked c
-
-task-table-requires : tie.Need-task-table-requires
-task-table-requires c κs = (checked (c .before), c .globals .ensures)
-
 slice-aggregate-hold-table : tie.Need-slice-aggregate-hold-table
 slice-aggregate-hold-table c = search needs
 
+slice-aggregate-hold-table-2 : tie.Need-slice-aggregate-hold-table-2
+slice-aggregate-hold-table-2 c = search needs
+
 hold-table-requires : tie.Need-hold-table-requires
-hold-table-requires c κs = (checked (c .before .before .before), c .before .task-table .ensures, c .before .before .globals .ensures)
+hold-table-requires c κs = (checked (c .before .before), refl, refl)
 
 returns-2 : tie.Need-returns-2
-returns-2 c = times-given _ (checked (c .before .before .before .before) .none) (c .hold-table .ensures)
+returns-2 c = times-given _ (checked (c .before .before .before .before .before) .none) (c .before .before .hold-table .ensures .0)
 
 pub hold-times-spec : {M : Type 1} → statement M
 hold-times-spec =
@@ -38,8 +35,7 @@ hold-times-spec =
     (tie.spec
     check-requires
     returns
-    globals-requires
-    task-table-requires
     slice-aggregate-hold-table
+    slice-aggregate-hold-table-2
     hold-table-requires
     returns-2)

@@ -1,21 +1,17 @@
--- A resource of the plan is one of 16, so its column lies within the table of hold times.
+-- A processor and a resource of the plan lie within the table of budgets.
+use mathlib.Core.Path.{ap, _∙_}
 use native.Mathlib.Omega.{arith}
 use borrow.Author.Needs.{needs}
-use Rattle.plan.specs.Plan.{planOf}
 use Rattle.plan.proofs.Laws.{valid-plan}
-use Rattle.equations.specs.HoldTimes.{holdAt}
-use Rattle.tables.proofs.Budgets.{column-part}
+use Rattle.equations.specs.HoldTimes.{waitTime}
 use Rattle.analysis.proofs.shares_of.Statement.{statement}
 use Rattle.analysis.proofs.shares_of.Tie as tie
 
-globals-requires : tie.Need-globals-requires
-globals-requires c κs = search needs
-
-task-table-requires : tie.Need-task-table-requires
-task-table-requires c κs = search needs
-
 slice-aggregate-hold-table : tie.Need-slice-aggregate-hold-table
 slice-aggregate-hold-table c = search needs
+
+slice-aggregate-hold-table-2 : tie.Need-slice-aggregate-hold-table-2
+slice-aggregate-hold-table-2 c = search needs
 
 hold-table-requires : tie.Need-hold-table-requires
 hold-table-requires c κs = search needs
@@ -23,59 +19,54 @@ hold-table-requires c κs = search needs
 wide-requires : tie.Need-wide-requires
 wide-requires c κs = search needs
 
-mul-at : tie.Need-mul-at
-mul-at c = search needs
+wide-requires-2 : tie.Need-wide-requires-2
+wide-requires-2 c κs = search needs
 
-add-column : tie.Need-add-column
-add-column c = search needs
+mul-budget : tie.Need-mul-budget
+mul-budget c = search needs
 
-mul-column : tie.Need-mul-column
-mul-column c = search needs
+add-budget : tie.Need-add-budget
+add-budget c = search needs
 
-sub-column : tie.Need-sub-column
-sub-column c = search needs
+mul-budget-2 : tie.Need-mul-budget-2
+mul-budget-2 c = search needs
 
-part-column-start : tie.Need-part-column-start
-part-column-start c = search needs
-
-part-column-end : tie.Need-part-column-end
-part-column-end c = omega (arith, valid-plan _ (c .before .before .before .before .before .before .before .pre .0) .resources, c .before .before .hold-table .ensures .long)
-
-slice-aggregate-budget-in : tie.Need-slice-aggregate-budget-in
-slice-aggregate-budget-in c = search needs
-
-budget-in-requires : tie.Need-budget-in-requires
-budget-in-requires c κs =
-    let h = c .before .before .before .before .hold-table in
-    let a = c .before .before .before .before .before .before .before .before .before in
-    (a .pre .0, c .before .before .before .before .before .before .task-table .ensures, column-part (holdAt (planOf (a .args .file .now))) (h .result) _ _ (h .ensures) (c .before .before .before .wide .ensures .0) (omega (arith, valid-plan _ (a .pre .0) .resources)))
+array-read-budget : tie.Need-array-read-budget
+array-read-budget c =
+    let h = c .before .before .before .before .before .before .before .before .pre in
+    let v = valid-plan _ (h .0) in
+    omega (arith, v .processors, v .resources, h .1, h .2, c .wide2 .ensures .0, c .before .wide .ensures .0)
 
 slice-aggregate-wait-in : tie.Need-slice-aggregate-wait-in
 slice-aggregate-wait-in c = search needs
 
 wait-in-requires : tie.Need-wait-in-requires
-wait-in-requires c κs = budget-in-requires (c .before .before) κs
+wait-in-requires c κs =
+    let h = c .before .before .before .before .before .before .before .before .before .pre in
+    (h .0, c .before .before .before .before .before .hold-table .ensures .1, omega (arith, valid-plan _ (h .0) .resources, h .2, c .before .before .wide .ensures .0))
 
 returns : tie.Need-returns
-returns c = search needs
+returns c =
+    let h = c .before .before .before .before .before .before .before .before .before .before .pre in
+    let v = valid-plan _ (h .0) in
+    let e = c .before .before .before .wide .ensures .0 in (
+      rw (c .before .before .wide2 .ensures .0, e) (c .before .before .before .before .before .before .hold-table .ensures .1 .at _ _ (omega (arith, v .processors, h .1)) (omega (arith, v .resources, h .2))),
+      c .wait-in .ensures .0 ∙ ap (waitTime _ _) e,
+    )
 
 pub shares-of-spec : {M : Type 1} → statement M
 shares-of-spec =
     tie.close
     (tie.spec
-    globals-requires
-    task-table-requires
     slice-aggregate-hold-table
+    slice-aggregate-hold-table-2
     hold-table-requires
     wide-requires
-    mul-at
-    add-column
-    mul-column
-    sub-column
-    part-column-start
-    part-column-end
-    slice-aggregate-budget-in
-    budget-in-requires
+    wide-requires-2
+    mul-budget
+    add-budget
+    mul-budget-2
+    array-read-budget
     slice-aggregate-wait-in
     wait-in-requires
     returns)

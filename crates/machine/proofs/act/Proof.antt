@@ -13,20 +13,14 @@ use Rattle.machine.proofs.refuse.Reads as refuse-reads
 use Rattle.state.proofs.fill_seats.Reads as fill-seats-reads
 use Rattle.state.proofs.key_table.Reads as key-table-reads
 use Rattle.state.proofs.passes.Reads as passes-reads
-use Rattle.tables.proofs.globals.Reads as globals-reads
-use Rattle.tables.proofs.hold_and_budget.Reads as hold-and-budget-reads
-use Rattle.tables.proofs.task_table.Reads as task-table-reads
+use Rattle.holds.proofs.hold_table.Reads as hold-table-reads
 
 -- once the tables are made
 abbrev Here : Type 0
 Here =
     lts.After-fill-seats (
-      globals-reads.Asked,
-      globals-reads.Learnt,
-      task-table-reads.Asked,
-      task-table-reads.Learnt,
-      hold-and-budget-reads.Asked,
-      hold-and-budget-reads.Learnt,
+      hold-table-reads.Asked,
+      hold-table-reads.Learnt,
       key-table-reads.Asked,
       key-table-reads.Learnt,
       fill-seats-reads.Asked,
@@ -46,33 +40,27 @@ Here =
 
 -- they are those of the plan and the state
 made : (c : Here)
-    → let k = c .before .before .before in let h = k .before .before .before in let a = h .before .before .before .before .before .before .args in
-    Made (a .file .now) (a .state) (h .hold-and-budget .result) (h .hold-and-budget .last .1 .1 .1 .0) (k .key-table .result) (c .fill-seats .last .1 .1 .1 .0)
+    → let k = c .before .before .before in let h = k .before .before .before .before in let a = h .before .before .before .before .args in
+    Made (a .file .now) (a .state) (h .hold-table .last .1 .0) (h .hold-table .last .1 .1 .0) (k .key-table .result) (c .fill-seats .last .1 .1 .1 .0)
 made c =
     let k = c .before .before .before in
-    let h = k .before .before .before in
+    let h = k .before .before .before .before in
     record {
-      plan = h .before .before .before .before .before .before .pre;
-      holds = h .hold-and-budget .ensures .0;
-      budgets = record { long = h .hold-and-budget .ensures .1; at = h .hold-and-budget .ensures .2 };
+      plan = h .before .before .before .before .pre;
+      holds = h .hold-table .ensures .0;
+      budgets = h .hold-table .ensures .1;
       keys = k .key-table .ensures;
       seats = c .fill-seats .ensures;
     }
 
-globals-requires : tie.Need-globals-requires
-globals-requires c κs = search needs
+slice-aggregate-hold-table : tie.Need-slice-aggregate-hold-table
+slice-aggregate-hold-table c = search needs
 
-task-table-requires : tie.Need-task-table-requires
-task-table-requires c κs = search needs
+slice-aggregate-hold-table-2 : tie.Need-slice-aggregate-hold-table-2
+slice-aggregate-hold-table-2 c = search needs
 
-slice-aggregate-hold-and-budget : tie.Need-slice-aggregate-hold-and-budget
-slice-aggregate-hold-and-budget c = search needs
-
-slice-aggregate-hold-and-budget-2 : tie.Need-slice-aggregate-hold-and-budget-2
-slice-aggregate-hold-and-budget-2 c = search needs
-
-hold-and-budget-requires : tie.Need-hold-and-budget-requires
-hold-and-budget-requires c κs = search needs
+hold-table-requires : tie.Need-hold-table-requires
+hold-table-requires c κs = search needs
 
 key-table-requires : tie.Need-key-table-requires
 key-table-requires c κs = search needs
@@ -198,11 +186,9 @@ pub act-spec : {M : Type 1} → statement M
 act-spec =
     tie.close
     (tie.spec
-    globals-requires
-    task-table-requires
-    slice-aggregate-hold-and-budget
-    slice-aggregate-hold-and-budget-2
-    hold-and-budget-requires
+    slice-aggregate-hold-table
+    slice-aggregate-hold-table-2
+    hold-table-requires
     key-table-requires
     slice-aggregate-fill-seats
     slice-aggregate-fill-seats-2

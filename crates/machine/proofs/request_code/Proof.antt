@@ -1,5 +1,4 @@
 -- The task found, the counts, the table of hold times and the task's row decide, in this order.
-use Prim.Native.Nat.{_+_, _*_}
 use mathlib.Core.Path.{_≡_, sym, _∙_}
 use native.Mathlib.Omega.{arith}
 use borrow.Author.Needs.{needs}
@@ -7,7 +6,8 @@ use lib.ListN.{getD}
 use Rattle.plan.specs.Plan.{Valid, planOf}
 use Rattle.plan.proofs.Laws.{valid-plan}
 use Rattle.equations.specs.HoldTimes.{holdAt}
-use Rattle.machine.proofs.Asked.{column-at, request-11, request-12, request-share, request-15, request-0}
+use Rattle.holds.specs.Holds.{cell}
+use Rattle.machine.proofs.Asked.{cell-at, request-11, request-12, request-share, request-15, request-0}
 use Rattle.machine.proofs.request_code.Statement.{statement}
 use Rattle.machine.proofs.request_code.Tie as tie
 
@@ -23,10 +23,10 @@ valid c = valid-plan _ (start c .pre .0)
 
 -- the table's hold time is the plan's
 hold : (c : tie.After-wide2)
-    → getD (start c .args .holds .now) (c .wide2 .result * 64 + found c .task-number .result) 0
+    → getD (start c .args .holds .now) (cell (found c .task-number .result) (c .wide2 .result)) 0
     ≡ holdAt (planOf (start c .args .file .now)) (found c .task-number .result) (start c .args .q)
 hold c =
-    column-at _ _ (start c .pre .1) (c .wide2 .ensures .0) (omega (arith, valid c .tasks)) (omega (arith, valid c .resources))
+    cell-at _ _ (start c .pre .1) (c .wide2 .ensures .0) (omega (arith, valid c .tasks)) (omega (arith, valid c .resources))
 
 -- ── the needs ──
 counts-requires : tie.Need-counts-requires
@@ -44,11 +44,11 @@ returns c = request-11 _ _ _ _ (c .before .before .task-number .ensures) (omega 
 returns-2 : tie.Need-returns-2
 returns-2 c = request-12 _ _ _ _ (c .before .before .before .before .task-number .ensures) (omega arith) (omega arith)
 
-wide-requires-2 : tie.Need-wide-requires-2
-wide-requires-2 c κs = search needs
-
 mul-if3 : tie.Need-mul-if3
 mul-if3 c = search needs
+
+wide-requires-2 : tie.Need-wide-requires-2
+wide-requires-2 c κs = search needs
 
 add-if3 : tie.Need-add-if3
 add-if3 c = search needs
@@ -96,8 +96,8 @@ request-code-spec =
     wide-requires
     returns
     returns-2
-    wide-requires-2
     mul-if3
+    wide-requires-2
     add-if3
     mul-if3-2
     shared-slice-read-if3

@@ -42,7 +42,7 @@ accepted c =
       tasks-long = tasks-long a;
       lines-long = lines-long a;
       code = sym (c .before .before .request-code .ensures) ∙ c .before .if1 .left;
-      columns = a .pre .1;
+      cells = a .pre .1;
       shares = a .pre .2;
       seated = a .pre .3;
     }
@@ -111,7 +111,7 @@ element-copy-out-held : tie.Need-element-copy-out-held
 element-copy-out-held c = low-resource (c .before)
 
 mul-hold : tie.Need-mul-hold
-mul-hold c = search needs
+mul-hold c = omega (arith, low-task (c .before .before .before .before))
 
 add-hold : tie.Need-add-hold
 add-hold c = omega (arith, low-resource (c .before .before), low-task (c .before .before .before .before))
@@ -124,11 +124,11 @@ shared-slice-read-hold c =
     let t = c .before .before .before .before .before in
     omega (arith, low-resource (c .before .before .before), low-task t, start t .pre .1 .long)
 
-mul-budget : tie.Need-mul-budget
-mul-budget c = search needs
-
 wide-requires-2 : tie.Need-wide-requires-2
 wide-requires-2 c κs = search needs
+
+mul-budget : tie.Need-mul-budget
+mul-budget c = search needs
 
 add-budget : tie.Need-add-budget
 add-budget c = search needs
@@ -153,8 +153,8 @@ returns-2 c =
     let m = c .before .before .before .before in
     ask-granted (accepted (found m)) (named m) (counted m .ahead-of .ensures .0) (c .before .before .join .ensures) (c .if2 .taken)
 
-wait-of-requires : tie.Need-wait-of-requires
-wait-of-requires c κs =
+wait-in-requires : tie.Need-wait-in-requires
+wait-in-requires c κs =
     let m = c .before .before .before .before in
     (start (found m) .pre .0, start (found m) .pre .2, low-resource (counted m .before))
 
@@ -167,19 +167,19 @@ add-t35 c = search needs
 mul-t36 : tie.Need-mul-t36
 mul-t36 c =
     let n = counted (c .before .before .before .before .before .before) in
-    omega (arith, waits-high _ _ (n .ahead-of .ensures .2) (c .before .wait-of .ensures .1))
+    omega (arith, waits-high _ _ (n .ahead-of .ensures .2) (c .before .wait-in .ensures .1))
 
 add-t37 : tie.Need-add-t37
 add-t37 c =
     let n = counted (c .before .before .before .before .before .before .before) in
-    omega (arith, n .ahead-of .ensures .3, waits-high _ _ (n .ahead-of .ensures .2) (c .before .before .wait-of .ensures .1))
+    omega (arith, n .ahead-of .ensures .3, waits-high _ _ (n .ahead-of .ensures .2) (c .before .before .wait-in .ensures .1))
 
 returns-3 : tie.Need-returns-3
 returns-3 c =
     let w = c .before .before in
     let m = w .before .before .before .before .before in
     let n = counted m .ahead-of in
-    ask-waits (accepted (found m)) (named m) (n .ensures .0) (w .before .before .before .join .ensures) (w .before .if2 .left) (n .ensures .1) (w .wait-of .ensures .0)
+    ask-waits (accepted (found m)) (named m) (n .ensures .0) (w .before .before .before .join .ensures) (w .before .if2 .left) (n .ensures .1) (w .wait-in .ensures .0)
 
 pub request-on-spec : {M : Type 1} → statement M
 request-on-spec =
@@ -198,14 +198,14 @@ request-on-spec =
     add-hold
     mul-hold-2
     shared-slice-read-hold
-    mul-budget
     wide-requires-2
+    mul-budget
     add-budget
     mul-budget-2
     shared-slice-read-budget
     join-requires
     returns-2
-    wait-of-requires
+    wait-in-requires
     cast-t34
     add-t35
     mul-t36

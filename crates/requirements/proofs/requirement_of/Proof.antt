@@ -21,9 +21,9 @@ waiting-side-requires c κs = search needs
 
 compared-requires : tie.Need-compared-requires
 compared-requires c κs =
-    let h = c .before .before .before .before .before .before .before .before .pre in
+    let h = c .before .before .before .before .before .before .before .before .before .pre in
     let z = c .before .tolerance-of in
-    tolerance-fits _ (valid-plan _ (h .0)) _ (h .6) (back _ (z .ok) ∙ z .ensures)
+    tolerance-fits _ (valid-plan _ (h .0)) _ (h .7) (back _ (z .ok) ∙ z .ensures)
 
 returns : tie.Need-returns
 returns c =

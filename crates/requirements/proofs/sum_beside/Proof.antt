@@ -10,10 +10,10 @@ use Rattle.requirements.proofs.sum_beside.Statement.{statement}
 use Rattle.requirements.proofs.sum_beside.Tie as tie
 
 abbrev Inv-loop : tie.InvT-loop
-Inv-loop tasks column n i mine sum₀ j₀ sum j = (j ≤ n) × (sum ≤ j * 65535) × (sum ≡ sumBeside tasks column j i)
+Inv-loop tasks holds n i q mine sum₀ j₀ sum j = (j ≤ n) × (sum ≤ j * 65535) × (sum ≡ sumBeside tasks holds j i q)
 
 abbrev μ-loop : tie.MeasureT-loop
-μ-loop tasks column n i mine sum₀ j₀ sum j = n - j
+μ-loop tasks holds n i q mine sum₀ j₀ sum j = n - j
 
 add-mine : tie.Need-add-mine Inv-loop μ-loop
 add-mine c = omega arith
@@ -39,6 +39,12 @@ shared-slice-read-place c = omega arith
 
 mul-chosen : tie.Need-mul-chosen Inv-loop μ-loop
 mul-chosen c = omega arith
+
+add-chosen : tie.Need-add-chosen Inv-loop μ-loop
+add-chosen c = omega arith
+
+mul-chosen-2 : tie.Need-mul-chosen-2 Inv-loop μ-loop
+mul-chosen-2 c = omega arith
 
 shared-slice-read-chosen : tie.Need-shared-slice-read-chosen Inv-loop μ-loop
 shared-slice-read-chosen c = omega arith
@@ -80,6 +86,8 @@ sum-beside-spec =
     mul-place
     shared-slice-read-place
     mul-chosen
+    add-chosen
+    mul-chosen-2
     shared-slice-read-chosen
     chosen-requires
     cast-sum

@@ -2,30 +2,31 @@
 use mathlib.Core.Path.{_∙_}
 use native.Mathlib.Omega.{arith}
 use borrow.Author.Needs.{needs}
+use lib.ListN.{getD}
 use Rattle.plan.specs.Plan.{planOf}
 use Rattle.plan.proofs.Laws.{valid-plan}
-use Rattle.requirements.proofs.Sides.{Waits, waits}
+use Rattle.requirements.proofs.Sides.{Waits, processor-low, waits}
 use Rattle.requirements.proofs.waiting_on.Statement.{statement}
 use Rattle.requirements.proofs.waiting_on.Tie as tie
 use Rattle.requirements.proofs.waiting_on.Reads as reads
 use Rattle.requirements.proofs.waiting_on.Lts as lts
 use Rattle.folds.proofs.wide.Reads as wide-reads
+use Rattle.holds.specs.Holds.{share}
+use Rattle.holds.proofs.wait_in.Reads as wait-in-reads
 use Rattle.plan.proofs.checked.counts.Reads as counts-reads
 use Rattle.plan.proofs.checked.task.Reads as task-reads
 use Rattle.requirements.proofs.sum_beside.Reads as sum-beside-reads
-use Rattle.tables.proofs.budget_in.Reads as budget-in-reads
-use Rattle.tables.proofs.wait_in.Reads as wait-in-reads
 
 -- after the calls
 abbrev Here : Type 0
 Here =
-    lts.After-sum-beside (counts-reads.Asked, counts-reads.Learnt, wide-reads.Asked, wide-reads.Learnt, task-reads.Asked, task-reads.Learnt, budget-in-reads.Asked, budget-in-reads.Learnt, wait-in-reads.Asked, wait-in-reads.Learnt, sum-beside-reads.Asked, sum-beside-reads.Learnt) reads.Pre reads.Post
+    lts.After-sum-beside (counts-reads.Asked, counts-reads.Learnt, wide-reads.Asked, wide-reads.Learnt, task-reads.Asked, task-reads.Learnt, wait-in-reads.Asked, wait-in-reads.Learnt, sum-beside-reads.Asked, sum-beside-reads.Learnt) reads.Pre reads.Post
 
 -- what the calls gave
-known : (c : Here) → let a = c .before .before .before .before .before .before .before .before .before .args in Waits (planOf (a .file .now)) (a .i) (a .q) (c .before .before .budget-in .result) (c .before .wait-in .result) (c .sum-beside .result) (a .count)
+known : (c : Here) → let a = c .before .before .before .before .before .before .before .before .before .before .before .args in Waits (planOf (a .file .now)) (a .i) (a .q) (getD (a .budgets .now) (share (c .before .before .before .wide2 .result) (a .q)) 0) (c .before .wait-in .result) (c .sum-beside .result) (a .count)
 known c =
-    let h = c .before .before .before .before .before .before .before .before .before .pre in
-    waits _ (valid-plan _ (h .0)) _ _ _ _ (h .1) (h .2) (h .3) (h .4) (h .5) (c .before .before .before .before .wide .ensures .0 ∙ c .before .before .before .before .before .counts .ensures .1) (c .before .before .before .task .ensures) (c .before .before .budget-in .ensures) (c .before .wait-in .ensures) (c .sum-beside .ensures .0) (h .6)
+    let h = c .before .before .before .before .before .before .before .before .before .before .before .pre in
+    waits _ (valid-plan _ (h .0)) _ _ _ _ _ (h .1) (h .2) (h .3) (h .4) (h .5) (h .6) (h .7) (c .before .before .before .before .before .wide .ensures .0 ∙ c .before .before .before .before .before .before .counts .ensures .1) (c .before .before .before .before .task .ensures) (c .before .before .before .wide2 .ensures .0) (c .before .wait-in .ensures .0) (c .sum-beside .ensures .0) (h .8)
 
 counts-requires : tie.Need-counts-requires
 counts-requires c κs = search needs
@@ -36,20 +37,34 @@ wide-requires c κs = search needs
 task-requires : tie.Need-task-requires
 task-requires c κs = search needs
 
-budget-in-requires : tie.Need-budget-in-requires
-budget-in-requires c κs = search needs
+wide-requires-2 : tie.Need-wide-requires-2
+wide-requires-2 c κs = search needs
+
+mul-budget : tie.Need-mul-budget
+mul-budget c = search needs
+
+add-budget : tie.Need-add-budget
+add-budget c = search needs
+
+mul-budget-2 : tie.Need-mul-budget-2
+mul-budget-2 c = search needs
+
+shared-slice-read-budget : tie.Need-shared-slice-read-budget
+shared-slice-read-budget c =
+    let h = c .before .before .before .before .before .before .before .before .before .pre in
+    omega (arith, processor-low _ (valid-plan _ (h .0)) _ (h .4) (c .before .before .task .ensures) (c .before .wide2 .ensures .0), h .5, h .3 .long)
 
 cast-budget : tie.Need-cast-budget
-cast-budget c = search needs
+cast-budget c = omega (arith, c .shared-slice-known5 .given (share (c .before .wide2 .result) (c .before .before .before .before .before .before .before .before .before .args .q)))
 
 wait-in-requires : tie.Need-wait-in-requires
 wait-in-requires c κs = search needs
 
 sum-beside-requires : tie.Need-sum-beside-requires
 sum-beside-requires c κs =
-    let h = c .before .before .before .before .before .before .before .before .pre in
+    let h = c .before .before .before .before .before .before .before .before .before .before .pre in
     let n = valid-plan _ (h .0) .tasks in
-    (h .1 .long, h .2 .long, omega (arith, n, c .before .before .before .wide .ensures .0, c .before .before .before .before .counts .ensures .1), omega (arith, n, h .3))
+    (h .1 .long, h .2 .long, omega (arith, n, c .before .before .before .before .wide .ensures .0, c .before .before .before .before .before .counts .ensures .1), omega (arith, n, h .4), h .5)
 
 mul-times : tie.Need-mul-times
 mul-times c = search needs
@@ -58,7 +73,7 @@ sub-times : tie.Need-sub-times
 sub-times c = omega (arith, known c .low)
 
 add-times : tie.Need-add-times
-add-times c = search needs
+add-times c = omega (arith, c .before .before .shared-slice-known5 .given (share (c .before .before .before .wide2 .result) (c .before .before .before .before .before .before .before .before .before .before .before .args .q)))
 
 div-times : tie.Need-div-times
 div-times c = known c .low
@@ -85,7 +100,11 @@ waiting-on-spec =
     counts-requires
     wide-requires
     task-requires
-    budget-in-requires
+    wide-requires-2
+    mul-budget
+    add-budget
+    mul-budget-2
+    shared-slice-read-budget
     cast-budget
     wait-in-requires
     sum-beside-requires

@@ -12,20 +12,20 @@ returns : tie.Need-returns
 unfolding clockTest
 returns c = rw (eq-eqb _ _ (c .if1 .taken))
 
-mul-at : tie.Need-mul-at
-mul-at c = search needs
-
 array-read-wide : tie.Need-array-read-wide
 array-read-wide c = search needs
 
 wide-requires : tie.Need-wide-requires
 wide-requires c κs = search needs
 
-add-at : tie.Need-add-at
-add-at c = search needs
-
 mul-wide : tie.Need-mul-wide
 mul-wide c = search needs
+
+add-wide : tie.Need-add-wide
+add-wide c = search needs
+
+mul-wide-2 : tie.Need-mul-wide-2
+mul-wide-2 c = search needs
 
 shared-slice-read-wide : tie.Need-shared-slice-read-wide
 shared-slice-read-wide c = omega (arith, c .before .before .before .before .before .before .before .before .pre .4 (omega arith))
@@ -58,6 +58,12 @@ shared-slice-read-most c =
 mul-budget : tie.Need-mul-budget
 mul-budget c = search needs
 
+add-budget : tie.Need-add-budget
+add-budget c = search needs
+
+mul-budget-2 : tie.Need-mul-budget-2
+mul-budget-2 c = search needs
+
 shared-slice-read-budget : tie.Need-shared-slice-read-budget
 shared-slice-read-budget c =
     let p = c .before .before .before .before .before .before .before .before .before .before .before .pre in
@@ -74,11 +80,11 @@ clock-ok-spec =
     tie.close
     (tie.spec
     returns
-    mul-at
     array-read-wide
     wide-requires
-    add-at
     mul-wide
+    add-wide
+    mul-wide-2
     shared-slice-read-wide
     wide-requires-2
     sub-first
@@ -87,5 +93,7 @@ clock-ok-spec =
     mul-most-2
     shared-slice-read-most
     mul-budget
+    add-budget
+    mul-budget-2
     shared-slice-read-budget
     returns-2)

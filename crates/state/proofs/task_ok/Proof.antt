@@ -10,11 +10,11 @@ returns : tie.Need-returns
 unfolding taskTest
 returns c = rw (c .if1 .taken)
 
-wide-requires : tie.Need-wide-requires
-wide-requires c κs = search needs
-
 mul-hold : tie.Need-mul-hold
 mul-hold c = search needs
+
+wide-requires : tie.Need-wide-requires
+wide-requires c κs = search needs
 
 add-hold : tie.Need-add-hold
 add-hold c = search needs
@@ -70,8 +70,8 @@ task-ok-spec =
     tie.close
     (tie.spec
     returns
-    wide-requires
     mul-hold
+    wide-requires
     add-hold
     mul-hold-2
     shared-slice-read-hold

@@ -1,8 +1,9 @@
 -- The invariant: the seats passed are taken, and the hold times of those who sit there are summed.
-use Prim.Native.Nat.{_+_, _*_, _-_}
+use Prim.Native.Nat.{_-_}
 use mathlib.Core.Path.{_≡_, refl, sym, _∙_}
 use borrow.Author.Needs.{needs}
 use native.Mathlib.Omega.{arith}
+use Rattle.holds.specs.Holds.{cell}
 use Rattle.state.specs.Seats.{seat}
 use Rattle.steps.proofs.Passing.{seat-read}
 use Rattle.steps.proofs.Taken.{Counted, counted-none, counted-more, found-empty, found-none}
@@ -50,11 +51,11 @@ returns c =
     let e = seat-read (a .seats .now) (a .q) (a .k) (l .j) k (c .before .wide2 .ensures .0) in
     found-empty _ _ _ _ _ _ (l .inv) (c .before .before .before .loop-test .taken) (sym e ∙ c .if1 .taken)
 
-mul-sum : tie.Need-mul-sum Inv-loop μ-loop
-mul-sum c = search needs
-
 sub-sum : tie.Need-sub-sum Inv-loop μ-loop
 sub-sum c = omega (arith, c .if1 .left)
+
+mul-sum : tie.Need-mul-sum Inv-loop μ-loop
+mul-sum c = search needs
 
 add-sum : tie.Need-add-sum Inv-loop μ-loop
 add-sum c = search needs
@@ -73,13 +74,13 @@ shared-slice-read-sum c =
 cast-sum : tie.Need-cast-sum Inv-loop μ-loop
 cast-sum c =
     let q = c .before .before .before .before .before .before .before .before .before .args .q in
-    omega (arith, c .shared-slice-known4 .given (q * 64 + (c .before .before .wide2 .result - 1)) .fits)
+    omega (arith, c .shared-slice-known4 .given (cell (c .before .before .wide2 .result - 1) q) .fits)
 
 add-sum-2 : tie.Need-add-sum-2 Inv-loop μ-loop
 add-sum-2 c =
     let q = c .before .before .before .before .before .before .before .before .before .args .q in
     let i = c .before .before .before .before .before .loop .inv in
-    omega (arith, i .few, i .small, c .shared-slice-known4 .given (q * 64 + (c .before .before .wide2 .result - 1)) .fits)
+    omega (arith, i .few, i .small, c .shared-slice-known4 .given (cell (c .before .before .wide2 .result - 1) q) .fits)
 
 add-j : tie.Need-add-j Inv-loop μ-loop
 add-j c = search needs
@@ -118,8 +119,8 @@ ahead-of-spec =
     wide-requires-2
     cast-t16
     returns
-    mul-sum
     sub-sum
+    mul-sum
     add-sum
     mul-sum-2
     shared-slice-read-sum

@@ -34,11 +34,11 @@ hold-of-requires c κs =
       a .pre .4 _ (omega (arith, a .pre .5 some, low)),
     )
 
-mul-t19 : tie.Need-mul-t19
-mul-t19 c = search needs
-
 wide-requires : tie.Need-wide-requires
 wide-requires c κs = search needs
+
+mul-t20 : tie.Need-mul-t20
+mul-t20 c = search needs
 
 add-t21 : tie.Need-add-t21
 add-t21 c = search needs
@@ -63,8 +63,8 @@ begin-spec =
     array-read-k
     cast-hold-of
     hold-of-requires
-    mul-t19
     wide-requires
+    mul-t20
     add-t21
     mul-t22
     shared-slice-read-t24

@@ -26,14 +26,14 @@ shared-slice-read-wide c = search needs
 wide-requires-2 : tie.Need-wide-requires-2
 wide-requires-2 c κs = search needs
 
-mul-result : tie.Need-mul-result
-mul-result c = search needs
-
 sub-result : tie.Need-sub-result
 sub-result c =
     let a = c .before .before .before .before .before in
     let k = c .before .before .wide .ensures .0 in
     omega (arith, a .pre .5, seat-read (a .args .seats .now) (a .args .q) (a .args .k) (a .args .j) k (c .wide2 .ensures .0))
+
+mul-result : tie.Need-mul-result
+mul-result c = search needs
 
 add-result : tie.Need-add-result
 add-result c = search needs
@@ -65,8 +65,8 @@ hold-of-spec =
     add-wide-2
     shared-slice-read-wide
     wide-requires-2
-    mul-result
     sub-result
+    mul-result
     add-result
     mul-result-2
     shared-slice-read-result

@@ -5,10 +5,10 @@ use Rattle.cases.proofs.asked.holds.Statement.{statement}
 use Rattle.cases.proofs.asked.holds.Tie as tie
 
 abbrev Inv-loop : tie.InvT-loop
-Inv-loop case times i₀ i = i ≤ 1024
+Inv-loop case times x₀ x = x ≤ 1024
 
 abbrev μ-loop : tie.MeasureT-loop
-μ-loop case times i₀ i = 1024 - i
+μ-loop case times x₀ x = 1024 - x
 
 hold-times-requires : tie.Need-hold-times-requires Inv-loop μ-loop
 hold-times-requires c κs = search needs
@@ -28,17 +28,17 @@ text-requires c κs = search needs
 loop-holds : tie.Need-loop-holds Inv-loop μ-loop
 loop-holds c = search needs
 
-mul-if2 : tie.Need-mul-if2 Inv-loop μ-loop
-mul-if2 c = search needs
+mul-time : tie.Need-mul-time Inv-loop μ-loop
+mul-time c = search needs
 
-array-read-if2 : tie.Need-array-read-if2 Inv-loop μ-loop
-array-read-if2 c = search needs
+add-time : tie.Need-add-time Inv-loop μ-loop
+add-time c = search needs
 
-mul-number : tie.Need-mul-number Inv-loop μ-loop
-mul-number c = search needs
+mul-time-2 : tie.Need-mul-time-2 Inv-loop μ-loop
+mul-time-2 c = search needs
 
-array-read-number : tie.Need-array-read-number Inv-loop μ-loop
-array-read-number c = search needs
+array-read-time : tie.Need-array-read-time Inv-loop μ-loop
+array-read-time c = search needs
 
 cast-number : tie.Need-cast-number Inv-loop μ-loop
 cast-number c = search needs
@@ -46,8 +46,8 @@ cast-number c = search needs
 number-requires : tie.Need-number-requires Inv-loop μ-loop
 number-requires c κs = search needs
 
-add-i : tie.Need-add-i Inv-loop μ-loop
-add-i c = search needs
+add-x : tie.Need-add-x Inv-loop μ-loop
+add-x c = search needs
 
 loop-less : tie.Need-loop-less Inv-loop μ-loop
 loop-less c = search needs
@@ -70,13 +70,13 @@ holds-spec =
     slice-aggregate-text
     text-requires
     loop-holds
-    mul-if2
-    array-read-if2
-    mul-number
-    array-read-number
+    mul-time
+    add-time
+    mul-time-2
+    array-read-time
     cast-number
     number-requires
-    add-i
+    add-x
     loop-less
     loop-again
     returns-2)

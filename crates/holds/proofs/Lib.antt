@@ -1,0 +1,9 @@
+pub mod Inserts
+pub mod Rows
+pub mod Ranks
+pub mod Walks
+pub mod Longest
+pub mod Tops
+pub mod Holding
+pub mod Tables
+pub mod Waits

@@ -1,0 +1,139 @@
+-- The tables of longest sections, and which resources the processors use.
+use Prim.Native.Nat.{ℕ, _+_, _*_, _<_, _≤_, max}
+use mathlib.Core.Bool.{Bool, true, false, cond, _&&_, not, and-comm, true≢false}
+use mathlib.Core.List.{List}
+use mathlib.Core.Path.{_≡_, refl, sym, ap, ap₂, _∙_}
+use native.Mathlib.Omega.{arith}
+use borrow.Author.Tests as Tests
+use borrow.Author.Tests.{ltb-true, eqb-true, eq-eqb, ne-eqb}
+use lib.Dec.{eqb, ltb}
+use lib.ListN.{length, getD, set, replicate, length-replicate}
+use Rattle.folds.specs.Below.{maxBelow, countBelow}
+use Rattle.folds.proofs.Tests.{is-not-false, is-not-true, same-test}
+use Rattle.folds.proofs.Figures.{max-same, count-step, count-bound}
+use Rattle.folds.proofs.Arrays.{by-eq, maxedBelow, maxed-length, maxed-at, maxed-step, cell-eqb}
+use Rattle.folds.proofs.Ranges.{max-where-bound, max-where-at}
+use Rattle.rows.specs.declared.SectionRow.{SectionRow}
+use Rattle.plan.specs.Plan.{Plan, Valid}
+use Rattle.equations.specs.Sharing.{processorOf, sectionOn, uses, usedOn}
+use Rattle.equations.specs.HoldTimes.{longestOn}
+use Rattle.equations.proofs.Laws.{used-at, used-out, uses-longest}
+use Rattle.holds.specs.Holds.{cell, Cells}
+use Rattle.holds.specs.Inner.{column, Columns, Row, longestOf}
+use Rattle.holds.proofs.Rows.{row-zeros, row-same}
+
+module _ (p : Plan) where
+  -- where section s counts in the two tables
+  abbrev cellOf : ℕ → ℕ
+  cellOf s = cell (p .section s .task) (p .section s .resource)
+
+  abbrev columnOf : ℕ → ℕ
+  columnOf s = column (p .section s .task) (p .section s .resource)
+
+  abbrev lengthOf : ℕ → ℕ
+  lengthOf s = p .section s .length
+
+  -- the tables after the sections below n
+  abbrev pub rowsBelow : ℕ → List ℕ
+  rowsBelow n = maxedBelow n cellOf lengthOf (replicate 1024 0)
+
+  abbrev pub columnsBelow : ℕ → List ℕ
+  columnsBelow n = maxedBelow n columnOf lengthOf (replicate 1024 0)
+
+module _ (p : Plan) (v : Valid p) where
+  low-task : (s : ℕ) → s < p .sections → p .section s .task < 64
+  low-task s l = omega (arith, v .tasks, v .section-fits s l .task)
+
+  low-resource : (s : ℕ) → s < p .sections → p .section s .resource < 16
+  low-resource s l = omega (arith, v .resources, v .section-fits s l .resource)
+
+  on-cell : (s j q : ℕ) → s < p .sections → q < 16 → eqb (cellOf p s) (cell j q) ≡ sectionOn p j q s
+  on-cell s j q l lq =
+      cell-eqb 16 (p .section s .resource) q (p .section s .task) j (low-resource s l) lq
+      ∙ and-comm (eqb (p .section s .resource) q) (eqb (p .section s .task) j)
+
+  on-column : (s j q : ℕ) → s < p .sections → j < 64 → eqb (columnOf p s) (column j q) ≡ sectionOn p j q s
+  on-column s j q l lj = cell-eqb 64 (p .section s .task) j (p .section s .resource) q (low-task s l) lj
+
+  -- what the two tables hold of task j and resource q
+  cell-most : (n j q : ℕ) → n ≤ p .sections → j < 64 → q < 16 → getD (rowsBelow p n) (cell j q) 0 ≡ maxBelow n (λ s. cond (sectionOn p j q s) (lengthOf p s) 0)
+  cell-most n j q l lj lq =
+      maxed-at n 1024 (cellOf p) (lengthOf p) (cell j q) (omega arith)
+      ∙ max-same n _ _ (λ s ls. ap (λ (b : Bool). cond b (lengthOf p s) 0) (on-cell s j q (omega arith) lq))
+
+  column-most : (n j q : ℕ) → n ≤ p .sections → j < 64 → q < 16 → getD (columnsBelow p n) (column j q) 0 ≡ maxBelow n (λ s. cond (sectionOn p j q s) (lengthOf p s) 0)
+  column-most n j q l lj lq =
+      maxed-at n 1024 (columnOf p) (lengthOf p) (column j q) (omega arith)
+      ∙ max-same n _ _ (λ s ls. ap (λ (b : Bool). cond b (lengthOf p s) 0) (on-column s j q (omega arith) lj))
+
+  -- a turn of the loop over the sections
+  module _ (n : ℕ) (rows columns : List ℕ) {j q : ℕ} {row : SectionRow} (l : n < p .sections) (eRows : rows ≡ rowsBelow p n) (eColumns : columns ≡ columnsBelow p n) (er : row ≡ p .section n) (ej : j ≡ row .task) (eq : q ≡ row .resource) where
+    pub low-cell : (j * 16 + q < length rows) × (q * 64 + j < length columns)
+    low-cell = (rw (eRows, maxed-length, length-replicate, ej, eq, er) (omega (arith, low-task n l, low-resource n l)), rw (eColumns, maxed-length, length-replicate, ej, eq, er) (omega (arith, low-task n l, low-resource n l)))
+
+    module _ {most : ℕ} (e : most ≡ max (getD rows (j * 16 + q) 0) (row .length)) where
+      pub rows-step : set rows (j * 16 + q) most ≡ rowsBelow p (n + 1)
+      rows-step = maxed-step n (cellOf p) (lengthOf p) (replicate 1024 0) eRows (rw (ej, eq, er)) (rw er) e
+
+      pub columns-step : set columns (q * 64 + j) most ≡ columnsBelow p (n + 1)
+      columns-step = maxed-step n (columnOf p) (lengthOf p) (replicate 1024 0) eColumns (rw (ej, eq, er)) (rw er) (e ∙ ap (λ (x : ℕ). max x (row .length)) same)
+        where
+          same : getD rows (j * 16 + q) 0 ≡ getD columns (q * 64 + j) 0
+          same =
+              rw (eRows, eColumns, ej, eq, er)
+              (cell-most n (p .section n .task) (p .section n .resource) (omega arith) (low-task n l) (low-resource n l)
+              ∙ sym (column-most n (p .section n .task) (p .section n .resource) (omega arith) (low-task n l) (low-resource n l)))
+
+  -- its end
+  pub rows-done : (n : ℕ) {t : List ℕ} → n ≡ p .sections → t ≡ rowsBelow p n → Cells (longestOn p) t
+  unfolding longestOn
+  rows-done n e h =
+      rw (h, e)
+      (record {
+        long = maxed-length (p .sections) (cellOf p) (lengthOf p) (replicate 1024 0) ∙ length-replicate {A = ℕ} 1024 0;
+        at = λ j q lj lq. cell-most (p .sections) j q (omega arith) lj lq;
+      })
+
+  pub columns-done : (n : ℕ) {t : List ℕ} → n ≡ p .sections → t ≡ columnsBelow p n → Columns (longestOn p) t
+  unfolding longestOn
+  columns-done n e h =
+      rw (h, e)
+      (record {
+        long = maxed-length (p .sections) (columnOf p) (lengthOf p) (replicate 1024 0) ∙ length-replicate {A = ℕ} 1024 0;
+        at = λ j q lj lq. column-most (p .sections) j q (omega arith) lj lq;
+      })
+
+  -- ── who uses what ──
+
+  -- a processor uses q where its longest section there is not 0
+  longest-used : (k q : ℕ) → _≡_ {A = ℕ} (cond (eqb (longestOf p k q) 0) 0 1) (cond (usedOn p k q) 1 0)
+  longest-used k q = go (usedOn p k q) refl
+    where
+      go : (b : Bool) → usedOn p k q ≡ b → _≡_ {A = ℕ} (cond (eqb (longestOf p k q) 0) 0 1) (cond b 1 0)
+      go true u =
+          rw (ne-eqb (longestOf p k q) 0
+          (used-out p k q (longestOf p k q ≡ 0 → ⊥) u
+          (λ i l own s z. omega (arith, z, max-where-at (p .tasks) i (λ j. eqb (processorOf p j) k) (λ j. longestOn p j q) l (eq-eqb (processorOf p i) k own), ltb-true 0 (longestOn p i q) (sym (uses-longest p v i q) ∙ s)))))
+      go false u =
+          let none : longestOf p k q ≤ 0 = max-where-bound (p .tasks) 0 (λ j. eqb (processorOf p j) k) (λ j. longestOn p j q) (λ i l t. idle i l (eqb-true _ _ t)) in
+          rw (eq-eqb (longestOf p k q) 0 (omega (arith, none)))
+        where
+          idle : (i : ℕ) → i < p .tasks → processorOf p i ≡ k → longestOn p i q ≤ 0
+          idle i l own =
+              Tests.ltb-false 0 (longestOn p i q)
+              (sym (uses-longest p v i q) ∙ is-not-true (uses p i q) (λ s. true≢false (sym (rw own at (used-at p i q l s)) ∙ u)))
+
+  -- how many of the processors below k use each resource
+  abbrev pub UsersBelow : ℕ → List ℕ → Type 0
+  UsersBelow k = Row (λ q. countBelow k (λ l. usedOn p l q))
+
+  pub users-none : UsersBelow 0 (replicate 16 0)
+  unfolding countBelow
+  users-none = row-zeros _ (λ q l. refl)
+
+  pub users-low : (k : ℕ) {users : List ℕ} → UsersBelow k users → k < 8 → (q : ℕ) → q < 16 → getD users q 0 < 8
+  users-low k u l q lq = omega (arith, u .at q lq, count-bound k (λ l. usedOn p l q))
+
+  pub users-step : (k : ℕ) (users row : List ℕ) {next : List ℕ} → UsersBelow k users → Row (longestOf p k) row → Row (λ q. getD users q 0 + cond (eqb (getD row q 0) 0) 0 1) next → UsersBelow (k + 1) next
+  users-step k users row u r n =
+      row-same _ _ n (λ q l. count-step k (λ l. usedOn p l q) (u .at q l) (rw (r .at q l) (longest-used k q)))
