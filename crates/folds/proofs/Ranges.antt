@@ -90,3 +90,24 @@ sum-insert (suc n) i a b f l p q h =
   where
     one : (j : ℕ) → a j ≡ b j → cond (a j) (f j) 0 ≡ cond (b j) (f j) 0
     one j e = rw e
+
+-- the greatest figure of those that have b, and of i beside them
+pub max-insert : (n i : ℕ) (a b : ℕ → Bool) (f : ℕ → ℕ) → i < n → a i ≡ true → ((j : ℕ) → j < n → (j ≡ i → ⊥) → a j ≡ b j) → b i ≡ false
+    → maxBelow n (λ j. cond (a j) (f j) 0) ≡ max (maxBelow n (λ j. cond (b j) (f j) 0)) (f i)
+max-insert n i a b f l p h q =
+    let own = max-where-at n i a f l p in
+    let all = max-where-bound n (maxBelow n (λ j. cond (a j) (f j) 0)) b f (λ j lj t. at j lj t) in
+    let some = max-where-bound n (max (maxBelow n (λ j. cond (b j) (f j) 0)) (f i)) a f (λ j lj t. of j lj t) in
+    omega (arith, own, all, some)
+  where
+    at : (j : ℕ) → j < n → b j ≡ true → f j ≤ maxBelow n (λ j. cond (a j) (f j) 0)
+    at j lj t =
+        by-eq (λ (d : Bool). f j ≤ maxBelow n (λ j. cond (a j) (f j) 0)) j i
+        (λ e. rw (e) (max-where-at n i a f l p))
+        (λ d. max-where-at n j a f lj (h j lj d ∙ t))
+
+    of : (j : ℕ) → j < n → a j ≡ true → f j ≤ max (maxBelow n (λ j. cond (b j) (f j) 0)) (f i)
+    of j lj t =
+        by-eq (λ (d : Bool). f j ≤ max (maxBelow n (λ j. cond (b j) (f j) 0)) (f i)) j i
+        (λ e. rw e (omega arith))
+        (λ d. let m = max-where-at n j b f lj (sym (h j lj d) ∙ t) in omega (arith, m))

@@ -8,6 +8,7 @@ use native.Mathlib.Omega.{arith}
 use native.Mathlib.Nat.{eq-or-lt-of-le, le-of-suc-le-suc, not-suc-le-zero}
 use borrow.Author.Tests.{lt-ltb, le-ltb, not-true, not-false}
 use lib.Dec.{ltb}
+use mir.Val.{boolByte}
 use Rattle.folds.specs.Below.{allBelow, anyBelow, findBelow}
 
 -- both parts of a test that held
@@ -164,3 +165,12 @@ find-at (suc n) i f l h q =
     (λ e. let none : findBelow n f ≡ n = find-none n f (rw e at h) in rw (none, le-ltb n n (omega arith), rw e at q) (sym e))
     (λ lt. let found : findBelow n f ≡ i = find-at n i f lt h q in rw (found, lt-ltb i n lt))
     (eq-or-lt-of-le (le-of-suc-le-suc l))
+
+-- a test as a number
+pub byte-count : (b : Bool) → boolByte b ≡ cond b 1 0
+byte-count true = refl
+byte-count false = refl
+
+pub byte-le : (b : Bool) → boolByte b ≤ 1
+byte-le true = omega arith
+byte-le false = omega arith

@@ -1,4 +1,3 @@
-pub mod Inserts
 pub mod Rows
 pub mod Ranks
 pub mod Walks

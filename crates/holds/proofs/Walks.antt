@@ -10,14 +10,13 @@ use lib.ListN.{getD, replicate}
 use Rattle.folds.specs.Below.{maxBelow}
 use Rattle.folds.proofs.Tests.{is-not-false, same-test, any-none}
 use Rattle.folds.proofs.Figures.{max-same, count-bound}
-use Rattle.folds.proofs.Ranges.{max-none}
+use Rattle.folds.proofs.Ranges.{max-none, max-insert}
 use Rattle.folds.proofs.Arrays.{by-eq}
 use Rattle.plan.specs.Plan.{Plan, Valid}
 use Rattle.equations.specs.Sharing.{processorOf, priorityOf, higher}
 use Rattle.equations.specs.HoldTimes.{longestOn}
 use Rattle.holds.specs.Holds.{cell, Cells}
 use Rattle.holds.specs.Inner.{part, Row, rankOf, Sits, Orders, longestOf}
-use Rattle.holds.proofs.Inserts.{max-insert}
 use Rattle.holds.proofs.Rows.{row-zeros, row-same}
 use Rattle.holds.proofs.Ranks.{load, rank-order, rank-below, rank-distinct}
 

@@ -13,7 +13,7 @@ use Rattle.plan.proofs.Laws.{valid-plan}
 use Rattle.equations.specs.Sharing.{processorOf}
 use Rattle.equations.specs.HoldTimes.{holdAt}
 use Rattle.holds.specs.Holds.{Cells, Shares}
-use Rattle.ranks.proofs.Searches.{on-le}
+use Rattle.folds.proofs.Searches.{on-le}
 use Rattle.protocol.specs.declared.Call.{Call}
 use Rattle.protocol.specs.declared.Answer.the-variants.{Refused}
 use Rattle.protocol.specs.Machine.{callCode, answer}

@@ -18,7 +18,7 @@ use Rattle.protocol.specs.declared.Answer.{Answer}
 use Rattle.protocol.specs.declared.Answer.the-variants.{Next}
 use Rattle.protocol.specs.declared.Call.the-variants.{Release}
 use Rattle.protocol.specs.Machine.{Lines, releaseCode, answer, step}
-use Rattle.ranks.proofs.Searches.{on-eq}
+use Rattle.folds.proofs.Searches.{on-eq}
 use Rattle.state.specs.declared.Line.{Line}
 use Rattle.state.specs.declared.State.{State}
 use Rattle.state.specs.Shows.{lineAt, slot, shows}

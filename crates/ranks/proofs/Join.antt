@@ -12,7 +12,7 @@ use Rattle.folds.specs.Below.{maxBelow}
 use Rattle.folds.proofs.Figures.{max-at, max-bound}
 use Rattle.line.specs.Rules.{Terms, Turn, turn, line, join, entered}
 use Rattle.ranks.specs.Ranks.{listFrom, taskAt, othersOf, turnOf, queueFrom}
-use Rattle.ranks.proofs.Searches.{on-eq, find-same, find-is}
+use Rattle.folds.proofs.Searches.{on-eq, find-same, find-is}
 use Rattle.ranks.proofs.Lists.{list-same, list-snoc}
 use Rattle.ranks.proofs.Ranked.{At, Queued}
 use Rattle.ranks.proofs.Same.{same-turn}

@@ -12,7 +12,7 @@ use Rattle.folds.proofs.Figures.{max-at, max-bound}
 use Rattle.folds.proofs.Arrays.{by-eq}
 use Rattle.line.specs.Rules.{Terms, Turn, line, begin, leave, ticked}
 use Rattle.ranks.specs.Ranks.{listFrom, taskAt, othersOf, turnOf, queueFrom}
-use Rattle.ranks.proofs.Searches.{find-same, same-eqb}
+use Rattle.folds.proofs.Searches.{find-same, same-eqb}
 use Rattle.ranks.proofs.Lists.{list-same, list-shift, list-snoc}
 use Rattle.ranks.proofs.Ranked.{Queued}
 use Rattle.ranks.proofs.Same.{same-task, same-turn}

@@ -7,7 +7,7 @@ use Rattle.folds.specs.Below.{maxBelow}
 use Rattle.folds.proofs.Figures.{max-same}
 use Rattle.line.specs.Rules.{Terms}
 use Rattle.ranks.specs.Ranks.{taskAt}
-use Rattle.ranks.proofs.Searches.{on-eq}
+use Rattle.folds.proofs.Searches.{on-eq}
 use Rattle.ranks.proofs.Ranked.{At, Ranked, Queued, Timed, task-rank, owner, sole, full}
 use Rattle.ranks.proofs.Same.{same-task}
 use Rattle.ranks.proofs.Leave.{Leaves, leave-other, leave-max, leave-task}

@@ -1,4 +1,3 @@
-pub mod Searches
 pub mod Lists
 pub mod Ranked
 pub mod Same

@@ -5,7 +5,7 @@ use mathlib.Core.Path.{_≡_, refl, ap, ap₂}
 use native.Mathlib.Omega.{arith}
 use lib.ListN.{length}
 use Rattle.ranks.specs.Ranks.{listFrom}
-use Rattle.ranks.proofs.Searches.{on-eq}
+use Rattle.folds.proofs.Searches.{on-eq}
 
 module _ {A : Type 0} where
   -- functions that agree on the numbers of a list give one list

@@ -14,7 +14,7 @@ use Rattle.folds.proofs.Ranges.{max-where-bound, max-where-at}
 use Rattle.folds.proofs.Arrays.{by-eq}
 use Rattle.line.specs.Rules.{Terms}
 use Rattle.ranks.specs.Ranks.{taskAt}
-use Rattle.ranks.proofs.Searches.{on-eq, on-le, find-passes, find-first, pigeon}
+use Rattle.folds.proofs.Searches.{on-eq, on-le, find-passes, find-first, pigeon}
 
 -- a place of the queue at which processor k stands
 pub record At (c : ℕ) (g : ℕ → ℕ) (k : ℕ) : Type 0 where

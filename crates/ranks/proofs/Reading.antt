@@ -12,7 +12,7 @@ use Rattle.folds.proofs.Figures.{max-at}
 use Rattle.folds.proofs.Arrays.{by-eq}
 use Rattle.line.specs.Rules.{Terms, line, among, standsIn, tasksOf, holds}
 use Rattle.ranks.specs.Ranks.{listFrom, taskAt, othersOf, turnOf, queueFrom}
-use Rattle.ranks.proofs.Searches.{on-eq, on-le}
+use Rattle.folds.proofs.Searches.{on-eq, on-le}
 use Rattle.ranks.proofs.Ranked.{At, Ranked, Queued, task-rank, owner, full}
 
 -- the tasks of a turn, first and others

@@ -8,7 +8,7 @@ use Rattle.folds.specs.Below.{maxBelow}
 use Rattle.folds.proofs.Figures.{max-same}
 use Rattle.line.specs.Rules.{Terms, turn}
 use Rattle.ranks.specs.Ranks.{taskAt, othersOf, turnOf, queueFrom}
-use Rattle.ranks.proofs.Searches.{find-same}
+use Rattle.folds.proofs.Searches.{find-same}
 use Rattle.ranks.proofs.Lists.{list-same}
 use Rattle.ranks.proofs.Ranked.{At, Ranked, Queued, Timed}
 

@@ -8,7 +8,7 @@ use Rattle.folds.specs.Below.{maxBelow}
 use Rattle.folds.proofs.Figures.{max-at}
 use Rattle.line.specs.Rules.{Terms, turn}
 use Rattle.ranks.specs.Ranks.{listFrom, taskAt, othersOf, turnOf, queueFrom}
-use Rattle.ranks.proofs.Searches.{on-eq}
+use Rattle.folds.proofs.Searches.{on-eq}
 use Rattle.ranks.proofs.Lists.{list-at, list-length}
 use Rattle.ranks.proofs.Ranked.{At, Ranked, Queued, task-rank, sole}
 

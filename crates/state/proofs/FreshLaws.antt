@@ -10,7 +10,7 @@ use Rattle.folds.proofs.Tests.{all-from, any-none, is-not-true}
 use Rattle.plan.specs.Plan.{Plan, Valid}
 use Rattle.protocol.specs.Machine.{fresh}
 use Rattle.ranks.specs.Ranks.{listFrom}
-use Rattle.ranks.proofs.Searches.{on-le}
+use Rattle.folds.proofs.Searches.{on-le}
 use Rattle.state.specs.declared.Standing.{Standing}
 use Rattle.state.specs.Shows.{standing, noneInLine, noLine, freeLine, lineAt, rank, shows, freshState}
 use Rattle.state.specs.Sound.{taskFits, serves, slotFits, coreFits, clockFits, lineFits, sound}

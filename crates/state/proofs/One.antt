@@ -12,7 +12,7 @@ use Rattle.equations.specs.Sharing.{processorOf}
 use Rattle.equations.specs.HoldTimes.{holdAt}
 use Rattle.line.specs.Rules.{Turn, line}
 use Rattle.protocol.specs.Machine.{Lines}
-use Rattle.ranks.proofs.Searches.{on-le}
+use Rattle.folds.proofs.Searches.{on-le}
 use Rattle.ranks.proofs.Shown.{same-count, same-slots, same-ranks}
 use Rattle.state.specs.declared.Standing.{Standing}
 use Rattle.state.specs.declared.Line.{Line}

@@ -14,7 +14,7 @@ use Rattle.line.specs.Rules.{Terms, line, among, hasTurn}
 use Rattle.line.proofs.Sound.{Owns, Proper, nobody, stands, Sound, is-free, is-held}
 use Rattle.protocol.proofs.SoundLines.{known, SoundAt, SoundLines}
 use Rattle.ranks.specs.Ranks.{listFrom, taskAt, othersOf, turnOf, queueFrom}
-use Rattle.ranks.proofs.Searches.{on-le}
+use Rattle.folds.proofs.Searches.{on-le}
 use Rattle.ranks.proofs.Reading.{all-tasks}
 use Rattle.ranks.proofs.Ranked.{Ranked, Queued, Timed, task-rank, owner, full}
 use Rattle.state.specs.declared.State.{State}

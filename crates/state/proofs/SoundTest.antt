@@ -19,7 +19,7 @@ use Rattle.equations.specs.HoldTimes.{holdAt}
 use Rattle.protocol.specs.Machine.{terms}
 use Rattle.holds.specs.Holds.{cell, Cells, share, Shares}
 use Rattle.ranks.specs.Ranks.{taskAt}
-use Rattle.ranks.proofs.Searches.{on-eq, on-le, find-is}
+use Rattle.folds.proofs.Searches.{on-eq, on-le, find-is}
 use Rattle.ranks.proofs.Ranked.{At, Ranked, task-rank, task-first, sole, ranks-few, full}
 use Rattle.state.specs.declared.Standing.{Standing}
 use Rattle.state.specs.declared.Line.{Line}

@@ -17,7 +17,7 @@ use Rattle.equations.specs.HoldTimes.{holdTime, holdAt}
 use Rattle.equations.proofs.Laws.{uses-out, hold-low}
 use Rattle.protocol.specs.Machine.{terms}
 use Rattle.ranks.specs.Ranks.{taskAt}
-use Rattle.ranks.proofs.Searches.{on-eq, on-le, find-is}
+use Rattle.folds.proofs.Searches.{on-eq, on-le, find-is}
 use Rattle.ranks.proofs.Ranked.{At, Ranked, task-rank, task-first, max-there, sole}
 use Rattle.state.specs.declared.Standing.{Standing}
 use Rattle.state.specs.declared.Line.{Line}

@@ -19,7 +19,7 @@ use Rattle.line.specs.Rules.{line, queueOf, inLine, tasksOf, sumOf, limit}
 use Rattle.protocol.specs.declared.Answer.the-variants.{Granted, Waits}
 use Rattle.protocol.specs.Machine.{terms, busy, requestTold}
 use Rattle.ranks.specs.Ranks.{listFrom, taskAt, queueFrom}
-use Rattle.ranks.proofs.Searches.{on-le, find-is}
+use Rattle.folds.proofs.Searches.{on-le, find-is}
 use Rattle.steps.proofs.Ready.{seat-task}
 use Rattle.ranks.proofs.Lists.{list-snoc, list-length}
 use Rattle.ranks.proofs.Ranked.{task-rank, ranks-few, full}

@@ -15,7 +15,7 @@ use Rattle.folds.proofs.EachLaws.{each-at}
 use Rattle.plan.specs.Plan.{Plan, Valid}
 use Rattle.equations.specs.Sharing.{processorOf}
 use Rattle.equations.specs.HoldTimes.{holdAt}
-use Rattle.ranks.proofs.Searches.{on-eq, on-le}
+use Rattle.folds.proofs.Searches.{on-eq, on-le}
 use Rattle.ranks.proofs.Leave.{Leaves}
 use Rattle.state.specs.declared.Standing.{Standing}
 use Rattle.state.specs.declared.State.{State}

@@ -21,7 +21,7 @@ use Rattle.line.specs.Rules as Rules
 use Rattle.line.specs.Rules.{entered}
 use Rattle.protocol.specs.Machine.{terms, change}
 use Rattle.ranks.specs.Ranks.{listFrom}
-use Rattle.ranks.proofs.Searches.{on-eq, on-le}
+use Rattle.folds.proofs.Searches.{on-eq, on-le}
 use Rattle.ranks.proofs.Ranked.{At, Timed, room, queued-few}
 use Rattle.ranks.proofs.Same.{same-ranked, same-queued, same-timed, same-queue}
 use Rattle.ranks.proofs.Join.{Joins, enter-free, enter-new, enter-there}

@@ -14,7 +14,7 @@ use Rattle.line.specs.Rules as Rules
 use Rattle.protocol.specs.declared.Answer.the-variants.{Next, Free}
 use Rattle.protocol.specs.Machine.{change, terms, releaseTold}
 use Rattle.ranks.specs.Ranks.{listFrom, taskAt, queueFrom}
-use Rattle.ranks.proofs.Searches.{same-eqb}
+use Rattle.folds.proofs.Searches.{same-eqb}
 use Rattle.ranks.proofs.Ranked.{full}
 use Rattle.ranks.proofs.Reading.{holds-none, holds-first}
 use Rattle.ranks.proofs.Leave.{Leaves}

@@ -6,17 +6,12 @@ use mathlib.Core.Path.{_≡_}
 use lib.Dec.{eqb, ltb}
 use lib.ListN.{getD, set, replicate}
 use borrow.Author.Tests.{ltb-true}
-use Rattle.folds.specs.Words.{wordBelow}
 use Rattle.folds.proofs.Tests.{and-parts}
 use Rattle.folds.proofs.Arrays.{stampedBelow, stamped-step}
 use Rattle.state.specs.declared.Line.{Line}
 use Rattle.state.specs.Shows.{noLine, slot}
 use Rattle.state.specs.Seats.{queueAt}
 use Rattle.steps.specs.Steps.{ends, endedOf}
-
--- the end of a loop that gathers bits
-pub word-done : (n i : ℕ) (f : ℕ → Bool) {w : ℕ} → i ≡ n → w ≡ wordBelow i f → w ≡ wordBelow n f
-word-done n i f e p = rw (← e, p)
 
 -- where a tick cuts the holder, somebody is queued
 pub cut-queued : (l : Line) → ends l ≡ true → 1 ≤ l .queued

@@ -20,7 +20,7 @@ use Rattle.equations.proofs.Laws.{budget-holds}
 use Rattle.line.specs.Rules as Rules
 use Rattle.protocol.specs.Machine.{Lines, terms}
 use Rattle.ranks.specs.Ranks.{listFrom, taskAt, queueFrom}
-use Rattle.ranks.proofs.Searches.{on-eq, on-le}
+use Rattle.folds.proofs.Searches.{on-eq, on-le}
 use Rattle.ranks.proofs.Ranked.{Ranked, Queued, task-rank, full}
 use Rattle.ranks.proofs.Same.{same-queue, same-queued, same-timed, same-ranked}
 use Rattle.ranks.proofs.Leave.{Leaves, leave-max, after-first, begin-none, begin-some, leave-last, leave-next, leave-back}

@@ -11,7 +11,7 @@ use Rattle.plan.specs.Plan.{Plan, Valid}
 use Rattle.equations.specs.HoldTimes.{holdAt}
 use Rattle.holds.specs.Holds.{Cells, Shares}
 use Rattle.ranks.specs.Ranks.{taskAt}
-use Rattle.ranks.proofs.Searches.{on-le}
+use Rattle.folds.proofs.Searches.{on-le}
 use Rattle.ranks.proofs.Ranked.{seated, sole, full}
 use Rattle.state.specs.declared.State.{State}
 use Rattle.state.specs.Shows.{lineAt, slot, rank}

@@ -12,12 +12,13 @@ use Rattle.folds.specs.Below.{anyBelow}
 use Rattle.folds.specs.Words.{bitOf, wordBelow}
 use Rattle.folds.proofs.Tests.{and-parts, same-test, any-at, any-out}
 use Rattle.folds.proofs.Arrays.{stamped-at}
+use Rattle.folds.proofs.WordLaws.{word-same}
 use Rattle.folds.proofs.EachLaws.{each-at, each-length}
 use Rattle.plan.specs.Plan.{Plan, Valid}
 use Rattle.line.specs.Rules as Rules
 use Rattle.protocol.specs.Machine.{terms, held, regranted}
 use Rattle.ranks.specs.Ranks.{listFrom, queueFrom}
-use Rattle.ranks.proofs.Searches.{on-eq, same-eqb}
+use Rattle.folds.proofs.Searches.{on-eq, same-eqb}
 use Rattle.ranks.proofs.Leave.{tick-none, tick-some}
 use Rattle.ranks.proofs.LeaveKeeps.{tick-timed}
 use Rattle.state.specs.declared.Line.{Line}
@@ -177,12 +178,6 @@ module _ (p : Plan) (v : Valid p) (s : State) (w : Whole p s) {holds budgets key
       all-shown p T (λ q. Rules.ticked (terms p q) (shows p s q))
       (each-length noLine (λ q l. stepped holds budgets seats q l) 16 (s .lines) ∙ t .lines-long) ticked-shown
       (λ q a. rw (past-shows p s q (t .lines-long) a))
-
--- ── the two words ──
-word-same : (n : ℕ) (f g : ℕ → Bool) → ((k : ℕ) → k < n → f k ≡ g k) → wordBelow n f ≡ wordBelow n g
-unfolding wordBelow
-word-same zero f g h = refl
-word-same (suc n) f g h = ap₂ _+_ (word-same n f g (λ k l. h k (omega arith))) (ap (λ (b : Bool). bitOf b n) (h n (omega arith)))
 
 -- a line is cut where one tick of the hold is left, and held where somebody is queued
 cut-line : (n : ℕ) (R : ℕ → ℕ → ℕ) (c : ℕ) (g : ℕ → ℕ) (h b : ℕ) → (1 ≤ c → 1 ≤ h)

@@ -5,10 +5,9 @@ use mathlib.Core.Path.{_≡_, refl, ap, _∙_}
 use native.Mathlib.Omega.{arith}
 use lib.ListN.{getD}
 use Rattle.folds.specs.Words.{bitOf, wordBelow}
-use Rattle.folds.proofs.WordLaws.{word-step, word-fits}
+use Rattle.folds.proofs.WordLaws.{word-step, word-fits, word-done}
 use Rattle.state.specs.Shows.{noLine}
 use Rattle.steps.specs.Steps.{ends, cutWord}
-use Rattle.steps.proofs.Marks.{word-done}
 use Rattle.steps.proofs.cuts.Statement.{statement}
 use Rattle.steps.proofs.cuts.Tie as tie
 

@@ -6,10 +6,9 @@ use native.Mathlib.Omega.{arith}
 use lib.Dec.{ltb}
 use lib.ListN.{getD}
 use Rattle.folds.specs.Words.{bitOf, wordBelow}
-use Rattle.folds.proofs.WordLaws.{word-step, word-fits}
+use Rattle.folds.proofs.WordLaws.{word-step, word-fits, word-done}
 use Rattle.state.specs.Shows.{noLine}
 use Rattle.steps.specs.Steps.{ends, grantWord}
-use Rattle.steps.proofs.Marks.{word-done}
 use Rattle.steps.proofs.grants.Statement.{statement}
 use Rattle.steps.proofs.grants.Tie as tie
 
