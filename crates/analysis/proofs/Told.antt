@@ -12,14 +12,12 @@ use lib.Seq.{ext-getD}
 use Rattle.folds.specs.Bytes.{placedBelow}
 use Rattle.folds.proofs.Tests.{code-zero, code-next}
 use Rattle.folds.proofs.Arrays.{by-eq, placed-at, placed-length}
-use Rattle.plan.specs.Plan.{Plan, Valid, planOf, Checked}
+use Rattle.plan.specs.Plan.{Plan, planOf, Checked}
 use Rattle.plan.specs.Reading.{refusal, answered}
-use Rattle.equations.specs.Sharing.{uses, global}
-use Rattle.equations.specs.HoldTimes.{longestOn, holdAt}
+use Rattle.equations.specs.HoldTimes.{holdAt}
 use Rattle.equations.specs.Blocking.{globalCount}
 use Rattle.equations.specs.Requirement.{asks, met, admitted}
 use Rattle.equations.specs.Questions.{taskNumber, sharingCode, useCode, processorCode, requirementCode}
-use Rattle.equations.proofs.Laws.{uses-longest}
 use Rattle.holds.specs.Holds.{Cells}
 use Rattle.requirements.specs.declared.Requirement.{Requirement}
 use Rattle.requirements.specs.Figures.{requirementOf}
@@ -116,23 +114,6 @@ share-clear f k q e b =
     let r = reading-clear f (processorCode (planOf f) k q) e in
     let there = processor-clear (planOf f) k q (r .1) in
     (checked-file f (r .0) b, there .0, there .1)
-
--- 13, 14 or neither: who uses a resource has a longest section on it
-module _ (p : Plan) (v : Valid p) (i q : ℕ) where
-  pub not-used : longestOn p i q ≡ 0 → 13 ≡ sharingCode p i q
-  unfolding sharingCode
-  not-used z = rw (uses-longest p v i q, z)
-
-  used : (longestOn p i q ≡ 0 → ⊥) → uses p i q ≡ true
-  used d = uses-longest p v i q ∙ lt-ltb 0 (longestOn p i q) (omega (arith, d))
-
-  pub not-shared : (longestOn p i q ≡ 0 → ⊥) → global p q ≡ false → 14 ≡ sharingCode p i q
-  unfolding sharingCode
-  not-shared d g = rw (used d, g)
-
-  pub shared-used : (longestOn p i q ≡ 0 → ⊥) → global p q ≡ true → 0 ≡ sharingCode p i q
-  unfolding sharingCode
-  shared-used d g = rw (used d, g)
 
 -- a table of cells is the list of its figures: x stands in the row of x / 16 at x % 16
 pub cells-list : (f : ℕ → ℕ → ℕ) (t : List ℕ) → Cells f t → t ≡ placedBelow 1024 (λ x. f (x / 16) (x % 16)) (replicate 1024 0)

@@ -51,16 +51,13 @@ fn hold_of(file: &[u8], i: usize, q: u8) -> Figure
     requires { ⌜ (Checked (now file)) × (i < planOf (now file) .tasks) × (q < planOf (now file) .resources) ⌝ }
     ensures { λ r. ⌜ r ≡ figure (sharingCode (planOf (now (file .entry))) i q) (holdTime (planOf (now (file .entry))) i q) ⌝ }
 {
-    let longest = tables::longest_on(file, i, q);
-    if longest == 0 {
-        return Figure::Refused(13);
+    let mut holds = [0u16; 1024];
+    let mut budgets = [0u16; 128];
+    holds::hold_table(file, &mut holds, &mut budgets);
+    let hold = holds[i * 16 + folds::wide(q)];
+    if hold == 0 {
+        return Figure::Refused(holds::sharing_code(file, i, q));
     }
-    let globals = tables::globals(file);
-    if !globals[folds::wide(q)] {
-        return Figure::Refused(14);
-    }
-    let tasks = tables::task_table(file, globals);
-    let hold = tables::hold(file, &tasks, longest, i, q);
     Figure::Given(hold as u32)
 }
 

@@ -4,7 +4,7 @@ use mathlib.Core.Bool.{Bool, true, false, cond, _&&_, not, true≢false}
 use mathlib.Core.Path.{_≡_, refl, sym, _∙_}
 use native.Mathlib.Omega.{arith}
 use native.Mathlib.Nat.{mul-le-mul, suc-mul, mul-suc, div-zero, div-lt-iff-lt-mul, le-of-suc-le-suc, le-antisymm}
-use borrow.Author.Tests.{ltb-true, leb-true, eqb-true, eq-eqb, ne-eqb}
+use borrow.Author.Tests.{ltb-true, lt-ltb, leb-true, eqb-true, eq-eqb, ne-eqb}
 use lib.Dec.{eqb, ltb}
 use lib.Signed.{mag}
 use Rattle.folds.specs.Below.{anyBelow, sumBelow, maxBelow}
@@ -17,6 +17,7 @@ use Rattle.equations.specs.Sharing.{processorOf, priorityOf, sectionOn, 
 use Rattle.equations.specs.HoldTimes.{longestOn, longestOff, interference, holdTime, holdAt, userOn, budget, waitTime}
 use Rattle.equations.specs.Blocking.{ceilDiv, globalCount, countOn, ceiling, blocks, longestLocal, blocking1, longestGlobal, blocking2, fellowHolds, waitingOn, waitingSide}
 use Rattle.equations.specs.Requirement.{demand, left, tolerance, slack, asks}
+use Rattle.equations.specs.Questions.{sharingCode}
 
 -- a quotient rounded up is at most the number divided
 pub ceil-bound : (a b : ℕ) → ceilDiv a b ≤ a
@@ -136,6 +137,29 @@ module _ (p : Plan) (v : Valid p) where
   pub hold-low : (i q : ℕ) → uses p i q ≡ true → 1 ≤ holdTime p i q
   unfolding holdTime
   hold-low i q u = omega (arith, ltb-true 0 (longestOn p i q) (sym (uses-longest i q) ∙ u))
+
+  -- 13 for a task with no longest section on q, else 14 where it has no hold time of q, else neither: who uses a global resource
+  -- holds it for a tick at least
+  pub not-used : (i q : ℕ) → longestOn p i q ≡ 0 → 13 ≡ sharingCode p i q
+  unfolding sharingCode
+  not-used i q z = rw (uses-longest i q, z)
+
+  pub not-shared : (i q : ℕ) → (longestOn p i q ≡ 0 → ⊥) → holdAt p i q ≡ 0 → 14 ≡ sharingCode p i q
+  unfolding holdAt sharingCode
+  not-shared i q d z =
+      let used : uses p i q ≡ true = uses-longest i q ∙ lt-ltb 0 (longestOn p i q) (omega (arith, d)) in
+      let zero : global p q ≡ true → holdTime p i q ≡ 0 = λ g. rw (g, used) at z in
+      let local : global p q ≡ false = is-not-true (global p q) (λ g. omega (arith, zero g, hold-low i q used)) in
+      rw (used, local)
+
+  pub shared-use : (i q : ℕ) → (holdAt p i q ≡ 0 → ⊥) → (sharingCode p i q ≡ 0) × (holdAt p i q ≡ holdTime p i q)
+  unfolding holdAt sharingCode
+  shared-use i q = go (global p q) (uses p i q)
+    where
+      go : (g u : Bool) → (cond (g && u) (holdTime p i q) 0 ≡ 0 → ⊥) → (_≡_ {A = ℕ} (cond u (cond g 0 14) 13) 0) × (cond (g && u) (holdTime p i q) 0 ≡ holdTime p i q)
+      go true true d = (refl, refl)
+      go true false d = absurd (d refl)
+      go false u d = absurd (d refl)
 
   pub interference-high : (i q : ℕ) → interference p i q ≤ 64000
   unfolding interference

@@ -11,7 +11,7 @@ use lib.ListN.{length, getD, replicate, length-replicate, getD-replicate}
 use lib.Seq.{getD-set-same, getD-set-other}
 use Rattle.folds.specs.Bytes.{placedBelow}
 use Rattle.folds.proofs.Arrays.{by-eq, placed-length, placed-at, stampedBelow, stamped-length}
-use Rattle.holds.specs.Holds.{cell}
+use Rattle.holds.specs.Holds.{cell, Cells}
 use Rattle.holds.specs.Inner.{Row}
 
 -- what a choice is at most
@@ -24,6 +24,10 @@ chosen-le b e p q = rw e (pick-le b p q)
 
 pub plus-same : (u : ℕ) {x y : ℕ} → x ≡ y → u + x ≡ u + y
 plus-same u e = rw e
+
+-- a table's figure for resource q, whose number is r
+pub cell-at : (f : ℕ → ℕ → ℕ) (t : List ℕ) {j q r : ℕ} → Cells f t → r ≡ q → j < 64 → q < 16 → getD t (cell j r) 0 ≡ f j q
+cell-at f t {j} {q} c e a b = rw e (c .at j q a b)
 
 -- a row is made
 pub row-done : (n : ℕ) (f : ℕ → ℕ) (l : List ℕ) {m : List ℕ} → n ≡ 16 → length l ≡ 16 → m ≡ placedBelow n f l → Row f m

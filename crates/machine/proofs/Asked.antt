@@ -33,10 +33,6 @@ use Rattle.steps.proofs.Joins.{aheadOf, entering, hold-resource, join-room, joi
 use Rattle.steps.proofs.Asking.{taken-is, request-granted, request-waits, busy-is}
 use Rattle.machine.specs.Inner.{refusedAt, Done}
 
--- a table's figure for resource q, whose number is r
-pub cell-at : (f : ℕ → ℕ → ℕ) (t : List ℕ) {j q r : ℕ} → Cells f t → r ≡ q → j < 64 → q < 16 → getD t (cell j r) 0 ≡ f j q
-cell-at f t {j} {q} c e a b = rw e (c .at j q a b)
-
 -- ── the number ──
 module _ (p : Plan) (l : Lines) (tag q : ℕ) {i : ℕ} (e : i ≡ taskNumber p tag) where
   -- 11 to 14 are those of the use

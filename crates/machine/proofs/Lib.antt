@@ -1,5 +1,4 @@
 pub mod Lengths
-pub mod Shared
 pub mod Answered
 pub mod Acting
 pub mod Asked

@@ -12,7 +12,6 @@ ghost use lib.ListN.{length};
 ghost use Rattle.plan.specs.Reading.{refusal};
 ghost use Rattle.plan.specs.Plan.{planOf, Checked};
 ghost use Rattle.equations.specs.HoldTimes.{holdAt};
-ghost use Rattle.equations.specs.Questions.{sharingCode};
 ghost use Rattle.holds.specs.Holds.{Cells, Shares};
 ghost use Rattle.protocol.specs.declared.Call.the-variants.{Request, Release, Tick};
 ghost use Rattle.protocol.specs.Machine.{requestCode, releaseCode, answerTold, fresh, run};
@@ -63,17 +62,6 @@ fn refuse(state: State, k: u8) -> Reply
     }
 }
 
-// 13 and 14 for a task with no hold time of q: it has no section on q, or q is local.
-fn sharing_code(file: &[u8], i: usize, q: u8) -> u8
-    requires { ⌜ (Checked (now file)) × (i < planOf (now file) .tasks) × (holdAt (planOf (now file)) i q ≡ 0) ⌝ }
-    ensures { λ r. ⌜ (r ≡ sharingCode (planOf (now (file .entry))) i q) × (1 ≤ r) ⌝ }
-{
-    if tables::longest_on(file, i, q) == 0 {
-        return 13;
-    }
-    14
-}
-
 // 11 to 15, 0 where none, of a request on a sound state.
 fn request_code(file: &[u8], state: State, holds: &[u16], tag: u16, q: u8) -> u8
     requires { ⌜ (Checked (now file)) × (Cells (holdAt (planOf (now file))) (now holds)) × (sound (planOf (now file)) state ≡ true) ⌝ }
@@ -88,7 +76,7 @@ fn request_code(file: &[u8], state: State, holds: &[u16], tag: u16, q: u8) -> u8
         return 12;
     }
     if holds[i * 16 + folds::wide(q)] == 0 {
-        return sharing_code(file, i, q);
+        return holds::sharing_code(file, i, q);
     }
     let standing = state.tasks[i];
     if standing.resource != 255 {

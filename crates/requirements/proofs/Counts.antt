@@ -20,7 +20,7 @@ use Rattle.equations.specs.Blocking.{globalCount, countOn, ceiling, blocks, lon
 use Rattle.equations.proofs.Laws.{ceiling-section, local-high, count-high}
 use Rattle.tables.specs.Tables.{Column, Tasks, placeAt}
 use Rattle.tables.proofs.Places.{under-place}
-use Rattle.tables.proofs.Tops as tops
+use Rattle.tables.proofs.Longest as longest
 use Rattle.requirements.specs.Figures.{sumUnder}
 
 -- two tests the other way round
@@ -66,7 +66,7 @@ module _ (f : List ℕ) (h : Checked f) where
   row-task {s = s} e l r q = rw (q, r) (valid-plan f h .section-fits s (rw (← e) l) .task)
 
   pub row-resource : {n s x : ℕ} {row : SectionRow} → n ≡ planOf f .sections → s < n → row ≡ planOf f .section s → x ≡ row .resource → x < 16
-  row-resource {s = s} e l r q = rw q (tops.row-resource f h s (rw (← e) l) r)
+  row-resource {s = s} e l r q = rw q (longest.row-resource f h s (rw (← e) l) r)
 
 -- the tables after the sections below n
 module _ (p : Plan) where

@@ -118,14 +118,14 @@ fn longest_local(file: &[u8], globals: [bool; 16], ceilings: [u16; 16], i: usize
 
 // Equation 5 over the tables.
 fn sum_under(tasks: &[u16], counts: &[u16], n: usize, i: usize, times: u32) -> u32
-    requires { ⌜ (length (now tasks) ≡ 256) × (length (now counts) ≡ 64) × (n ≤ 64) × (i < 64) × (times ≤ 256) × ((j : ℕ) → j < 64 → getD (now tasks) j 0 ≤ 1000) ⌝ }
+    requires { ⌜ (length (now tasks) ≡ 128) × (length (now counts) ≡ 64) × (n ≤ 64) × (i < 64) × (times ≤ 256) × ((j : ℕ) → j < 64 → getD (now tasks) j 0 ≤ 1000) ⌝ }
     ensures { λ r. ⌜ r ≡ sumUnder (now (tasks .entry)) (now (counts .entry)) n (getD (now (tasks .entry)) (placeAt i) 0) times ⌝ }
 {
-    let mine = tasks[192 + i];
+    let mine = tasks[64 + i];
     let mut sum = 0u32;
     let mut j = 0;
     while j < n {
-        let place = tasks[192 + j];
+        let place = tasks[64 + j];
         let is_under = (place / 256 == mine / 256) & (place < mine);
         let longest = folds::chosen(is_under, tasks[j], 0);
         sum += folds::smaller(times, counts[j] as u32) * longest as u32;
@@ -161,14 +161,14 @@ fn blocking1_of(
 
 // The sum of the figures for q of the tasks of i's processor, its own left out.
 fn sum_beside(tasks: &[u16], holds: &[u16], n: usize, i: usize, q: usize) -> u32
-    requires { ⌜ (length (now tasks) ≡ 256) × (length (now holds) ≡ 1024) × (n ≤ 64) × (i < 64) × (q < 16) ⌝ }
+    requires { ⌜ (length (now tasks) ≡ 128) × (length (now holds) ≡ 1024) × (n ≤ 64) × (i < 64) × (q < 16) ⌝ }
     ensures { λ r. ⌜ (r ≡ sumBeside (now (tasks .entry)) (now (holds .entry)) n i q) × (r ≤ 4194240) ⌝ }
 {
-    let mine = tasks[192 + i];
+    let mine = tasks[64 + i];
     let mut sum = 0u32;
     let mut j = 0;
     while j < n {
-        let place = tasks[192 + j];
+        let place = tasks[64 + j];
         let is_fellow = (place / 256 == mine / 256) & !(j == i);
         sum += folds::chosen(is_fellow, holds[j * 16 + q], 0) as u32;
         j += 1;
@@ -254,13 +254,13 @@ fn higher_tasks(file: &[u8], tasks: &[u16], i: usize) -> Higher
 {
     let counts = plan::checked::counts(file);
     let n = folds::wide(counts.tasks);
-    let mine = tasks[192 + i];
+    let mine = tasks[64 + i];
     let mut count = 0;
     let mut periods = [0u32; 64];
     let mut times = [0u32; 64];
     let mut j = 0;
     while j < n {
-        let place = tasks[192 + j];
+        let place = tasks[64 + j];
         if (place / 256 == mine / 256) & (mine < place) {
             let row = plan::checked::task(file, j);
             periods[count] = row.period as u32;

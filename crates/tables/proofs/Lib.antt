@@ -1,3 +1,3 @@
 pub mod Places
 pub mod Users
-pub mod Tops
+pub mod Longest

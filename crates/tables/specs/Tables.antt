@@ -1,16 +1,13 @@
 -- What the tables hold that the questions about one plan share. None of this is a rule of document 01: it says where a figure stands.
-use Prim.Native.Nat.{ℕ, _+_, _*_, _-_, _/_, _<_, _≤_, max}
+use Prim.Native.Nat.{ℕ, _+_, _*_, _/_, _<_}
 use mathlib.Core.Bool.{Bool, cond, _&&_, false}
 use mathlib.Core.List.{List}
 use mathlib.Core.Path.{_≡_}
 use lib.Dec.{eqb, ltb}
 use lib.ListN.{length, getD}
-use Rattle.folds.specs.Below.{sumBelow, maxBelow, countBelow}
 use Rattle.plan.specs.Plan.{Plan}
 use Rattle.equations.specs.Sharing.{processorOf, priorityOf, global, usedOn}
-use Rattle.equations.specs.HoldTimes.{longestOff}
 use Rattle.equations.specs.Blocking.{longestGlobal}
-use Rattle.tables.specs.declared.Top.{Top}
 
 -- a table of the figure f of each of n tasks or resources
 pub record Column (n : ℕ) (f : ℕ → ℕ) (t : List ℕ) : Type 0 where
@@ -43,39 +40,12 @@ above a b = beside a b && ltb a b
 abbrev pub under : ℕ → ℕ → Bool
 under a b = beside a b && ltb b a
 
--- the table of tasks has four figures of task j: at j the longest of its global sections; here its longest on a global resource
--- other than that one's
-abbrev pub secondAt : ℕ → ℕ
-secondAt j = 64 + j
-
--- here that one's resource
-abbrev pub resourceAt : ℕ → ℕ
-resourceAt j = 128 + j
-
--- and here its place
+-- the table of tasks has two figures of task j: at j the longest of its global sections, and here its place
 abbrev pub placeAt : ℕ → ℕ
-placeAt j = 192 + j
-
--- the longest global section of task j that is not on q, as the table tells it
-abbrev pub offIn : List ℕ → ℕ → ℕ → ℕ
-offIn t q j = cond (eqb (getD t (resourceAt j) 0) q) (getD t (secondAt j) 0) (getD t j 0)
+placeAt j = 64 + j
 
 -- the table of tasks
 pub record Tasks (p : Plan) (t : List ℕ) : Type 0 where
-  pub long : length t ≡ 256
+  pub long : length t ≡ 128
   pub place : (j : ℕ) → j < p .tasks → getD t (placeAt j) 0 ≡ placeOf p j
-  pub off : (j q : ℕ) → j < 64 → offIn t q j ≡ longestOff p j q
   pub most : (j : ℕ) → j < 64 → getD t j 0 ≡ longestGlobal p j
-
--- the two longest lengths of a task on different resources, with one more section: x ticks on q
-unfoldable pub raise : Top → ℕ → ℕ → Top
-raise t q x =
-    cond (eqb (t .resource) q)
-    (record { first = max (t .first) x; second = t .second; resource = t .resource })
-    (cond (ltb (t .first) x)
-    (record { first = x; second = t .first; resource = q })
-    (record { first = t .first; second = max (t .second) x; resource = t .resource }))
-
--- the sum, over the tasks below n that are above the one at `mine`, of what the table tells for q
-unfoldable pub sumAbove : List ℕ → ℕ → ℕ → ℕ → ℕ
-sumAbove t n mine q = sumBelow n (λ j. cond (above mine (getD t (placeAt j) 0)) (offIn t q j) 0)

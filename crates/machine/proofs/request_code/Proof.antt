@@ -7,7 +7,8 @@ use Rattle.plan.specs.Plan.{Valid, planOf}
 use Rattle.plan.proofs.Laws.{valid-plan}
 use Rattle.equations.specs.HoldTimes.{holdAt}
 use Rattle.holds.specs.Holds.{cell}
-use Rattle.machine.proofs.Asked.{cell-at, request-11, request-12, request-share, request-15, request-0}
+use Rattle.holds.proofs.Rows.{cell-at}
+use Rattle.machine.proofs.Asked.{request-11, request-12, request-share, request-15, request-0}
 use Rattle.machine.proofs.request_code.Statement.{statement}
 use Rattle.machine.proofs.request_code.Tie as tie
 

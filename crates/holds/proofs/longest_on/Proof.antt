@@ -9,8 +9,8 @@ use Rattle.folds.proofs.Figures.{max-step, max-done}
 use Rattle.plan.specs.Plan.{planOf}
 use Rattle.equations.specs.Sharing.{sectionOn}
 use Rattle.equations.specs.HoldTimes.{longestOn}
-use Rattle.tables.proofs.longest_on.Statement.{statement}
-use Rattle.tables.proofs.longest_on.Tie as tie
+use Rattle.holds.proofs.longest_on.Statement.{statement}
+use Rattle.holds.proofs.longest_on.Tie as tie
 
 abbrev Inv-loop : tie.InvT-loop
 Inv-loop file i q n best₀ s₀ best s = (s ≤ n) × (n ≡ planOf file .sections) × (best ≡ maxBelow s (λ k. cond (sectionOn (planOf file) i q k) (planOf file .section k .length) 0))

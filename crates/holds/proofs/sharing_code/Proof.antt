@@ -3,9 +3,9 @@ use mathlib.Core.Path.{sym, _∙_}
 use native.Mathlib.Omega.{arith}
 use borrow.Author.Needs.{needs}
 use Rattle.plan.proofs.Laws.{valid-plan}
-use Rattle.machine.proofs.Shared.{not-used, not-shared}
-use Rattle.machine.proofs.sharing_code.Statement.{statement}
-use Rattle.machine.proofs.sharing_code.Tie as tie
+use Rattle.equations.proofs.Laws.{not-used, not-shared}
+use Rattle.holds.proofs.sharing_code.Statement.{statement}
+use Rattle.holds.proofs.sharing_code.Tie as tie
 
 longest-on-requires : tie.Need-longest-on-requires
 longest-on-requires c κs = search needs
