@@ -45,7 +45,8 @@ add-row c =
     let l = c .before .before .loop in
     let a = c .before .before .before .args in
     let h = c .before .before .before .pre in
-    omega (arith, h .2 (l .q) (omega arith), chosen-le (eqb (getD (a .t2) (l .q) 0) (a .first)) (c .chosen .ensures) (h .1) (h .0))
+    let most : c .chosen .result ≤ 1000 = chosen-le (eqb (getD (a .t2) (l .q) 0) (a .first)) (c .chosen .ensures) (omega arith) (omega arith) in
+    omega (arith, h .2 (l .q) (omega arith), most)
 
 mul-row-2 : tie.Need-mul-row-2 Inv-loop μ-loop
 mul-row-2 c = omega arith

@@ -89,7 +89,8 @@ returns-2 c =
     let a = c .before .before .before .before .before .before .before .before .before .before .args in
     let e = seat-read (a .seats .now) (a .q) (slot (a .line) 0) 1 (c .before .before .before .before .before .wide .ensures .0) refl in
     let some = ne-eqb _ _ (λ z. c .before .before .before .if1 .left (e ∙ z)) in
-    rw (some, ← c .before .before .hold-of .ensures, le-leb _ _ (c .if2 .taken))
+    let within = le-leb (c .before .before .hold-of .result) (a .line .«budget_left») (omega arith) in
+    rw (some, ← c .before .before .hold-of .ensures, within)
 
 cast-queue : tie.Need-cast-queue
 cast-queue c = search needs
@@ -115,7 +116,8 @@ returns-3 c =
     let a = h .before .before .before .before .before .before .before .before .args in
     let e = seat-read (a .seats .now) (a .q) (slot (a .line) 0) 1 (h .before .before .before .wide .ensures .0) refl in
     let some = ne-eqb _ _ (λ z. h .before .if1 .left (e ∙ z)) in
-    rw (some, ← h .hold-of .ensures, lt-leb _ _ (c .before .before .if2 .left)) (c .begin2 .ensures)
+    let beyond = lt-leb (h .hold-of .result) (a .line .«budget_left») (omega arith) in
+    rw (some, ← h .hold-of .ensures, beyond) (c .begin2 .ensures)
 
 pub pass-spec : {M : Type 1} → statement M
 pass-spec =
