@@ -1,4 +1,4 @@
-//! Links the archives of the proved code, which `rt staticlib` writes.
+//! Links the archives of the proved code, which `rt staticlib` writes, to the program that calls into them and to no other.
 
 use std::path::Path;
 
@@ -7,12 +7,9 @@ fn main() {
         .parent()
         .expect("bench lies in the repository");
     let folder = root.join("target/staticlib");
-    println!("cargo:rustc-link-search=native={}", folder.display());
     for archive in ["plan_c", "analysis_c", "machine_c"] {
-        println!("cargo:rustc-link-lib=static={archive}");
-        println!(
-            "cargo:rerun-if-changed={}",
-            folder.join(format!("lib{archive}.a")).display()
-        );
+        let path = folder.join(format!("lib{archive}.a"));
+        println!("cargo:rustc-link-arg-bin=bench={}", path.display());
+        println!("cargo:rerun-if-changed={}", path.display());
     }
 }

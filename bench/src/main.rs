@@ -1,48 +1,53 @@
 //! The proved code beside the peer: their answers compared, and their times measured in one run.
 
-mod compare;
-mod lists;
 mod plain;
-mod plans;
 mod proved;
-mod random;
+mod same;
 mod time;
 
+use bench::{lists, plans};
 use time::Pace;
+
+const QUICK: Pace = Pace {
+    rounds: 401,
+    calls: 500,
+};
+const SLOW: Pace = Pace {
+    rounds: 21,
+    calls: 1,
+};
 
 fn main() {
     let (full, small) = (plans::full(), plans::small());
-    compare::damaged_plans(&[&full, &small], 20_000);
-    compare::questions(2_000);
-    compare::lists(600, 80);
-    let quick = Pace {
-        rounds: 401,
-        calls: 500,
-    };
-    let slow = Pace {
-        rounds: 21,
-        calls: 1,
-    };
+    same::damaged_plans(&[&full, &small], 20_000);
+    same::questions(2_000);
+    same::lists(600, 80);
     time::report(
         "reading the full plan",
-        quick,
+        QUICK,
         &full,
         proved::read,
         plain::read,
     );
     time::report(
         "reading the small plan",
-        quick,
+        QUICK,
         &small,
         proved::read,
         plain::read,
     );
+    analysis();
+    machine();
+}
+
+/// All hold times of a plan, and whether it is admitted.
+fn analysis() {
     for processors in [8, 2] {
         let busy = plans::busy(processors);
         assert_ne!(proved::hold_at(&busy, 0), 0, "the resource is global");
         time::report(
             &format!("all hold times of 64 tasks on {processors} processors"),
-            quick,
+            QUICK,
             &busy,
             |file| proved::hold_at(file, 27),
             |file| plain::hold_at(file, 27),
@@ -53,13 +58,12 @@ fn main() {
         assert_eq!(proved::admission(&busy), 256, "the plan is admitted");
         time::report(
             &format!("admission of 64 tasks on {processors} processors, T near 65,535"),
-            slow,
+            SLOW,
             &busy,
             proved::admission,
             plain::admission,
         );
     }
-    machine();
 }
 
 /// Lists of calls from a fresh machine on; the requests at the front of each are measured with the rest.

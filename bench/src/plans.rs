@@ -1,13 +1,8 @@
 //! The plans that are asked about, laid out by the peer's writer.
 
-use crate::random::Random;
-use peer::{Counts, Plan, Section, Task, MAX_FILE};
-
-fn file(plan: &Plan, names: &[u8]) -> Vec<u8> {
-    let mut buffer = [0; MAX_FILE];
-    let length = peer::write(plan, names, &mut buffer).expect("the plan keeps the rules");
-    buffer[..length].to_vec()
-}
+use compare::plans::file;
+use compare::random::Random;
+use peer::{Counts, Plan, Section, Task};
 
 /// Every count at its limit; names of 12 bytes that differ in the last one, so that telling them apart takes the longest.
 pub fn full() -> Vec<u8> {

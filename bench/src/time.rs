@@ -1,5 +1,6 @@
 //! Times, by rounds in turn, so that a change of the machine's pace meets both sides alike.
 
+use bench::quartiles;
 use std::hint::black_box;
 use std::time::Instant;
 
@@ -17,12 +18,6 @@ fn round(calls: u32, ask: impl Fn(&[u8]) -> u64, file: &[u8]) -> f64 {
         black_box(ask(black_box(file)));
     }
     start.elapsed().as_nanos() as f64 / f64::from(calls)
-}
-
-/// The median, and the quarter of the rounds around it on each side.
-fn quartiles(mut times: Vec<f64>) -> [f64; 3] {
-    times.sort_by(f64::total_cmp);
-    [times.len() / 4, times.len() / 2, times.len() * 3 / 4].map(|i| times[i])
 }
 
 pub fn report(

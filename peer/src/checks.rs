@@ -1,7 +1,7 @@
 //! The rules of rows and names, each stated once for the reader and the writer.
 
 use crate::{Counts, Section, Task};
-use crate::{MAX_NAME, MAX_PROCESSORS, MAX_RESOURCES, MAX_SECTIONS, MAX_TASKS};
+use crate::{MAX_LENGTH, MAX_NAME, MAX_PROCESSORS, MAX_RESOURCES, MAX_SECTIONS, MAX_TASKS};
 
 /// Check 3.
 pub fn counts_in_range(c: Counts) -> bool {
@@ -11,20 +11,25 @@ pub fn counts_in_range(c: Counts) -> bool {
         && usize::from(c.sections) <= MAX_SECTIONS
 }
 
-/// Check 5 of one row.
+/// Refusal 5 of a task by value; the spare byte of a row is no part of it. A priority and a period cannot be above their
+/// range, and T is above 0 where C is and C ≤ T. No early exit, so that many rows run without a branch for each rule.
 #[inline]
 pub fn task_fits(t: Task, processors: u8) -> bool {
-    (t.processor < processors)
-        & (t.tag <= 255)
-        & (t.priority >= 1)
-        & (t.execution >= 1)
-        & (t.execution <= t.period)
+    let processor_is_there = t.processor < processors;
+    let tag_is_a_byte = u8::try_from(t.tag).is_ok();
+    let has_priority = t.priority != 0;
+    let executes = t.execution != 0;
+    let ends_in_time = t.execution <= t.period;
+    processor_is_there & tag_is_a_byte & has_priority & executes & ends_in_time
 }
 
-/// Check 8 of one row.
+/// Refusal 8 of a section.
 #[inline]
 pub fn section_fits(s: Section, c: Counts) -> bool {
-    (s.task < c.tasks) & (s.resource < c.resources) & (s.length >= 1) & (s.length <= 1000)
+    let task_is_there = s.task < c.tasks;
+    let resource_is_there = s.resource < c.resources;
+    let length_fits = s.length.wrapping_sub(1) < MAX_LENGTH;
+    task_is_there & resource_is_there & length_fits
 }
 
 /// Which bytes were seen. A byte for each, and not a bit: so one row's store does not hold up the next row's load.

@@ -5,9 +5,12 @@
 #![forbid(unsafe_code)]
 
 pub mod analysis;
+pub mod calls;
+pub mod cases;
 mod checks;
 pub mod machine;
 pub mod plain;
+pub mod program;
 mod read;
 mod write;
 
@@ -19,6 +22,8 @@ pub const MAX_TASKS: usize = 64;
 pub const MAX_RESOURCES: usize = 16;
 pub const MAX_SECTIONS: usize = 255;
 pub const MAX_NAME: usize = 12;
+/// The ticks of the longest section.
+pub const MAX_LENGTH: u16 = 1000;
 
 /// Why an operation refuses, by the document's numbers.
 #[derive(Clone, Copy, Debug, PartialEq, Eq)]

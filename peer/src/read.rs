@@ -43,18 +43,26 @@ fn header(file: &[u8]) -> Result<(Counts, Offsets), Refusal> {
     Ok((counts, at))
 }
 
+/// A task row by value, and its spare byte.
+#[inline]
+fn task(row: &[u8; TASK_ROW]) -> (Task, u8) {
+    let &[processor, tag, priority, spare, t0, t1, c0, c1] = row;
+    let task = Task {
+        processor,
+        tag: tag.into(),
+        priority,
+        period: word(t0, t1),
+        execution: word(c0, c1),
+    };
+    (task, spare)
+}
+
 /// Checks 5 and 6. A row that breaks 5 ends the pass; a repetition waits for its end.
 fn tasks(part: &[u8], counts: Counts, plan: &mut Plan) -> Result<(), Refusal> {
     let mut unique = Unique::new();
-    for (row, to) in part.chunks_exact(TASK_ROW).zip(&mut plan.tasks) {
-        let task = Task {
-            processor: row[0],
-            tag: row[1].into(),
-            priority: row[2],
-            period: word(row[4], row[5]),
-            execution: word(row[6], row[7]),
-        };
-        if !(task_fits(task, counts.processors) & (row[3] == 0)) {
+    for (row, to) in part.as_chunks().0.iter().zip(&mut plan.tasks) {
+        let (task, spare) = task(row);
+        if !(task_fits(task, counts.processors) & (spare == 0)) {
             return Err(Refusal::TaskRow);
         }
         unique.put(task);
@@ -92,15 +100,22 @@ fn names(file: &[u8], at: Offsets, plan: &mut Plan) -> Result<(), Refusal> {
     Ok(())
 }
 
+/// A section row by value.
+#[inline]
+fn section(row: &[u8; SECTION_ROW]) -> Section {
+    let &[task, resource, low, high] = row;
+    Section {
+        task,
+        resource,
+        length: word(low, high),
+    }
+}
+
 /// Checks 8 and 9, as 5 and 6.
 fn sections(part: &[u8], counts: Counts, plan: &mut Plan) -> Result<(), Refusal> {
     let mut sums = Sums::new();
-    for (row, to) in part.chunks_exact(SECTION_ROW).zip(&mut plan.sections) {
-        let section = Section {
-            task: row[0],
-            resource: row[1],
-            length: word(row[2], row[3]),
-        };
+    for (row, to) in part.as_chunks().0.iter().zip(&mut plan.sections) {
+        let section = section(row);
         if !section_fits(section, counts) {
             return Err(Refusal::SectionRow);
         }

@@ -22,11 +22,11 @@ fn file_end(case: &[u8]) -> usize
     2 + given::size(given::word(case, 0))
 }
 
-fn file(case: &[u8]) -> &[u8] {
+pub fn file(case: &[u8]) -> &[u8] {
     given::part(case, 2, file_end(case))
 }
 
-fn behind(case: &[u8]) -> &[u8] {
+pub fn behind(case: &[u8]) -> &[u8] {
     given::part(case, file_end(case), case.len())
 }
 
@@ -229,6 +229,21 @@ pub fn list(case: &[u8]) {
     shown(file, state);
     let end = machine::run(file, calls);
     print::which(same::states(state, end), b" run", b" run differs");
+}
+
+// A list of calls of three bytes each from a fresh machine on, with every answer and what the state shows after it.
+pub fn each(case: &[u8]) {
+    let file = file(case);
+    let calls = behind(case);
+    let mut state = start(file);
+    let n = calls.len() / 3;
+    let mut x = 0;
+    while x < n {
+        let after = next(file, state, given::part(calls, x * 3, x * 3 + 3));
+        state = after;
+        shown(file, state);
+        x += 1;
+    }
 }
 
 // One call on a given state, and what the next one shows where it is not refused. Its tag has two bytes, so that it can be one

@@ -51,6 +51,14 @@ pub fn part(s: &[u8], start: usize, end: usize) -> &[u8] {
     &s[0..0]
 }
 
+// A line of so many bytes at the front, without its end.
+pub fn without_end(s: &[u8], length: usize) -> &[u8] {
+    if length == 0 {
+        return &s[0..0];
+    }
+    part(s, 0, length - 1)
+}
+
 // As many bytes as both have, copied.
 pub fn copy(from: &[u8], to: &mut [u8]) {
     let mut i = 0;

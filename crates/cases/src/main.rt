@@ -4,6 +4,7 @@ mod asked;
 mod called;
 mod given;
 mod print;
+mod printed;
 mod same;
 
 use libc::STDIN_FILENO;
@@ -100,6 +101,8 @@ fn run_case(record: &[u8]) {
         b'L' => asked::holds(case),
         b'M' => called::list(case),
         b'S' => called::one(case),
+        b'V' => called::each(case),
+        b'P' => printed::list(case),
         _ => print::text(b"no such case"),
     }
     print::text(b"\n");

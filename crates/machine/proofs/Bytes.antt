@@ -1,42 +1,53 @@
 -- Three bytes as a call: what the letter says, and that they are one call at most.
 use Prim.Native.Nat.{ℕ, _+_, _*_}
-use mathlib.Core.Bool.{Bool, true, false, cond, _&&_}
+use mathlib.Core.Bool.{Bool, true, false, cond, _&&_, not}
 use mathlib.Core.List.{List, [], _∷_, _++_}
-use mathlib.Core.Path.{_≡_, refl, ap}
+use mathlib.Core.Path.{_≡_, refl, sym, ap, _∙_}
 use native.Mathlib.Numerals.{add-one}
-use borrow.Author.Tests.{ne-eqb}
+use borrow.Author.Tests.{ne-eqb, not-true, not-false}
 use lib.Dec.{eqb}
 use lib.ListN.{getD}
 use Rattle.protocol.specs.declared.Call.{Call}
 use Rattle.protocol.specs.declared.Call.the-variants.{Request, Release, Tick}
 use Rattle.state.specs.declared.State.{State}
+use Rattle.machine.specs.declared.Decoded.{Decoded}
 use Rattle.machine.specs.Replies.{Next}
-use Rattle.machine.specs.Inner.{AfterBytes}
-use Rattle.machine.specs.Promise.{Returned, called, callOf, callsBelow}
+use Rattle.machine.specs.Promise.{Returned, called, callOf, decodedCalls, AfterBytes, callsBelow}
 
--- the state after the call that the letter says
-module _ (f : List ℕ) (s t : State) (letter tag q : ℕ) where
-  pub after-request : {x : ℕ} → letter ≡ 81 → x ≡ tag → Next f s (Request x q) t → AfterBytes f s (callOf letter tag q) t
-  unfolding callOf
-  after-request e h n = rw (e, ← h) n
+-- the call that the letter says
+module _ (letter tag q : ℕ) where
+  pub decoded-request : {x : ℕ} → letter ≡ 81 → x ≡ tag → decodedCalls (record { known = true; call = Request x q }) ≡ callOf letter tag q
+  unfolding callOf decodedCalls
+  decoded-request e h = rw (e, h)
 
-  pub after-release : {x : ℕ} → letter ≡ 82 → x ≡ tag → Next f s (Release x q) t → AfterBytes f s (callOf letter tag q) t
-  unfolding callOf
-  after-release e h n = rw (e, ← h) n
+  pub decoded-release : {x : ℕ} → letter ≡ 82 → x ≡ tag → decodedCalls (record { known = true; call = Release x q }) ≡ callOf letter tag q
+  unfolding callOf decodedCalls
+  decoded-release e h = rw (e, h)
 
-  pub after-tick : letter ≡ 84 → (eqb tag 0 && eqb q 0) ≡ true → Next f s Tick t → AfterBytes f s (callOf letter tag q) t
-  unfolding callOf
-  after-tick e h n = rw (e, h) n
+  pub decoded-tick : letter ≡ 84 → decodedCalls (record { known = eqb tag 0 && eqb q 0; call = Tick }) ≡ callOf letter tag q
+  unfolding callOf decodedCalls
+  decoded-tick e = rw e
 
--- and where they are none
-module _ (f : List ℕ) (s : State) (letter tag q : ℕ) where
-  pub after-no-tick : letter ≡ 84 → (eqb tag 0 && eqb q 0) ≡ false → AfterBytes f s (callOf letter tag q) s
-  unfolding callOf
-  after-no-tick e h = rw (e, h) refl
+  pub decoded-none : (letter ≡ 81 → ⊥) → (letter ≡ 82 → ⊥) → (letter ≡ 84 → ⊥) → decodedCalls (record { known = false; call = Tick }) ≡ callOf letter tag q
+  unfolding callOf decodedCalls
+  decoded-none a b d = rw (ne-eqb letter 81 a, ne-eqb letter 82 b, ne-eqb letter 84 d)
 
-  pub after-no-call : (letter ≡ 81 → ⊥) → (letter ≡ 82 → ⊥) → (letter ≡ 84 → ⊥) → AfterBytes f s (callOf letter tag q) s
-  unfolding callOf
-  after-no-call a b d = rw (ne-eqb letter 81 a, ne-eqb letter 82 b, ne-eqb letter 84 d) refl
+-- a decoding says whether there is a call
+pub decoded-call : (d : Decoded) {cs : List Call} → decodedCalls d ≡ cs → not (d .known) ≡ false → cs ≡ d .call ∷ []
+unfolding decodedCalls
+decoded-call d e n = sym e ∙ rw (not-false (d .known) n)
+
+pub decoded-no-call : (d : Decoded) {cs : List Call} → decodedCalls d ≡ cs → not (d .known) ≡ true → cs ≡ []
+unfolding decodedCalls
+decoded-no-call d e n = sym e ∙ rw (not-true (d .known) n)
+
+-- and so the state after three bytes
+module _ (f : List ℕ) (s : State) (d : Decoded) {cs : List Call} (e : decodedCalls d ≡ cs) where
+  pub after-call : (t : State) → not (d .known) ≡ false → Next f s (d .call) t → AfterBytes f s cs t
+  after-call t n h = rw (decoded-call d e n) h
+
+  pub after-none : not (d .known) ≡ true → AfterBytes f s cs s
+  after-none n = rw (decoded-no-call d e n) refl
 
 -- no call added
 none-more : (cs : List Call) → cs ≡ cs ++ []

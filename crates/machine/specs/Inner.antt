@@ -1,13 +1,16 @@
 -- What the machine's private functions give. None of this is a rule of document 01.
 use Prim.Native.Nat.{ℕ, _-_, _≤_, _<_}
 use mathlib.Core.Bool.{true, cond}
-use mathlib.Core.List.{List, [], _∷_}
+use mathlib.Core.List.{List}
 use mathlib.Core.Logic.{_≢_}
 use mathlib.Core.Path.{_≡_}
 use lib.Count.{ones}
 use lib.Dec.{eqb}
 use lib.ListN.{getD}
-use Rattle.plan.specs.Plan.{Plan}
+use Rattle.plan.specs.Reading.{refusal}
+use Rattle.plan.specs.Plan.{Plan, planOf}
+use Rattle.equations.specs.HoldTimes.{holdAt}
+use Rattle.holds.specs.Holds.{Cells, Shares}
 use Rattle.protocol.specs.declared.Call.{Call}
 use Rattle.protocol.specs.declared.Answer.{Answer}
 use Rattle.protocol.specs.declared.Answer.the-variants.{Granted, Waits, Next, Free, Ticked, Refused}
@@ -18,7 +21,12 @@ use Rattle.state.specs.Shows.{shows, slot}
 use Rattle.state.specs.Sound.{sound}
 use Rattle.state.specs.Seats.{seat}
 use Rattle.machine.specs.declared.Reply.{Reply}
-use Rattle.machine.specs.Replies as Replies
+
+-- what is known of a plan file once it has been looked at: its refusal, and of one that is accepted its hold times and budgets
+pub record Surveyed (f : List ℕ) (code : ℕ) (h b : List ℕ) : Type 0 where
+  pub told : code ≡ refusal f
+  pub holds : code ≡ 0 → Cells (holdAt (planOf f)) h
+  pub budgets : code ≡ 0 → Shares (planOf f) b
 
 -- the refusal k of a call on a state
 abbrev pub refusedAt : State → ℕ → Reply
@@ -53,8 +61,3 @@ cutsIn (Next tag) = 0
 cutsIn Free = 0
 cutsIn (Ticked cuts grants) = ones cuts
 cutsIn (Refused k) = 0
-
--- the state after three bytes that are one call or none
-abbrev pub AfterBytes : List ℕ → State → List Call → State → Type 0
-AfterBytes f s [] t = t ≡ s
-AfterBytes f s (c ∷ cs) t = Replies.Next f s c t

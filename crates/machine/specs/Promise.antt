@@ -13,6 +13,7 @@ use Rattle.protocol.specs.Waiting.{Served}
 use Rattle.state.specs.declared.State.{State}
 use Rattle.state.specs.Shows.{freshState, shows}
 use Rattle.state.specs.Sound.{sound}
+use Rattle.machine.specs.declared.Decoded.{Decoded}
 use Rattle.machine.specs.Replies.{reply, Next}
 
 -- The state that the operations return after a list of calls: "It starts from a fresh state; each call gets the same plan and the
@@ -46,6 +47,15 @@ callOf letter tag q =
     cond (eqb letter 81) (Request tag q ∷ [])
     (cond (eqb letter 82) (Release tag q ∷ [])
     (cond (eqb letter 84 && (eqb tag 0 && eqb q 0)) (Tick ∷ []) []))
+
+-- the calls that a decoding gives
+unfoldable pub decodedCalls : Decoded → List Call
+decodedCalls d = cond (d .known) (d .call ∷ []) []
+
+-- the state after three bytes that are one call or none: as it was where they are none
+abbrev pub AfterBytes : List ℕ → State → List Call → State → Type 0
+AfterBytes f s [] t = t ≡ s
+AfterBytes f s (c ∷ cs) t = Next f s c t
 
 -- the first n calls
 unfoldable pub callsBelow : ℕ → List ℕ → List Call

@@ -8,7 +8,7 @@ ghost use mathlib.Core.Path.{_≡_};
 ghost use mathlib.Core.Logic.{_≢_};
 ghost use mathlib.Core.Bool.{true};
 ghost use Prim.Native.Nat.{_+_, _*_, _≤_, _<_};
-ghost use lib.ListN.{length};
+ghost use lib.ListN.{length, replicate};
 ghost use Rattle.plan.specs.Reading.{refusal};
 ghost use Rattle.plan.specs.Plan.{planOf, Checked};
 ghost use Rattle.equations.specs.HoldTimes.{holdAt};
@@ -19,8 +19,8 @@ ghost use Rattle.state.specs.Shows.{freshState, shows};
 ghost use Rattle.state.specs.Sound.{sound};
 ghost use Rattle.state.specs.Seats.{Keys, Seats};
 ghost use Rattle.machine.specs.Replies.{reply, replyTold, Next, cutCount};
-ghost use Rattle.machine.specs.Inner.{refusedAt, Done, NewHead, grantedTold, cutsIn, AfterBytes};
-ghost use Rattle.machine.specs.Promise.{Returned, Promise, callOf, callsOf};
+ghost use Rattle.machine.specs.Inner.{refusedAt, Surveyed, Done, NewHead, grantedTold, cutsIn};
+ghost use Rattle.machine.specs.Promise.{Returned, Promise, callOf, callsOf, decodedCalls, AfterBytes};
 
 // The answer to a call, and the next state.
 pub struct Reply {
@@ -39,6 +39,12 @@ pub struct TickReply {
 pub struct Started {
     pub refusal: u8,
     pub state: State,
+}
+
+// Three bytes as a call, where they are one.
+pub struct Decoded {
+    pub known: bool,
+    pub call: Call,
 }
 
 // A fresh machine.
@@ -216,25 +222,54 @@ fn tick_on(
 }
 
 // 19, or what the call does, for a plan that passed every check.
-fn act(file: &[u8], state: State, call: Call) -> Reply
-    requires { ⌜ Checked (now file) ⌝ }
+fn act(file: &[u8], holds: &[u16], budgets: &[u16], state: State, call: Call) -> Reply
+    requires { ⌜ (Checked (now file)) × (Cells (holdAt (planOf (now file))) (now holds)) × (Shares (planOf (now file)) (now budgets)) ⌝ }
     ensures { λ r. ⌜ (r .answer ≡ reply (now (file .entry)) state call) × Next (now (file .entry)) state call (r .state) ⌝ }
 {
-    let mut holds = [0u16; 1024];
-    let mut budgets = [0u16; 128];
-    holds::hold_table(file, &mut holds, &mut budgets);
     let tasks = state.tasks;
     let keys = state::key_table(file, tasks);
     let mut seats = [0u8; 8193];
     state::fill_seats(file, tasks, &keys, &mut seats);
-    if !state::passes(state, &holds, &budgets, &keys, &seats) {
+    if !state::passes(state, holds, budgets, &keys, &seats) {
         return refuse(state, 19);
     }
     match call {
-        Call::Request(tag, q) => request_on(file, state, &holds, &budgets, &seats, tag, q),
-        Call::Release(tag, q) => release_on(file, state, &holds, &budgets, &keys, &seats, tag, q),
-        Call::Tick => tick_on(file, state, &holds, &budgets, &keys, &seats),
+        Call::Request(tag, q) => request_on(file, state, holds, budgets, &seats, tag, q),
+        Call::Release(tag, q) => release_on(file, state, holds, budgets, &keys, &seats, tag, q),
+        Call::Tick => tick_on(file, state, holds, budgets, &keys, &seats),
     }
+}
+
+// Looks at a plan file for the calls to come: the first check that it fails, 0 for none, and then its hold times and budgets, where
+// all were 0.
+pub fn survey(file: &[u8], holds: &mut [u16], budgets: &mut [u16]) -> u8
+    requires { ⌜ (now holds ≡ replicate 1024 0) × (now budgets ≡ replicate 128 0) ⌝ }
+    ensures { λ r. ⌜ Surveyed (now (file .entry)) r (now (holds .exit)) (now (budgets .exit)) ⌝ }
+{
+    let code = plan::check(file);
+    if code != 0 {
+        return code;
+    }
+    holds::hold_table(file, holds, budgets);
+    0
+}
+
+// A call on a state, with what a survey of the file gave. It is for crates that make many calls on one file that they hold.
+pub fn call_surveyed(
+    file: &[u8],
+    code: u8,
+    holds: &[u16],
+    budgets: &[u16],
+    state: State,
+    call: Call,
+) -> Reply
+    requires { ⌜ Surveyed (now file) code (now holds) (now budgets) ⌝ }
+    ensures { λ r. ⌜ (r .answer ≡ reply (now (file .entry)) state call) × Next (now (file .entry)) state call (r .state) ⌝ }
+{
+    if code != 0 {
+        return refuse(state, code);
+    }
+    act(file, holds, budgets, state, call)
 }
 
 // A call on a state.
@@ -243,11 +278,10 @@ pub fn call(file: &[u8], state: State, call: Call) -> Reply
     ensures { λ r. ⌜ Next (now (file .entry)) state call (r .state) ⌝ }
     ensures { λ r. ⌜ answerTold (r .answer) ≡ replyTold (now (file .entry)) state call ⌝ }
 {
-    let code = plan::check(file);
-    if code != 0 {
-        return refuse(state, code);
-    }
-    act(file, state, call)
+    let mut holds = [0u16; 1024];
+    let mut budgets = [0u16; 128];
+    let code = survey(file, &mut holds, &mut budgets);
+    call_surveyed(file, code, &holds, &budgets, state, call)
 }
 
 // A request of a resource by the task with this tag.
@@ -299,21 +333,40 @@ pub fn tick(file: &[u8], state: State) -> TickReply
     }
 }
 
+// The call in three bytes, where they are one: another letter, or a tick with other bytes than 0, is none.
+pub fn decode(letter: u8, tag: u8, resource: u8) -> Decoded
+    ensures { λ r. ⌜ decodedCalls r ≡ callOf letter tag resource ⌝ }
+{
+    match letter {
+        b'Q' => Decoded {
+            known: true,
+            call: Call::Request(tables::half(tag), resource),
+        },
+        b'R' => Decoded {
+            known: true,
+            call: Call::Release(tables::half(tag), resource),
+        },
+        b'T' => Decoded {
+            known: (tag == 0) & (resource == 0),
+            call: Call::Tick,
+        },
+        _ => Decoded {
+            known: false,
+            call: Call::Tick,
+        },
+    }
+}
+
 // The state after a call of three bytes, which is as it was where they are no call.
 fn after(file: &[u8], state: State, letter: u8, tag: u8, resource: u8) -> State
     ensures { λ r. ⌜ AfterBytes (now (file .entry)) state (callOf letter tag resource) r ⌝ }
 {
-    match letter {
-        b'Q' => request(file, state, tables::half(tag), resource).state,
-        b'R' => release(file, state, tables::half(tag), resource).state,
-        b'T' => {
-            if (tag == 0) & (resource == 0) {
-                return tick(file, state).state;
-            }
-            state
-        }
-        _ => state,
+    let decoded = decode(letter, tag, resource);
+    if !decoded.known {
+        return state;
     }
+    let wanted = decoded.call;
+    call(file, state, wanted).state
 }
 
 // The state after a list of calls of three bytes each, from a fresh machine on. One or two bytes left over are no call.

@@ -1,9 +1,7 @@
 // The machine, for programs in other languages that measure it or hold it against another.
 use protocol::Answer;
-use protocol::Call;
 use state::State;
 ghost use mathlib.Core.Path.{_≡_};
-ghost use Rattle.machine.specs.Replies.{reply};
 ghost use Rattle.machine.specs.Promise.{callOf};
 ghost use Rattle.machine_c.specs.Number.{answerNumber, callNumber, rowNumber, Answered, Shown};
 
@@ -23,30 +21,18 @@ fn answer_number(answer: Answer) -> u64
     }
 }
 
-// The answer to a call on a state, as a number.
-fn call_number(file: &[u8], state: State, call: Call) -> u64
-    ensures { λ r. ⌜ r ≡ answerNumber (reply (now (file .entry)) state call) ⌝ }
-{
-    let reply = machine::call(file, state, call);
-    let answer = reply.answer;
-    answer_number(answer)
-}
-
 // The answer to three bytes on a state: 0 where they are no call.
 fn bytes_number(file: &[u8], state: State, letter: u8, tag: u8, resource: u8) -> u64
     ensures { λ r. ⌜ r ≡ callNumber (now (file .entry)) state (callOf letter tag resource) ⌝ }
 {
-    match letter {
-        b'Q' => call_number(file, state, Call::Request(tables::half(tag), resource)),
-        b'R' => call_number(file, state, Call::Release(tables::half(tag), resource)),
-        b'T' => {
-            if (tag == 0) & (resource == 0) {
-                return call_number(file, state, Call::Tick);
-            }
-            0
-        }
-        _ => 0,
+    let decoded = machine::decode(letter, tag, resource);
+    if !decoded.known {
+        return 0;
     }
+    let wanted = decoded.call;
+    let reply = machine::call(file, state, wanted);
+    let answer = reply.answer;
+    answer_number(answer)
 }
 
 // Makes a list of calls of three bytes on a fresh machine, then one more, and returns its answer.

@@ -1,40 +1,130 @@
-// The printing program: reads a plan file on standard input, and prints what it has or why it is refused.
+// The printing program: reads a plan file and then calls of three bytes on standard input, and prints what each call does. What a
+// line says is the work of `transcript`; here bytes are only read and written.
 use libc::STDIN_FILENO;
 use libc::STDOUT_FILENO;
 use plan::ReadAnswer;
+use state::State;
+ghost use Prim.Native.Nat.{_-_, _≤_};
+ghost use mathlib.Core.Path.{_≡_};
+ghost use lib.ListN.{length};
+
+// What came of some calls: how many of their bytes were made, whether all lines could be written, and the state.
+struct Served {
+    used: usize,
+    written: bool,
+    state: State,
+}
+
+// Reads the plan to the front of the buffer: as many bytes as its header says, or as many as there are. The whole buffer is as long
+// as the longest plan that a header can tell of.
+fn read_plan(buf: &mut [u8]) -> usize
+    requires { ⌜ length (now buf) ≡ 65536 ⌝ }
+    ensures { λ r. ⌜ r ≤ 65536 ⌝ }
+{
+    let head = io::read_full(STDIN_FILENO, &mut buf[0..16]);
+    if head < 16 {
+        return head;
+    }
+    let end = plan::plan_length(buf);
+    if end <= 16 {
+        return end;
+    }
+    16 + io::read_full(STDIN_FILENO, &mut buf[16..end])
+}
 
 // "refused N".
 fn print_refused(number: u8) {
-    io::write_all(STDOUT_FILENO, b"refused ");
-    io::print_decimal(STDOUT_FILENO, number as u64);
-    io::write_all(STDOUT_FILENO, b"\n");
-}
-
-// A space and a number.
-fn print_field(value: u64) {
-    io::write_all(STDOUT_FILENO, b" ");
-    io::print_decimal(STDOUT_FILENO, value);
+    let mut out = [0u8; 96];
+    let line = transcript::refused_line(number, &mut out);
+    let end = line.length;
+    io::write_all(STDOUT_FILENO, &out[0..end]);
 }
 
 // "plan P N R S".
 fn print_plan(counts: rows::Counts) {
-    io::write_all(STDOUT_FILENO, b"plan");
-    print_field(counts.processors as u64);
-    print_field(counts.tasks as u64);
-    print_field(counts.resources as u64);
-    print_field(counts.sections as u64);
-    io::write_all(STDOUT_FILENO, b"\n");
+    let mut out = [0u8; 96];
+    let line = transcript::plan_line(counts, &mut out);
+    let end = line.length;
+    io::write_all(STDOUT_FILENO, &out[0..end]);
+}
+
+// Makes all whole calls, and writes their lines in pieces as large as the buffer.
+fn serve(file: &[u8], start: State, calls: &[u8], out: &mut [u8]) -> Served
+    requires { ⌜ 96 ≤ length (now out) ⌝ }
+    ensures { λ r. ⌜ r .used ≤ length (now (calls .entry)) ⌝ }
+{
+    let mut state = start;
+    let mut used = 0;
+    let mut written = true;
+    while written & (3 <= calls.len() - used) {
+        let batch = transcript::lines(file, state, &calls[used..], out);
+        let end = batch.length;
+        written = io::write_all(STDOUT_FILENO, &out[0..end]);
+        state = batch.state;
+        used += batch.used;
+    }
+    Served {
+        used,
+        written,
+        state,
+    }
+}
+
+// Moves the bytes from `used` up to `end` to the front, and says how many they are.
+fn keep(buf: &mut [u8], used: usize, end: usize) -> usize
+    requires { ⌜ (used ≤ end) × (end ≤ length (now buf)) ⌝ }
+    ensures { λ r. ⌜ r ≤ end ⌝ }
+{
+    let mut i = used;
+    while i < end {
+        buf[i - used] = buf[i];
+        i += 1;
+    }
+    end - used
+}
+
+// Reads once, behind the bytes that are kept: how many bytes came.
+fn read_more(buf: &mut [u8], kept: usize) -> usize
+    requires { ⌜ kept ≤ length (now buf) ⌝ }
+    ensures { λ r. ⌜ r ≤ length (now (buf .entry)) - kept ⌝ }
+{
+    let got = libc::read(STDIN_FILENO, &mut buf[kept..]);
+    io::count(got, &buf[kept..])
+}
+
+// Makes the calls that follow the plan, as they come, until the input ends or the output is closed. A proved loop has to end: the
+// turns are counted down from a number that no run uses up.
+fn serve_all(file: &[u8]) {
+    let mut calls = io::large_buffer();
+    let mut out = io::large_buffer();
+    let mut state = machine::start(file).state;
+    let mut kept = 0;
+    let mut going = true;
+    let mut turns = u64::MAX;
+    while going & (turns > 0) {
+        let got = read_more(&mut calls, kept);
+        let end = kept + got;
+        let served = serve(file, state, &calls[0..end], &mut out);
+        state = served.state;
+        kept = keep(&mut calls, served.used, end);
+        going = served.written & (got != 0);
+        turns -= 1;
+    }
+    if kept != 0 {
+        print_refused(22);
+    }
 }
 
 fn main() {
     let mut input = io::large_buffer();
-    let got = io::read_full(STDIN_FILENO, &mut input);
-    let end = plan::plan_length(&input[0..got]);
-    let found = plan::read(&input[0..end]);
+    let end = read_plan(&mut input);
+    let file = &input[0..end];
+    let found = plan::read(file);
     let answer = found.answer;
     let ReadAnswer::Accepted(counts) = answer else {
         print_refused(plan::number(answer));
         return;
     };
     print_plan(counts);
+    serve_all(file);
 }

@@ -6,7 +6,7 @@ use mathlib.Core.Path.{_≡_, refl, sym, ap, ap₂, _∙_}
 use native.Mathlib.Omega.{arith}
 use borrow.Author.Tests.{ltb-true, ltb-false, leb-true, eqb-true, eqb-false, eq-eqb, ne-eqb, not-true}
 use lib.Dec.{eqb, ltb}
-use lib.ListN.{length, getD, drop, length-drop, List·getD-eq-default}
+use lib.ListN.{length, getD, drop, length-drop, length-take, List·getD-eq-default}
 use lib.Seq.{getD-drop}
 use Rattle.folds.specs.Below.{sumBelow}
 use Rattle.folds.specs.Bytes.{number}
@@ -14,16 +14,16 @@ use Rattle.folds.proofs.Tests.{and-parts, is-not-true, code-zero, code-next, al
 use Rattle.folds.proofs.Figures.{sum-at}
 use Rattle.folds.proofs.Arrays.{by-eq}
 use Rattle.folds.proofs.RowLaws.{Bytes}
-use Rattle.rows.specs.Rules.{taskOf, countsOk, taskOk, tagNew, priorityNew, uniqueOk, namesOk, sumsOk, lengthOf}
+use Rattle.rows.specs.Rules.{taskOf, countsOk, taskOk, tagNew, priorityNew, uniqueOk, namesOk, sumsOk, lengthOf, lengthsOk}
 use Rattle.rows.specs.declared.Counts.{Counts}
 use Rattle.rows.specs.declared.TaskRow.{TaskRow}
 use Rattle.parts.specs.Layout.{countsOf, tasksAt, resourcesAt, sectionsAt, namesAt, offsetsOk, taskAt, taskSpare, sectionAt, taskRowsOk, lengthRowsOk, sectionRowsOk, sectionCode, restCode, partsCode, tasksOf, lengthsOf, sectionsOf, rowsOf, namesOf, startAt, lengthAt, resourceSpare}
-use Rattle.rows.proofs.Laws.{InRange, counts-facts, task-facts, section-facts}
-use Rattle.parts.proofs.Laws.{task-read, start-read, task-fields}
+use Rattle.rows.proofs.Laws.{InRange, counts-facts, task-facts, section-facts, length-facts}
+use Rattle.parts.proofs.Laws.{task-read, length-read, start-read, task-fields}
 use Rattle.plan.specs.declared.ReadAnswer.{ReadAnswer}
 use Rattle.plan.specs.declared.ReadAnswer.the-variants.{Accepted, Refused}
 use Rattle.plan.specs.Plan.{planOf, Checked, TaskFits, SectionFits, Valid}
-use Rattle.plan.specs.Reading.{headerCode, rowsCode, refusal, given, reading, refusedWith, told, readTold, nameRefusal}
+use Rattle.plan.specs.Reading.{headerCode, rowsCode, refusal, given, reading, refusedWith, told, readTold, nameRefusal, namePart}
 
 -- what the number of a file is after each check that fails or holds
 module _ (f : List ℕ) where
@@ -167,29 +167,49 @@ got-refusal f k e = go (eqb (refusal f) 0) refl e
     go true t a = let bad : 0 ≡ suc k = ap number-in a in let off : ⊥ = omega arith in absurd off
     go false t a = let same : suc (refusal f) ≡ suc k = ap number-in a in (omega arith, λ z. eqb-false (refusal f) 0 t (omega arith))
 
--- a name that is asked for rightly lies in the file
+-- a name that is asked for rightly lies in the file, and is as long as its rule says
 pub record Named (f : List ℕ) (q : ℕ) : Type 0 where
   pub whole : Whole f
   pub below : q < countsOf f .resources
   pub fits : namesAt (countsOf f) + (startAt (drop (resourcesAt (countsOf f)) f) q + lengthAt (drop (resourcesAt (countsOf f)) f) q) ≤ length f
+  pub short : lengthAt (drop (resourcesAt (countsOf f)) f) q ≤ 12
 
-name-below : (k q r : ℕ) → cond (eqb k 0) (cond (ltb q r) 0 12) k ≡ 0 → q < r
-name-below k q r e = ltb-true q r (code-zero (ltb q r) 0 11 (header-next k (cond (ltb q r) 0 12) e))
-
-pub name-facts : (f : List ℕ) (q : ℕ) → nameRefusal f q ≡ 0 → Named f q
-unfolding nameRefusal lengthRowsOk namesOk
-name-facts f q e =
+pub name-facts : (f : List ℕ) (q : ℕ) → refusal f ≡ 0 → q < countsOf f .resources → Named f q
+unfolding lengthRowsOk namesOk
+name-facts f q e l =
     let part : List ℕ = drop (resourcesAt (countsOf f)) f in
     let r : ℕ = countsOf f .resources in
-    let w = whole-facts f (header-zero (refusal f) (cond (ltb q r) 0 12) e) in
-    let l : q < r = name-below (refusal f) q r e in
+    let w = whole-facts f e in
     let at = and-parts (eqb (startAt part q) (sumBelow q (lengthAt part))) (eqb (resourceSpare part q) 0) (all-at r q _ (w .starts) l) in
     let start : startAt part q ≡ sumBelow q (lengthAt part) = eqb-true _ _ (at .0) in
-    let total : sumBelow r (lengthAt part) ≡ length (namesOf f) = sym (start-read r part r (omega arith) (w .header .ranges .resources)) ∙ eqb-true _ _ (and-parts (eqb (sumBelow r (lengthOf (lengthsOf f))) (length (namesOf f))) _ (w .names) .0) in
+    let kept = and-parts (eqb (sumBelow r (lengthOf (lengthsOf f))) (length (namesOf f))) _ (w .names) in
+    let total : sumBelow r (lengthAt part) ≡ length (namesOf f) = sym (start-read r part r (omega arith) (w .header .ranges .resources)) ∙ eqb-true _ _ (kept .0) in
+    let rule = length-facts r q (lengthsOf f) (and-parts (lengthsOk r (lengthsOf f)) _ (kept .1) .0) l in
     record {
       whole = w;
       below = l;
       fits = omega (arith, sum-at r q (lengthAt part) l, length-drop (namesAt (countsOf f)) f, w .header .ends);
+      short = omega (arith, rule .high, length-read r part q l (w .header .ranges .resources));
+    }
+
+-- a part of the file that is such a name
+pub name-said : (part f : List ℕ) (q : ℕ) → Named f q → part ≡ namePart f q → (part ≡ namePart f q) × (length part ≤ 12)
+unfolding namePart
+name-said part f q n e =
+    (e, rw e (omega (arith, length-take (lengthAt (drop (resourcesAt (countsOf f)) f) q) (drop (namesAt (countsOf f) + startAt (drop (resourcesAt (countsOf f)) f) q) f), n .short)))
+
+-- what a question for a name that is not refused says
+pub record Answered (f : List ℕ) (q : ℕ) : Type 0 where
+  pub none : refusal f ≡ 0
+  pub below : q < countsOf f .resources
+
+pub name-answered : (f : List ℕ) (q : ℕ) → nameRefusal f q ≡ 0 → Answered f q
+unfolding nameRefusal
+name-answered f q e =
+    let r : ℕ = countsOf f .resources in
+    record {
+      none = header-zero (refusal f) (cond (ltb q r) 0 12) e;
+      below = ltb-true q r (code-zero (ltb q r) 0 11 (header-next (refusal f) (cond (ltb q r) 0 12) e));
     }
 
 -- the plan of a file has the counts in its header

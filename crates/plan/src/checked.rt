@@ -4,8 +4,10 @@ use rows::Counts;
 use rows::SectionRow;
 use rows::TaskRow;
 ghost use mathlib.Core.Path.{_≡_};
-ghost use Prim.Native.Nat.{_<_};
+ghost use Prim.Native.Nat.{_<_, _≤_};
+ghost use lib.ListN.{length};
 ghost use Rattle.plan.specs.Plan.{planOf, Checked};
+ghost use Rattle.plan.specs.Reading.{namePart};
 
 // How many processors, tasks, resources and sections the plan has.
 pub fn counts(file: &[u8]) -> Counts
@@ -30,4 +32,17 @@ pub fn section(file: &[u8], s: usize) -> SectionRow
 {
     let at = parts::sections_at(parts::counts_at(file));
     parts::section_at(&file[at..], s)
+}
+
+// The name of a resource, as that part of the file.
+pub fn name(file: &[u8], resource: u8) -> &[u8]
+    requires { ⌜ (Checked (now file)) × (resource < planOf (now file) .resources) ⌝ }
+    ensures { λ r. ⌜ (now r ≡ namePart (now (file .entry)) resource) × (length (now r) ≤ 12) ⌝ }
+{
+    let counts = parts::counts_at(file);
+    let resources_at = parts::resources_at(counts);
+    let row = parts::resource_at(&file[resources_at..], folds::wide(resource));
+    let start = parts::names_at(counts) + row.start;
+    let end = start + row.length;
+    &file[start..end]
 }

@@ -148,12 +148,7 @@ pub fn name(file: &[u8], resource: u8) -> &[u8]
     if name_refusal(file, resource) != 0 {
         return &file[0..0];
     }
-    let counts = parts::counts_at(file);
-    let resources_at = parts::resources_at(counts);
-    let row = parts::resource_at(&file[resources_at..], folds::wide(resource));
-    let start = parts::names_at(counts) + row.start;
-    let end = start + row.length;
-    &file[start..end]
+    checked::name(file, resource)
 }
 
 // How many bytes of the input are its plan: as many as bytes 14 and 15 say, and all where there are fewer.

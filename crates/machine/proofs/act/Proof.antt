@@ -1,4 +1,4 @@
--- The tables are made of the plan and the state, and the test by them is that of soundness.
+-- The tables of the state are made of it, and the test by them is that of soundness.
 use borrow.Author.Needs.{needs}
 use Rattle.plan.proofs.Laws.{valid-plan}
 use Rattle.machine.proofs.Acting.{keys-low, places-low, Made, passed, not-passed, unsound-reply, sound-reply}
@@ -13,14 +13,11 @@ use Rattle.machine.proofs.refuse.Reads as refuse-reads
 use Rattle.state.proofs.fill_seats.Reads as fill-seats-reads
 use Rattle.state.proofs.key_table.Reads as key-table-reads
 use Rattle.state.proofs.passes.Reads as passes-reads
-use Rattle.holds.proofs.hold_table.Reads as hold-table-reads
 
 -- once the tables are made
 abbrev Here : Type 0
 Here =
     lts.After-fill-seats (
-      hold-table-reads.Asked,
-      hold-table-reads.Learnt,
       key-table-reads.Asked,
       key-table-reads.Learnt,
       fill-seats-reads.Asked,
@@ -40,27 +37,12 @@ Here =
 
 -- they are those of the plan and the state
 made : (c : Here)
-    → let k = c .before .before .before in let h = k .before .before .before .before in let a = h .before .before .before .before .args in
-    Made (a .file .now) (a .state) (h .hold-table .last .1 .0) (h .hold-table .last .1 .1 .0) (k .key-table .result) (c .fill-seats .last .1 .1 .1 .0)
+    → let k = c .before .before .before in let a = k .before .before .before .before .before .args in
+    Made (a .file .now) (a .state) (a .holds .now) (a .budgets .now) (k .key-table .result) (c .fill-seats .last .1 .1 .1 .0)
 made c =
     let k = c .before .before .before in
-    let h = k .before .before .before .before in
-    record {
-      plan = h .before .before .before .before .pre;
-      holds = h .hold-table .ensures .0;
-      budgets = h .hold-table .ensures .1;
-      keys = k .key-table .ensures;
-      seats = c .fill-seats .ensures;
-    }
-
-slice-aggregate-hold-table : tie.Need-slice-aggregate-hold-table
-slice-aggregate-hold-table c = search needs
-
-slice-aggregate-hold-table-2 : tie.Need-slice-aggregate-hold-table-2
-slice-aggregate-hold-table-2 c = search needs
-
-hold-table-requires : tie.Need-hold-table-requires
-hold-table-requires c κs = search needs
+    let g = k .before .before .before .before .before .pre in
+    record { plan = g .0; holds = g .1; budgets = g .2; keys = k .key-table .ensures; seats = c .fill-seats .ensures }
 
 key-table-requires : tie.Need-key-table-requires
 key-table-requires c κs = search needs
@@ -80,15 +62,9 @@ slice-aggregate-passes c = search needs
 slice-aggregate-passes-2 : tie.Need-slice-aggregate-passes-2
 slice-aggregate-passes-2 c = search needs
 
-slice-aggregate-passes-3 : tie.Need-slice-aggregate-passes-3
-slice-aggregate-passes-3 c = search needs
-
-slice-aggregate-passes-4 : tie.Need-slice-aggregate-passes-4
-slice-aggregate-passes-4 c = search needs
-
 passes-requires : tie.Need-passes-requires
 passes-requires c κs =
-    let m = made (c .before .before .before .before .before) in
+    let m = made (c .before .before .before) in
     let v = valid-plan _ (m .plan) in
     (m .holds .long, m .budgets .long, m .keys .long, m .seats .long, m .seats .low, keys-low _ v _ _ (m .keys), places-low _ v _ _ (m .keys))
 
@@ -98,7 +74,7 @@ refuse-requires c κs = search needs
 returns : tie.Need-returns
 returns c =
     let t = c .before .before in
-    let m = made (t .before .before .before .before .before .before) in
+    let m = made (t .before .before .before .before) in
     rw (c .refuse .ensures) (unsound-reply _ (m .plan .none) _ _ (not-passed m (t .passes .ensures) (c .before .if1 .taken)))
 
 enum-known-call : tie.Need-enum-known-call
@@ -107,16 +83,10 @@ enum-known-call c = search needs
 slice-aggregate-request-on : tie.Need-slice-aggregate-request-on
 slice-aggregate-request-on c = search needs
 
-slice-aggregate-request-on-2 : tie.Need-slice-aggregate-request-on-2
-slice-aggregate-request-on-2 c = search needs
-
-slice-aggregate-request-on-3 : tie.Need-slice-aggregate-request-on-3
-slice-aggregate-request-on-3 c = search needs
-
 request-on-requires : tie.Need-request-on-requires
 request-on-requires c κs =
-    let i = c .before .before .before .before .before .before in
-    let m = made (i .before .before .before .before .before .before .before) in
+    let i = c .before .before .before .before in
+    let m = made (i .before .before .before .before .before) in
     (m .plan, m .holds, m .budgets, m .seats, passed m (i .before .passes .ensures) (i .if1 .left))
 
 enum-known-call-2 : tie.Need-enum-known-call-2
@@ -128,16 +98,10 @@ slice-aggregate-release-on c = search needs
 slice-aggregate-release-on-2 : tie.Need-slice-aggregate-release-on-2
 slice-aggregate-release-on-2 c = search needs
 
-slice-aggregate-release-on-3 : tie.Need-slice-aggregate-release-on-3
-slice-aggregate-release-on-3 c = search needs
-
-slice-aggregate-release-on-4 : tie.Need-slice-aggregate-release-on-4
-slice-aggregate-release-on-4 c = search needs
-
 release-on-requires : tie.Need-release-on-requires
 release-on-requires c κs =
-    let i = c .before .before .before .before .before .before .before in
-    let m = made (i .before .before .before .before .before .before .before) in
+    let i = c .before .before .before .before .before in
+    let m = made (i .before .before .before .before .before) in
     (m .plan, m .holds, m .budgets, m .keys, m .seats, passed m (i .before .passes .ensures) (i .if1 .left))
 
 enum-told : tie.Need-enum-told
@@ -149,73 +113,56 @@ slice-aggregate-tick-on c = search needs
 slice-aggregate-tick-on-2 : tie.Need-slice-aggregate-tick-on-2
 slice-aggregate-tick-on-2 c = search needs
 
-slice-aggregate-tick-on-3 : tie.Need-slice-aggregate-tick-on-3
-slice-aggregate-tick-on-3 c = search needs
-
-slice-aggregate-tick-on-4 : tie.Need-slice-aggregate-tick-on-4
-slice-aggregate-tick-on-4 c = search needs
-
 tick-on-requires : tie.Need-tick-on-requires
 tick-on-requires c κs =
-    let i = c .before .before .before .before .before .before in
-    let m = made (i .before .before .before .before .before .before .before) in
+    let i = c .before .before .before .before in
+    let m = made (i .before .before .before .before .before) in
     (m .plan, m .holds, m .budgets, m .keys, m .seats, passed m (i .before .passes .ensures) (i .if1 .left))
 
 returns-2 : tie.Need-returns-2
 returns-2 c =
-    let i = c .before .before .before .before .before .before .before in
-    let m = made (i .before .before .before .before .before .before .before) in
+    let i = c .before .before .before .before .before in
+    let m = made (i .before .before .before .before .before) in
     let h = passed m (i .before .passes .ensures) (i .if1 .left) in
-    rw (c .before .before .before .before .before .call .given .1) (sound-reply _ (m .plan .none) _ _ h (c .request-on .ensures))
+    rw (c .before .before .before .call .given .1) (sound-reply _ (m .plan .none) _ _ h (c .request-on .ensures))
 
 returns-3 : tie.Need-returns-3
 returns-3 c =
-    let i = c .before .before .before .before .before .before .before .before in
-    let m = made (i .before .before .before .before .before .before .before) in
+    let i = c .before .before .before .before .before .before in
+    let m = made (i .before .before .before .before .before) in
     let h = passed m (i .before .passes .ensures) (i .if1 .left) in
-    rw (c .before .before .before .before .before .before .call2 .given .1) (sound-reply _ (m .plan .none) _ _ h (c .release-on .ensures))
+    rw (c .before .before .before .before .call2 .given .1) (sound-reply _ (m .plan .none) _ _ h (c .release-on .ensures))
 
 returns-4 : tie.Need-returns-4
 returns-4 c =
-    let i = c .before .before .before .before .before .before .before in
-    let m = made (i .before .before .before .before .before .before .before) in
+    let i = c .before .before .before .before .before in
+    let m = made (i .before .before .before .before .before) in
     let h = passed m (i .before .passes .ensures) (i .if1 .left) in
-    rw (c .before .before .before .before .before .enum-told .given .1) (sound-reply _ (m .plan .none) _ _ h (c .tick-on .ensures))
+    rw (c .before .before .before .enum-told .given .1) (sound-reply _ (m .plan .none) _ _ h (c .tick-on .ensures))
 
 pub act-spec : {M : Type 1} → statement M
 act-spec =
     tie.close
     (tie.spec
-    slice-aggregate-hold-table
-    slice-aggregate-hold-table-2
-    hold-table-requires
     key-table-requires
     slice-aggregate-fill-seats
     slice-aggregate-fill-seats-2
     fill-seats-requires
     slice-aggregate-passes
     slice-aggregate-passes-2
-    slice-aggregate-passes-3
-    slice-aggregate-passes-4
     passes-requires
     refuse-requires
     returns
     enum-known-call
     slice-aggregate-request-on
-    slice-aggregate-request-on-2
-    slice-aggregate-request-on-3
     request-on-requires
     enum-known-call-2
     slice-aggregate-release-on
     slice-aggregate-release-on-2
-    slice-aggregate-release-on-3
-    slice-aggregate-release-on-4
     release-on-requires
     enum-told
     slice-aggregate-tick-on
     slice-aggregate-tick-on-2
-    slice-aggregate-tick-on-3
-    slice-aggregate-tick-on-4
     tick-on-requires
     returns-2
     returns-3

@@ -1,36 +1,42 @@
--- The number of the reading, then what the checked plan says.
-use mathlib.Core.Path.{sym, ap, _∙_}
+-- A survey, then the call by what it gave.
+use mathlib.Core.Path.{ap, _∙_}
 use borrow.Author.Needs.{needs}
 use Rattle.protocol.specs.Machine.{answerTold}
-use Rattle.machine.proofs.Answered.{reply-told, plan-refused, reply-refused, next-refused}
+use Rattle.machine.proofs.Answered.{reply-told}
 use Rattle.machine.proofs.call.Statement.{statement}
 use Rattle.machine.proofs.call.Tie as tie
 
-check-requires : tie.Need-check-requires
-check-requires c κs = search needs
+slice-aggregate-survey : tie.Need-slice-aggregate-survey
+slice-aggregate-survey c = search needs
 
-refuse-requires : tie.Need-refuse-requires
-refuse-requires c κs = search needs
+slice-aggregate-survey-2 : tie.Need-slice-aggregate-survey-2
+slice-aggregate-survey-2 c = search needs
+
+survey-requires : tie.Need-survey-requires
+survey-requires c κs = search needs
+
+slice-aggregate-call-surveyed : tie.Need-slice-aggregate-call-surveyed
+slice-aggregate-call-surveyed c = search needs
+
+slice-aggregate-call-surveyed-2 : tie.Need-slice-aggregate-call-surveyed-2
+slice-aggregate-call-surveyed-2 c = search needs
+
+call-surveyed-requires : tie.Need-call-surveyed-requires
+call-surveyed-requires c κs = search needs
 
 returns : tie.Need-returns
 returns c =
-    let a = c .before .before .before .before .args in
-    let bad = c .before .if1 .taken in
-    let e = plan-refused _ _ (a .call) (c .before .before .check .ensures) bad in
-    let r = reply-refused _ _ _ e bad in
-    rw (c .refuse .ensures) (r, (next-refused _ _ _ (λ z. bad (sym e ∙ z)), ap answerTold r ∙ reply-told _ _ _))
-
-act-requires : tie.Need-act-requires
-act-requires c κs =
-    record {
-      none = sym (c .before .check .ensures) ∙ c .if1 .left;
-      bytes = λ i l. c .before .before .shared-slice-known .given i .fits;
-    }
-
-returns-2 : tie.Need-returns-2
-returns-2 c =
-    let h = c .act .ensures in
+    let h = c .call-surveyed .ensures in
     (h .0, (h .1, ap answerTold (h .0) ∙ reply-told _ _ _))
 
 pub call-spec : {M : Type 1} → statement M
-call-spec = tie.close (tie.spec check-requires refuse-requires returns act-requires returns-2)
+call-spec =
+    tie.close
+    (tie.spec
+    slice-aggregate-survey
+    slice-aggregate-survey-2
+    survey-requires
+    slice-aggregate-call-surveyed
+    slice-aggregate-call-surveyed-2
+    call-surveyed-requires
+    returns)

@@ -1,14 +1,9 @@
--- The part from the name's start to its end lies in the file, as the checks of the resource rows gave.
-use Prim.Native.Nat.{_+_}
-use mathlib.Core.Path.{_≡_, sym, ap, _∙_}
-use native.Mathlib.Omega.{arith}
+-- A question that is not refused is one of a checked file, for one of its resources.
+use mathlib.Core.Path.{sym, _∙_}
 use borrow.Author.Needs.{needs}
 use borrow.Author.Tests.{eq-eqb, ne-eqb}
-use lib.ListN.{drop, length-drop}
-use Rattle.folds.proofs.Parts.{part-rest, part-span}
-use Rattle.parts.specs.Layout.{countsOf, resourcesAt, namesAt, startAt, lengthAt}
-use Rattle.plan.specs.Reading.{nameOf, namePart}
-use Rattle.plan.proofs.Laws.{Named, name-facts}
+use Rattle.plan.specs.Reading.{nameOf}
+use Rattle.plan.proofs.Laws.{name-answered, plan-resources}
 use Rattle.plan.proofs.name.Statement.{statement}
 use Rattle.plan.proofs.name.Tie as tie
 
@@ -28,77 +23,16 @@ returns : tie.Need-returns
 unfolding nameOf
 returns c = rw (ne-eqb _ _ (λ e. c .before .if1 .taken (c .before .before .name-refusal .ensures ∙ e)))
 
--- what a question that is not refused tells of the file
-asked : (c : tie.Else1) → Named (c .before .before .before .args .file .now) (c .before .before .before .args .resource)
-asked c = name-facts _ _ (sym (c .before .name-refusal .ensures) ∙ c .if1 .left)
-
--- the row's start and length, said of the file
-start-said : (c : tie.After-resource-at) → c .resource-at .result .start ≡ startAt (drop (resourcesAt (countsOf (c .before .before .before .before .before .before .before .before .args .file .now))) (c .before .before .before .before .before .before .before .before .args .file .now)) (c .before .before .before .before .before .before .before .before .args .resource)
-start-said c =
-    rw (part-rest, c .before .before .before .resources-at .ensures, c .before .before .before .before .counts-at .ensures, c .before .wide .ensures .0) at (c .resource-at .ensures .0)
-
-length-said : (c : tie.After-resource-at) → c .resource-at .result .length ≡ lengthAt (drop (resourcesAt (countsOf (c .before .before .before .before .before .before .before .before .args .file .now))) (c .before .before .before .before .before .before .before .before .args .file .now)) (c .before .before .before .before .before .before .before .before .args .resource)
-length-said c =
-    rw (part-rest, c .before .before .before .resources-at .ensures, c .before .before .before .before .counts-at .ensures, c .before .wide .ensures .0) at (c .resource-at .ensures .2)
-
-counts-at-requires : tie.Need-counts-at-requires
-counts-at-requires c κs = asked c .whole .header .long
-
-resources-at-requires : tie.Need-resources-at-requires
-resources-at-requires c κs = search needs
-
-sub-resource-at : tie.Need-sub-resource-at
-sub-resource-at c =
-    let e = c .resources-at .ensures ∙ ap resourcesAt (c .before .counts-at .ensures) in
-    omega (arith, asked (c .before .before) .whole .header .ends)
-
-part-resource-at-start : tie.Need-part-resource-at-start
-part-resource-at-start c =
-    let e = c .resources-at .ensures ∙ ap resourcesAt (c .before .counts-at .ensures) in
-    omega (arith, asked (c .before .before) .whole .header .ends)
-
-part-resource-at-end : tie.Need-part-resource-at-end
-part-resource-at-end c = search needs
-
-wide-requires : tie.Need-wide-requires
-wide-requires c κs = search needs
-
-resource-at-requires : tie.Need-resource-at-requires
-resource-at-requires c κs =
-    let n = asked (c .before .before .before .before) in
-    let e = c .before .before .resources-at .ensures ∙ ap resourcesAt (c .before .before .before .counts-at .ensures) in
-    simp (part-rest, length-drop) (omega (arith, n .whole .header .ends, n .below, c .wide .ensures .0, c .wide .ensures .1))
-
-names-at-requires : tie.Need-names-at-requires
-names-at-requires c κs = search needs
-
-add-start : tie.Need-add-start
-add-start c = search needs
-
-add-end : tie.Need-add-end
-add-end c = search needs
-
-sub-result-2 : tie.Need-sub-result-2
-sub-result-2 c = search needs
-
-part-result-start-2 : tie.Need-part-result-start-2
-part-result-start-2 c = search needs
-
-part-result-end-2 : tie.Need-part-result-end-2
-part-result-end-2 c =
-    let r = c .before .before .before in
-    let n = asked (r .before .before .before .before .before) in
-    let e = c .before .before .names-at .ensures ∙ ap namesAt (r .before .before .before .before .counts-at .ensures) in
-    omega (arith, n .fits, start-said r, length-said r)
+name-requires : tie.Need-name-requires
+name-requires c κs =
+    let a = name-answered _ _ (sym (c .before .name-refusal .ensures) ∙ c .if1 .left) in
+    (record { none = a .none; bytes = λ i l. c .before .before .shared-slice-known .given i .fits }, rw plan-resources (a .below))
 
 returns-2 : tie.Need-returns-2
-unfolding nameOf namePart
+unfolding nameOf
 returns-2 c =
-    let r = c .before .before .before .before in
-    let u = r .before .before .before .before .before in
-    let e = c .before .before .before .names-at .ensures ∙ ap namesAt (r .before .before .before .before .counts-at .ensures) in
-    part-span (c .before .before .before .names-at .result + r .resource-at .result .start) (r .resource-at .result .length) (u .before .before .before .args .file .now)
-    ∙ rw (e, start-said r, length-said r, eq-eqb _ _ (sym (u .before .name-refusal .ensures) ∙ u .if1 .left))
+    let u = c .before in
+    rw (eq-eqb _ _ (sym (u .before .name-refusal .ensures) ∙ u .if1 .left)) (c .name .ensures .0)
 
 pub name-spec : {M : Type 1} → statement M
 name-spec =
@@ -109,17 +43,5 @@ name-spec =
     part-result-start
     part-result-end
     returns
-    counts-at-requires
-    resources-at-requires
-    sub-resource-at
-    part-resource-at-start
-    part-resource-at-end
-    wide-requires
-    resource-at-requires
-    names-at-requires
-    add-start
-    add-end
-    sub-result-2
-    part-result-start-2
-    part-result-end-2
+    name-requires
     returns-2)

@@ -1,44 +1,12 @@
 //! Both sides on plans that are damaged, and on plans that are not: each must give the same number.
 
-use crate::random::Random;
-use crate::{lists, plain, plans, proved};
+use crate::{plain, proved};
+use bench::{lists, plans};
+use compare::damage::damaged;
+use compare::random::Random;
+use peer::calls::{Call, TUNED};
 
 const START: u64 = 0x9e37_79b9_7f4a_7c15;
-
-/// Where the five parts of a good file begin, and its end.
-fn bounds(good: &[u8]) -> [usize; 6] {
-    let word = |at: usize| usize::from(u16::from_le_bytes([good[at], good[at + 1]]));
-    [0, word(6), word(8), word(10), word(12), good.len()]
-}
-
-/// Changes a byte of any part: to any value, by one up or down, or to what stands one or more rows on.
-fn change(file: &mut [u8], bounds: [usize; 6], random: &mut Random) {
-    let part = random.below(5);
-    let (start, end) = (bounds[part], bounds[part + 1]);
-    let at = start + random.below(end - start);
-    file[at] = match random.below(4) {
-        0 => random.next() as u8,
-        1 => file[at].wrapping_add(1),
-        2 => file[at].wrapping_sub(1),
-        _ => file[start + (at - start + 8 * random.below(8)) % (end - start)],
-    };
-}
-
-/// One to three changes, and now and then another length, told or not.
-fn damaged(good: &[u8], random: &mut Random) -> Vec<u8> {
-    let mut file = good.to_vec();
-    for _ in 0..1 + random.below(3) {
-        change(&mut file, bounds(good), random);
-    }
-    if random.below(16) == 0 {
-        file.resize(random.below(2 * good.len()), b'A');
-        if file.len() >= 16 && random.below(2) == 0 {
-            let length = file.len() as u16;
-            file[14..16].copy_from_slice(&length.to_le_bytes());
-        }
-    }
-    file
-}
 
 /// Reading `copies` damaged copies; prints how often each refusal came up.
 pub fn damaged_plans(plans: &[&[u8]], copies: usize) {
@@ -89,7 +57,7 @@ pub fn lists(count: usize, length: usize) {
         for _ in 0..length {
             let call = lists::some(&plan, &state, &mut random);
             let one = proved::answer(&file, &calls, call);
-            match lists::make(&file, &state, call) {
+            match TUNED.make(&file, &state, Call::of(call)) {
                 Some((answer, next)) => {
                     assert_eq!(
                         one,

@@ -1,0 +1,110 @@
+//! The case program: each line of the proved one against that of the peer.
+
+use crate::given::{case, record};
+use crate::met::Met;
+use crate::watch::{self, Watched};
+use crate::work::{program, run, share, Difference};
+use peer::calls::{PLAIN, TUNED};
+use std::path::Path;
+
+/// The kinds, and how many cases of each are made.
+const KINDS: [(u8, &str, usize); 12] = [
+    (b'R', "readings", 12_000),
+    (b'N', "names", 3_000),
+    (b'W', "writings", 4_000),
+    (b'H', "hold times", 6_000),
+    (b'B', "budgets", 4_000),
+    (b'T', "wait times", 4_000),
+    (b'Q', "requirements", 4_000),
+    (b'A', "admissions", 2_000),
+    (b'L', "all hold times", 2_000),
+    (b'M', "lists", 2_500),
+    (b'S', "calls on a state", 12_000),
+    (b'V', "lists with each state", 2_500),
+];
+/// So many cases go to one run of the program.
+const BATCH: usize = 100;
+/// One batch in so many goes through the plain machine, the others through the tuned one.
+const BY_PLAIN: usize = 4;
+
+#[derive(Default)]
+struct Found {
+    met: Met,
+    watched: Watched,
+    differences: Vec<Difference>,
+}
+
+fn batch((kind, what, start): (u8, &str, usize), proved: &Path) -> Found {
+    let cases: Vec<_> = (start..start + BATCH).map(|n| (n, case(kind, n))).collect();
+    let records = cases
+        .iter()
+        .map(|(number, case)| record(kind, *number, case));
+    let records: Vec<_> = records.collect();
+    let output = run(proved, &records.concat(), usize::MAX);
+    let mut lines = output.split_inclusive(|&b| b == b'\n');
+    let machine = if (start / BATCH).is_multiple_of(BY_PLAIN) {
+        PLAIN
+    } else {
+        TUNED
+    };
+    let mut found = Found::default();
+    for ((number, case), record) in cases.iter().zip(&records) {
+        let line = lines.next().unwrap_or_default();
+        let peer = peer::cases::line(&record[4..], &machine).unwrap_or_default() + "\n";
+        let difference = Difference::of(what, *number, record, line, peer.as_bytes());
+        found.differences.extend(difference);
+        put_answers(&mut found.met, &String::from_utf8_lossy(line));
+        if kind == b'V' {
+            watch_line((*number, case), record, line, &mut found);
+        }
+    }
+    let rest: Vec<u8> = lines.flatten().copied().collect();
+    let difference = Difference::of(what, start, &records.concat(), &rest, b"");
+    found.differences.extend(difference);
+    found
+}
+
+/// The answers of a line, behind its label: one, or those of a list, each with a state behind it or not.
+fn put_answers(met: &mut Met, line: &str) {
+    let answers = line.trim_end().split_once(": ");
+    let answers = answers.map_or("", |(_, answers)| answers);
+    answers.split("; ").for_each(|answer| met.put(answer));
+}
+
+/// The promise, on the line of the proved program alone.
+fn watch_line((number, case): (usize, &[u8]), record: &[u8], line: &[u8], found: &mut Found) {
+    match watch::list(case, &String::from_utf8_lossy(line)) {
+        Ok(watched) => found.watched.add(&watched),
+        Err(error) => found.differences.push(Difference {
+            what: "promise".to_string(),
+            number,
+            at: String::new(),
+            input: record.to_vec(),
+            proved: error,
+            peer: "the document's limit".to_string(),
+        }),
+    }
+}
+
+/// Compares all cases, says how many there were and what was watched, and gives what differs.
+pub fn compare(times: usize) -> Vec<Difference> {
+    let proved = program("CASES", "cases");
+    let kinds = KINDS.map(|(kind, what, count)| (kind, what, times * count));
+    let batches = kinds.iter().flat_map(|&(kind, what, count)| {
+        (0..count)
+            .step_by(BATCH)
+            .map(move |start| (kind, what, start))
+    });
+    let batches: Vec<_> = batches.collect();
+    let found = share(batches.len(), |number| batch(batches[number], &proved));
+    let kinds = kinds.map(|(_, what, count)| format!("{count} {what}"));
+    println!("The case program: {}.", kinds.join(", "));
+    let (mut met, mut watched) = (Met::default(), Watched::default());
+    for f in &found {
+        met.add(&f.met);
+        watched.add(&f.watched);
+    }
+    met.tell();
+    watched.tell();
+    found.into_iter().flat_map(|f| f.differences).collect()
+}

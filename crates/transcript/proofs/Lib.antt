@@ -1,0 +1,5 @@
+pub mod Buffers
+pub mod Naming
+pub mod Calls
+pub mod Batches
+pub mod Rules

@@ -1,0 +1,4 @@
+pub mod Calls
+pub mod Output
+pub mod Buffers
+pub mod Inner

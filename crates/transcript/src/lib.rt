@@ -1,0 +1,173 @@
+// What a call does, as a line of text in a lent buffer: document 01, "The printing program".
+use rows::Counts;
+use state::State;
+ghost use mathlib.Core.Path.{_≡_};
+ghost use Prim.Native.Nat.{_+_, _≤_};
+ghost use lib.ListN.{length};
+ghost use Rattle.machine.specs.Inner.{Surveyed};
+ghost use Rattle.machine.specs.Promise.{callOf, AfterBytes};
+ghost use Rattle.wording.specs.Lines.{refusedLine, planLine};
+ghost use Rattle.transcript.specs.Calls.{callLine};
+ghost use Rattle.transcript.specs.Buffers.{lineFor, lineIn, StateBeside, Told};
+ghost use Rattle.transcript.specs.Inner.{Stepped};
+
+// A line in a buffer: its length, or the refusal 10 where the buffer is too short for it.
+pub struct Line {
+    pub refusal: u8,
+    pub length: usize,
+}
+
+// A line, and the state after its call.
+pub struct CallLine {
+    pub line: Line,
+    pub state: State,
+}
+
+// The lines of many calls: how many bytes of calls were made, how long the lines are, and the state after them.
+pub struct Batch {
+    pub used: usize,
+    pub length: usize,
+    pub state: State,
+}
+
+// Where a line ends, and the state after its call.
+struct Step {
+    end: usize,
+    state: State,
+}
+
+// Makes a call of three bytes, and puts its line.
+fn put_call(
+    buf: &mut [u8],
+    at: usize,
+    file: &[u8],
+    code: u8,
+    holds: &[u16],
+    budgets: &[u16],
+    state: State,
+    letter: u8,
+    tag: u8,
+    resource: u8,
+) -> Step
+    requires { ⌜ (Surveyed (now file) code (now holds) (now budgets)) × (at + 96 ≤ length (now buf)) ⌝ }
+    ensures { λ r. ⌜ Stepped (now (file .entry)) state letter tag resource (now (buf .entry)) (now (buf .exit)) at r ⌝ }
+{
+    let decoded = machine::decode(letter, tag, resource);
+    if !decoded.known {
+        let end = wording::put_refused(buf, at, 21);
+        return Step { end, state };
+    }
+    let wanted = decoded.call;
+    let reply = machine::call_surveyed(file, code, holds, budgets, state, wanted);
+    let answer = reply.answer;
+    let next = reply.state;
+    let end = wording::put_answer(buf, at, file, tag, resource, answer);
+    Step { end, state: next }
+}
+
+// Puts a line at the front of a lent buffer, where it is long enough.
+fn hand_over(line: &[u8], out: &mut [u8]) -> Line
+    ensures { λ r. ⌜ (r ≡ lineFor (now (line .entry)) (length (now (out .entry)))) × (now (out .exit) ≡ lineIn (now (line .entry)) (now (out .entry))) ⌝ }
+{
+    if out.len() < line.len() {
+        return Line {
+            refusal: 10,
+            length: 0,
+        };
+    }
+    let length = text::put(out, 0, line);
+    Line { refusal: 0, length }
+}
+
+// The line of a refusal: of a plan that is refused, or 22 for bytes left over.
+pub fn refused_line(number: u8, out: &mut [u8]) -> Line
+    ensures { λ r. ⌜ r ≡ lineFor (refusedLine number) (length (now (out .entry))) ⌝ }
+    ensures { λ r. ⌜ now (out .exit) ≡ lineIn (refusedLine number) (now (out .entry)) ⌝ }
+{
+    let mut line = [0u8; 96];
+    let end = wording::put_refused(&mut line, 0, number);
+    hand_over(&line[0..end], out)
+}
+
+// The line of a plan that is read.
+pub fn plan_line(counts: Counts, out: &mut [u8]) -> Line
+    ensures { λ r. ⌜ r ≡ lineFor (planLine counts) (length (now (out .entry))) ⌝ }
+    ensures { λ r. ⌜ now (out .exit) ≡ lineIn (planLine counts) (now (out .entry)) ⌝ }
+{
+    let mut line = [0u8; 96];
+    let end = wording::put_plan(&mut line, 0, counts);
+    hand_over(&line[0..end], out)
+}
+
+// Makes a call of three bytes on a state: its line, and the next state. Where the buffer is too short for the line, nothing is done.
+pub fn call_line(
+    file: &[u8],
+    state: State,
+    letter: u8,
+    tag: u8,
+    resource: u8,
+    out: &mut [u8],
+) -> CallLine
+    ensures { λ r. ⌜ r .line ≡ lineFor (callLine (now (file .entry)) state letter tag resource) (length (now (out .entry))) ⌝ }
+    ensures { λ r. ⌜ now (out .exit) ≡ lineIn (callLine (now (file .entry)) state letter tag resource) (now (out .entry)) ⌝ }
+    ensures { λ r. ⌜ StateBeside (callLine (now (file .entry)) state letter tag resource) (length (now (out .entry))) state (r .state) (AfterBytes (now (file .entry)) state (callOf letter tag resource)) ⌝ }
+{
+    let mut holds = [0u16; 1024];
+    let mut budgets = [0u16; 128];
+    let code = machine::survey(file, &mut holds, &mut budgets);
+    let mut buf = [0u8; 96];
+    let step = put_call(
+        &mut buf,
+        0,
+        file,
+        code,
+        &holds,
+        &budgets,
+        state,
+        letter,
+        tag,
+        resource,
+    );
+    let end = step.end;
+    let line = hand_over(&buf[0..end], out);
+    if line.refusal != 0 {
+        return CallLine { line, state };
+    }
+    let next = step.state;
+    CallLine { line, state: next }
+}
+
+// Makes calls of three bytes, one after the other, and puts their lines one behind the other: as many as there are, or until fewer
+// than 96 bytes are left, which no line needs.
+pub fn lines(file: &[u8], state: State, calls: &[u8], out: &mut [u8]) -> Batch
+    ensures { λ r. ⌜ Told (now (file .entry)) state (now (calls .entry)) (now (out .entry)) (now (out .exit)) r ⌝ }
+{
+    let mut holds = [0u16; 1024];
+    let mut budgets = [0u16; 128];
+    let code = machine::survey(file, &mut holds, &mut budgets);
+    let mut current = state;
+    let mut used = 0;
+    let mut end = 0;
+    while (3 <= calls.len() - used) & (96 <= out.len() - end) {
+        let step = put_call(
+            out,
+            end,
+            file,
+            code,
+            &holds,
+            &budgets,
+            current,
+            calls[used],
+            calls[used + 1],
+            calls[used + 2],
+        );
+        current = step.state;
+        end = step.end;
+        used += 3;
+    }
+    Batch {
+        used,
+        length: end,
+        state: current,
+    }
+}

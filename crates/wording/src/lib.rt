@@ -1,0 +1,147 @@
+// The lines of the printing program, put into a lent buffer from a place on; each function returns where its text ends. They are for
+// the crates above this one: each says in its `requires` how much room it takes.
+use protocol::Answer;
+use rows::Counts;
+ghost use Prim.Native.Nat.{_+_, _≤_};
+ghost use lib.ListN.{length};
+ghost use Rattle.protocol.specs.declared.Answer.the-variants.{Granted, Waits, Next, Free};
+ghost use Rattle.text.specs.Text.{Put};
+ghost use Rattle.wording.specs.Lines.{field, refusedLine, planLine, tickLine, named, answerLine};
+ghost use Rattle.wording.specs.Naming.{Nameable, Names};
+
+// A space and a number.
+pub fn put_field(buf: &mut [u8], at: usize, n: u64) -> usize
+    requires { ⌜ at + 21 ≤ length (now buf) ⌝ }
+    ensures { λ r. ⌜ Put (now (buf .entry)) (now (buf .exit)) at (field n) r ⌝ }
+    ensures { λ r. ⌜ r ≤ at + 21 ⌝ }
+{
+    let a = text::put(buf, at, b" ");
+    text::put_decimal(buf, a, n)
+}
+
+// "refused N".
+pub fn put_refused(buf: &mut [u8], at: usize, number: u8) -> usize
+    requires { ⌜ at + 96 ≤ length (now buf) ⌝ }
+    ensures { λ r. ⌜ Put (now (buf .entry)) (now (buf .exit)) at (refusedLine number) r ⌝ }
+    ensures { λ r. ⌜ r ≤ at + 96 ⌝ }
+{
+    let a = text::put(buf, at, b"refused");
+    let b = put_field(buf, a, number as u64);
+    text::put(buf, b, b"\n")
+}
+
+// "plan P N R S".
+pub fn put_plan(buf: &mut [u8], at: usize, counts: Counts) -> usize
+    requires { ⌜ at + 96 ≤ length (now buf) ⌝ }
+    ensures { λ r. ⌜ Put (now (buf .entry)) (now (buf .exit)) at (planLine counts) r ⌝ }
+    ensures { λ r. ⌜ r ≤ at + 96 ⌝ }
+{
+    let a = text::put(buf, at, b"plan");
+    let b = put_field(buf, a, counts.processors as u64);
+    let c = put_field(buf, b, counts.tasks as u64);
+    let d = put_field(buf, c, counts.resources as u64);
+    let e = put_field(buf, d, counts.sections as u64);
+    text::put(buf, e, b"\n")
+}
+
+// "tick" and its two words.
+pub fn put_tick(buf: &mut [u8], at: usize, cuts: u16, grants: u16) -> usize
+    requires { ⌜ at + 96 ≤ length (now buf) ⌝ }
+    ensures { λ r. ⌜ Put (now (buf .entry)) (now (buf .exit)) at (tickLine cuts grants) r ⌝ }
+    ensures { λ r. ⌜ r ≤ at + 96 ⌝ }
+{
+    let a = text::put(buf, at, b"tick");
+    let b = put_field(buf, a, cuts as u64);
+    let c = put_field(buf, b, grants as u64);
+    text::put(buf, c, b"\n")
+}
+
+// A tag, and the name of a resource.
+pub fn put_named(buf: &mut [u8], at: usize, file: &[u8], tag: u8, resource: u8) -> usize
+    requires { ⌜ (Nameable (now file) resource) × (at + 34 ≤ length (now buf)) ⌝ }
+    ensures { λ r. ⌜ Put (now (buf .entry)) (now (buf .exit)) at (named (now (file .entry)) tag resource) r ⌝ }
+    ensures { λ r. ⌜ r ≤ at + 34 ⌝ }
+{
+    let a = put_field(buf, at, tag as u64);
+    let b = text::put(buf, a, b" ");
+    text::put(buf, b, plan::checked::name(file, resource))
+}
+
+// "granted", tag and name.
+pub fn put_granted(buf: &mut [u8], at: usize, file: &[u8], tag: u8, resource: u8) -> usize
+    requires { ⌜ (Nameable (now file) resource) × (at + 96 ≤ length (now buf)) ⌝ }
+    ensures { λ r. ⌜ Put (now (buf .entry)) (now (buf .exit)) at (answerLine (now (file .entry)) tag resource Granted) r ⌝ }
+    ensures { λ r. ⌜ r ≤ at + 96 ⌝ }
+{
+    let a = text::put(buf, at, b"granted");
+    let b = put_named(buf, a, file, tag, resource);
+    text::put(buf, b, b"\n")
+}
+
+// "waits", tag, name, the number ahead, the limit.
+pub fn put_waits(
+    buf: &mut [u8],
+    at: usize,
+    file: &[u8],
+    tag: u8,
+    resource: u8,
+    ahead: u8,
+    most: u32,
+) -> usize
+    requires { ⌜ (Nameable (now file) resource) × (at + 96 ≤ length (now buf)) ⌝ }
+    ensures { λ r. ⌜ Put (now (buf .entry)) (now (buf .exit)) at (answerLine (now (file .entry)) tag resource (Waits ahead most)) r ⌝ }
+    ensures { λ r. ⌜ r ≤ at + 96 ⌝ }
+{
+    let a = text::put(buf, at, b"waits");
+    let b = put_named(buf, a, file, tag, resource);
+    let c = put_field(buf, b, ahead as u64);
+    let d = put_field(buf, c, most as u64);
+    text::put(buf, d, b"\n")
+}
+
+// "released", tag, name, "to" and the tag granted next.
+pub fn put_next(buf: &mut [u8], at: usize, file: &[u8], tag: u8, resource: u8, next: u16) -> usize
+    requires { ⌜ (Nameable (now file) resource) × (at + 96 ≤ length (now buf)) ⌝ }
+    ensures { λ r. ⌜ Put (now (buf .entry)) (now (buf .exit)) at (answerLine (now (file .entry)) tag resource (Next next)) r ⌝ }
+    ensures { λ r. ⌜ r ≤ at + 96 ⌝ }
+{
+    let a = text::put(buf, at, b"released");
+    let b = put_named(buf, a, file, tag, resource);
+    let c = text::put(buf, b, b" to");
+    let d = put_field(buf, c, next as u64);
+    text::put(buf, d, b"\n")
+}
+
+// "released", tag, name, "free".
+pub fn put_free(buf: &mut [u8], at: usize, file: &[u8], tag: u8, resource: u8) -> usize
+    requires { ⌜ (Nameable (now file) resource) × (at + 96 ≤ length (now buf)) ⌝ }
+    ensures { λ r. ⌜ Put (now (buf .entry)) (now (buf .exit)) at (answerLine (now (file .entry)) tag resource Free) r ⌝ }
+    ensures { λ r. ⌜ r ≤ at + 96 ⌝ }
+{
+    let a = text::put(buf, at, b"released");
+    let b = put_named(buf, a, file, tag, resource);
+    text::put(buf, b, b" free\n")
+}
+
+// The line of an answer.
+pub fn put_answer(
+    buf: &mut [u8],
+    at: usize,
+    file: &[u8],
+    tag: u8,
+    resource: u8,
+    answer: Answer,
+) -> usize
+    requires { ⌜ (Names (now file) resource answer) × (at + 96 ≤ length (now buf)) ⌝ }
+    ensures { λ r. ⌜ Put (now (buf .entry)) (now (buf .exit)) at (answerLine (now (file .entry)) tag resource answer) r ⌝ }
+    ensures { λ r. ⌜ r ≤ at + 96 ⌝ }
+{
+    match answer {
+        Answer::Granted => put_granted(buf, at, file, tag, resource),
+        Answer::Waits(ahead, most) => put_waits(buf, at, file, tag, resource, ahead, most),
+        Answer::Next(next) => put_next(buf, at, file, tag, resource, next),
+        Answer::Free => put_free(buf, at, file, tag, resource),
+        Answer::Ticked(cuts, grants) => put_tick(buf, at, cuts, grants),
+        Answer::Refused(k) => put_refused(buf, at, k),
+    }
+}

@@ -1,0 +1,319 @@
+//! The cases of the proved code's case program: the line it is to print for each, by the peer.
+//!
+//! A record is a kind, a label with its length before it, and the case. What a case holds stands at the function of its kind.
+
+use crate::calls::{Call, Machine};
+use crate::machine::{Answer, Line, Standing, State};
+use crate::{analysis, name, read, write, Counts, Plan, Refusal, Section, Task};
+use crate::{MAX_FILE, MAX_TASKS};
+
+/// What a buffer holds before something is written to it.
+const UNTOUCHED: u8 = 170;
+/// The most room a write case has.
+pub const ROOM: usize = 2048;
+const _: () = assert!(MAX_FILE <= ROOM);
+
+/// Takes a record apart from the front. Past its end a byte is 0 and a part is empty.
+struct Bytes<'a>(&'a [u8]);
+
+impl<'a> Bytes<'a> {
+    fn take(&mut self, count: usize) -> &'a [u8] {
+        let (front, rest) = self.0.split_at_checked(count).unwrap_or((&[], &[]));
+        self.0 = rest;
+        front
+    }
+
+    fn byte(&mut self) -> u8 {
+        self.take(1).first().copied().unwrap_or(0)
+    }
+
+    fn word(&mut self) -> u16 {
+        u16::from_le_bytes([self.byte(), self.byte()])
+    }
+}
+
+fn told(answer: Result<String, u8>) -> String {
+    answer.unwrap_or_else(|number| format!("refused {number}"))
+}
+
+/// Four bytes of length, and the file, with zeros behind where it is shorter.
+fn reading(mut case: Bytes) -> String {
+    let length = usize::from(case.word()) + (usize::from(case.word()) << 16);
+    let mut file = case.0.to_vec();
+    file.resize(length, 0);
+    let shown = |plan: Plan| {
+        let c = plan.counts;
+        format!(
+            "plan {} {} {} {}",
+            c.processors, c.tasks, c.resources, c.sections
+        )
+    };
+    told(read(&file).map(shown).map_err(Refusal::number))
+}
+
+/// A resource, and the file.
+fn naming(mut case: Bytes) -> String {
+    let resource = case.byte();
+    let shown = |name: &[u8]| String::from_utf8_lossy(name).into_owned();
+    told(name(case.0, resource).map(shown).map_err(Refusal::number))
+}
+
+/// As many rows of each kind as `given` says.
+fn rows(case: &mut Bytes, plan: &mut Plan, given: [u8; 3]) {
+    for task in &mut plan.tasks[..given[0].into()] {
+        *task = Task {
+            processor: case.byte(),
+            tag: case.word(),
+            priority: case.byte(),
+            period: case.word(),
+            execution: case.word(),
+        };
+    }
+    for length in &mut plan.lengths[..given[1].into()] {
+        *length = case.byte();
+    }
+    for section in &mut plan.sections[..given[2].into()] {
+        *section = Section {
+            task: case.byte(),
+            resource: case.byte(),
+            length: case.word(),
+        };
+    }
+}
+
+/// The plan with what lies past its counts made zero, as a reader gives it.
+fn trimmed(mut plan: Plan) -> Plan {
+    plan.tasks[plan.counts.tasks.into()..].fill(Task::default());
+    plan.lengths[plan.counts.resources.into()..].fill(0);
+    plan.sections[plan.counts.sections.into()..].fill(Section::default());
+    plan
+}
+
+fn untouched(bytes: &[u8]) -> bool {
+    bytes.iter().all(|&b| b == UNTOUCHED)
+}
+
+/// The counts; the room, the lengths of the names and of the expected file; how many rows of each kind are given; then the
+/// names, the expected file and the rows.
+fn writing(mut case: Bytes) -> String {
+    let mut plan = Plan {
+        counts: Counts {
+            processors: case.byte(),
+            tasks: case.byte(),
+            resources: case.byte(),
+            sections: case.word(),
+        },
+        ..Plan::default()
+    };
+    let [room, names, expected] = [case.word(), case.word(), case.word()].map(usize::from);
+    let given = [case.byte(), case.byte(), case.byte()];
+    let (names, expected) = (case.take(names), case.take(expected));
+    rows(&mut case, &mut plan, given);
+    let mut buffer = [UNTOUCHED; ROOM];
+    match write(&plan, names, &mut buffer[..room.min(ROOM)]) {
+        Ok(length) => {
+            let same = buffer[..length] == *expected && untouched(&buffer[length..]);
+            let again = read(&buffer[..length]) == Ok(trimmed(plan));
+            let same = if same { "same" } else { "differs" };
+            let again = if again { " again" } else { "" };
+            format!("written {length} {same}{again}")
+        }
+        Err(refusal) => {
+            let un = if untouched(&buffer) { "un" } else { "" };
+            format!("refused {} {un}changed", refusal.number())
+        }
+    }
+}
+
+/// A tag in two bytes, a resource, and the file.
+fn holding(mut case: Bytes) -> String {
+    let (tag, resource) = (case.word(), case.byte());
+    told(analysis::hold_time(case.0, tag, resource).map(|n| format!("hold {n}")))
+}
+
+/// A processor, a resource, and the file.
+fn sharing(mut case: Bytes, what: &str, ask: fn(&[u8], u8, u8) -> Result<u32, u8>) -> String {
+    let (processor, resource) = (case.byte(), case.byte());
+    told(ask(case.0, processor, resource).map(|n| format!("{what} {n}")))
+}
+
+/// A tag in two bytes, and the file.
+fn requiring(mut case: Bytes) -> String {
+    let tag = case.word();
+    told(analysis::requirement(case.0, tag).map(|r| {
+        let met = if r.met { "met" } else { "unmet" };
+        format!(
+            "requirement {} {} {} {} {} {met}",
+            r.blocking1, r.blocking2, r.tolerance, r.slack, r.side
+        )
+    }))
+}
+
+/// The file.
+fn admitting(case: Bytes) -> String {
+    let word = |admitted| if admitted { "admitted" } else { "not admitted" };
+    told(analysis::admission(case.0).map(|admitted| word(admitted).to_string()))
+}
+
+/// The file. All hold times that are not 0, by resource and then by task.
+fn all_holds(case: Bytes) -> String {
+    told(analysis::hold_times(case.0).map(|times| {
+        let held = times.iter().filter(|&&hold| hold != 0);
+        held.fold("holds".to_string(), |line, hold| format!("{line} {hold}"))
+    }))
+}
+
+fn answered(answer: Answer) -> Result<String, u8> {
+    Ok(match answer {
+        Answer::Granted => "granted".to_string(),
+        Answer::Waits { ahead, limit } => format!("waits {ahead} {limit}"),
+        Answer::Next(tag) => format!("to {tag}"),
+        Answer::Free => "free".to_string(),
+        Answer::Ticked { cuts, grants } => format!("tick {cuts} {grants} {}", cuts.count_ones()),
+        Answer::Refused(number) => return Err(number),
+    })
+}
+
+/// The answer to a call, and the next state; "none" where it is no call.
+fn made(machine: &Machine, file: &[u8], state: &State, call: Call) -> (Result<String, u8>, State) {
+    match machine.make(file, state, call) {
+        Some((answer, next)) => (answered(answer), next),
+        None => (Ok("none".to_string()), *state),
+    }
+}
+
+/// Processor `k`, and its tasks in line for `q` in order of place. A state that is not sound is shown too.
+fn turn(plan: &Plan, state: &State, q: usize, k: u8) -> String {
+    let in_line = |u: &usize| {
+        let s = state.tasks[*u];
+        plan.tasks[*u].processor == k
+            && usize::from(s.resource) == q
+            && usize::from(s.place) < MAX_TASKS
+    };
+    let mut tasks: Vec<_> = (0..MAX_TASKS).filter(in_line).collect();
+    tasks.sort_by_key(|&u| state.tasks[u].place);
+    let shown = tasks.iter().map(|&u| match state.tasks[u].place {
+        0 => u.to_string(),
+        _ => format!(" {u}"),
+    });
+    format!("{k}({})", shown.collect::<String>())
+}
+
+/// The resources that are held, and by whom.
+fn shown(plan: &Plan, state: &State) -> String {
+    let mut held = String::new();
+    for (q, line) in state.lines.iter().enumerate() {
+        if line.queued != 0 {
+            held += &format!(" {q}:{}/{}:", line.hold_left, line.budget_left);
+            for &k in line.queue.iter().take(line.queued.into()) {
+                held += &turn(plan, state, q, k);
+            }
+        }
+    }
+    format!(" |{}", if held.is_empty() { " nobody" } else { &held })
+}
+
+/// The length of the file in two bytes, the file, and calls of three bytes each. What the last state shows stands at the end;
+/// with `each`, what each state shows behind its call.
+fn listing(mut case: Bytes, machine: &Machine, each: bool) -> String {
+    let length = case.word().into();
+    let (file, calls) = (case.take(length), case.0);
+    let plan = read(file).unwrap_or_default();
+    let (refusal, mut state) = (machine.start)(file);
+    let mut line = match refusal {
+        0 => "start".to_string(),
+        _ => told(Err(refusal)),
+    };
+    for &bytes in calls.as_chunks().0 {
+        let (answer, next) = made(machine, file, &state, Call::of(bytes));
+        line += "; ";
+        line += &told(answer);
+        state = next;
+        if each {
+            line += &shown(&plan, &state);
+        }
+    }
+    if !each {
+        let same = (machine.run)(file, calls) == state;
+        line += &shown(&plan, &state);
+        line += if same { " run" } else { " run differs" };
+    }
+    line
+}
+
+/// A state: for each resource how many are queued, the processors, the hold left and the budget left; then each task's
+/// resource and place.
+fn state(case: &mut Bytes) -> State {
+    let mut state = State::FRESH;
+    for line in &mut state.lines {
+        *line = Line {
+            queued: case.byte(),
+            queue: std::array::from_fn(|_| case.byte()),
+            hold_left: case.word(),
+            budget_left: case.word(),
+        };
+    }
+    for task in &mut state.tasks {
+        *task = Standing {
+            resource: case.byte(),
+            place: case.byte(),
+        };
+    }
+    state
+}
+
+/// The bytes of a state in a case.
+pub fn state_bytes(state: &State) -> Vec<u8> {
+    let mut bytes = Vec::new();
+    for line in &state.lines {
+        bytes.push(line.queued);
+        bytes.extend(line.queue);
+        bytes.extend(line.hold_left.to_le_bytes());
+        bytes.extend(line.budget_left.to_le_bytes());
+    }
+    bytes.extend(state.tasks.iter().flat_map(|t| [t.resource, t.place]));
+    bytes
+}
+
+/// The length of the file in two bytes, the file, a state, and a call with a tag of two bytes.
+fn calling(mut case: Bytes, machine: &Machine) -> String {
+    let length = case.word().into();
+    let file = case.take(length);
+    let state = state(&mut case);
+    let call = Call {
+        letter: case.byte(),
+        tag: case.word(),
+        resource: case.byte(),
+    };
+    let (answer, next) = made(machine, file, &state, call);
+    let un = if next == state { "un" } else { "" };
+    let after = match answer {
+        Ok(_) => shown(&read(file).unwrap_or_default(), &next),
+        Err(_) => String::new(),
+    };
+    format!("{} {un}changed{after}", told(answer))
+}
+
+/// The line for a record, its calls made by this machine; none for a kind that is not known.
+pub fn line(record: &[u8], machine: &Machine) -> Option<String> {
+    let mut case = Bytes(record);
+    let kind = case.byte();
+    let length = case.byte().into();
+    let label = String::from_utf8_lossy(case.take(length));
+    let result = match kind {
+        b'R' => reading(case),
+        b'N' => naming(case),
+        b'W' => writing(case),
+        b'H' => holding(case),
+        b'B' => sharing(case, "budget", analysis::budget),
+        b'T' => sharing(case, "wait", analysis::wait_time),
+        b'Q' => requiring(case),
+        b'A' => admitting(case),
+        b'L' => all_holds(case),
+        b'M' => listing(case, machine, false),
+        b'V' => listing(case, machine, true),
+        b'S' => calling(case, machine),
+        _ => return None,
+    };
+    Some(format!("{label}: {result}"))
+}

@@ -1,0 +1,254 @@
+//! The printing program of document 01: a plan and then calls, and a line for each.
+
+use crate::calls::{Call, Machine};
+use crate::machine::{Answer, State};
+use crate::{read, Counts, Offsets, Plan, HEADER};
+use std::io::{self, ErrorKind, Read, Write};
+
+const NO_CALL: u8 = 21;
+const LEFT_OVER: u8 = 22;
+
+/// How much is read and written at once. A plan is shorter.
+const PIECE: usize = 64 * 1024;
+const CALL: usize = 3;
+
+/// The input, read in pieces, with what was read of it and not taken yet.
+struct Source<'a, R> {
+    input: &'a mut R,
+    piece: Vec<u8>,
+    start: usize,
+    end: usize,
+}
+
+impl<'a, R: Read> Source<'a, R> {
+    fn new(input: &'a mut R) -> Self {
+        Source {
+            input,
+            piece: vec![0; PIECE],
+            start: 0,
+            end: 0,
+        }
+    }
+
+    fn left(&self) -> &[u8] {
+        &self.piece[self.start..self.end]
+    }
+
+    /// Reads on behind what is left; false at the end of the input.
+    fn more(&mut self) -> io::Result<bool> {
+        self.piece.copy_within(self.start..self.end, 0);
+        self.end -= self.start;
+        self.start = 0;
+        loop {
+            match self.input.read(&mut self.piece[self.end..]) {
+                Err(error) if error.kind() == ErrorKind::Interrupted => continue,
+                read => {
+                    let count = read?;
+                    self.end += count;
+                    return Ok(count > 0);
+                }
+            }
+        }
+    }
+
+    /// Reads on until `count` bytes are there, or all that there are.
+    fn wait_for(&mut self, count: usize) -> io::Result<()> {
+        while self.left().len() < count && self.more()? {}
+        Ok(())
+    }
+
+    /// The plan at the front, as long as it says, or all there is where that is less.
+    fn take_plan(&mut self) -> io::Result<Vec<u8>> {
+        self.wait_for(HEADER)?;
+        let stated = match self.left().first_chunk::<HEADER>() {
+            Some(header) => usize::from(u16::from_le_bytes([header[14], header[15]])),
+            None => HEADER,
+        };
+        self.wait_for(stated)?;
+        let length = stated.min(self.left().len());
+        let file = self.left()[..length].to_vec();
+        self.start += length;
+        Ok(file)
+    }
+}
+
+/// The lines, gathered and written in pieces.
+struct Lines<'a, W> {
+    output: &'a mut W,
+    bytes: Vec<u8>,
+}
+
+impl<W: Write> Lines<'_, W> {
+    fn text(&mut self, text: &[u8]) {
+        self.bytes.extend_from_slice(text);
+    }
+
+    /// A space and the digits.
+    fn number(&mut self, number: u32) {
+        let mut digits = [b' '; 11];
+        let mut at = digits.len();
+        let mut left = number;
+        loop {
+            at -= 1;
+            digits[at] = b'0' + (left % 10) as u8;
+            left /= 10;
+            if left == 0 {
+                break;
+            }
+        }
+        self.text(&digits[at - 1..]);
+    }
+
+    fn end_line(&mut self) -> io::Result<()> {
+        self.bytes.push(b'\n');
+        if self.bytes.len() < PIECE {
+            return Ok(());
+        }
+        self.write()
+    }
+
+    fn write(&mut self) -> io::Result<()> {
+        self.output.write_all(&self.bytes)?;
+        self.bytes.clear();
+        Ok(())
+    }
+
+    fn plan(&mut self, c: Counts) -> io::Result<()> {
+        self.text(b"plan");
+        let counts = [c.processors.into(), c.tasks.into(), c.resources.into()];
+        for count in counts.into_iter().chain([c.sections.into()]) {
+            self.number(count);
+        }
+        self.end_line()
+    }
+
+    fn refused(&mut self, number: u8) -> io::Result<()> {
+        self.text(b"refused");
+        self.number(number.into());
+        self.end_line()
+    }
+
+    /// What is said of a task and a resource.
+    fn said(&mut self, what: &[u8], call: Call, name: &[u8]) {
+        self.text(what);
+        self.number(call.tag.into());
+        self.text(b" ");
+        self.text(name);
+    }
+
+    fn answer(&mut self, call: Call, names: &[&[u8]], answer: Answer) -> io::Result<()> {
+        let name = names.get(usize::from(call.resource)).copied();
+        let name = name.unwrap_or_default();
+        match answer {
+            Answer::Granted => self.said(b"granted", call, name),
+            Answer::Waits { ahead, limit } => {
+                self.said(b"waits", call, name);
+                self.number(ahead.into());
+                self.number(limit);
+            }
+            Answer::Next(tag) => {
+                self.said(b"released", call, name);
+                self.text(b" to");
+                self.number(tag.into());
+            }
+            Answer::Free => {
+                self.said(b"released", call, name);
+                self.text(b" free");
+            }
+            Answer::Ticked { cuts, grants } => {
+                self.text(b"tick");
+                self.number(cuts.into());
+                self.number(grants.into());
+            }
+            Answer::Refused(number) => return self.refused(number),
+        }
+        self.end_line()
+    }
+}
+
+/// The name of each resource of a checked plan, as the part of the file that holds it.
+fn names<'a>(file: &'a [u8], plan: &Plan) -> Vec<&'a [u8]> {
+    let mut rest = &file[Offsets::of(plan.counts).names..];
+    let mut names = Vec::new();
+    for &length in &plan.lengths[..plan.counts.resources.into()] {
+        let (name, behind) = rest.split_at(length.into());
+        names.push(name);
+        rest = behind;
+    }
+    names
+}
+
+/// A plan that was accepted, and the state that the last call left.
+struct Running<'a> {
+    machine: &'a Machine,
+    file: &'a [u8],
+    names: Vec<&'a [u8]>,
+    state: State,
+}
+
+impl Running<'_> {
+    fn call(&mut self, bytes: [u8; CALL], lines: &mut Lines<impl Write>) -> io::Result<()> {
+        let call = Call::of(bytes);
+        match self.machine.make(self.file, &self.state, call) {
+            Some((answer, next)) => {
+                self.state = next;
+                lines.answer(call, &self.names, answer)
+            }
+            None => lines.refused(NO_CALL),
+        }
+    }
+
+    /// All calls to the end of the input. The lines of those that came in one piece are written before the next one is
+    /// waited for.
+    fn calls(
+        &mut self,
+        source: &mut Source<impl Read>,
+        lines: &mut Lines<impl Write>,
+    ) -> io::Result<()> {
+        loop {
+            let (whole, rest) = source.left().as_chunks();
+            for &bytes in whole {
+                self.call(bytes, lines)?;
+            }
+            lines.write()?;
+            source.start = source.end - rest.len();
+            if !source.more()? {
+                break;
+            }
+        }
+        if source.left().is_empty() {
+            return Ok(());
+        }
+        lines.refused(LEFT_OVER)
+    }
+}
+
+/// Reads a plan and calls to the end of the input, and writes their lines.
+pub fn run(input: &mut impl Read, output: &mut impl Write, machine: &Machine) -> io::Result<()> {
+    let mut source = Source::new(input);
+    let mut lines = Lines {
+        output,
+        bytes: Vec::with_capacity(2 * PIECE),
+    };
+    let file = &source.take_plan()?;
+    let (refusal, state) = (machine.start)(file);
+    match read(file) {
+        Ok(plan) if refusal == 0 => {
+            lines.plan(plan.counts)?;
+            let names = names(file, &plan);
+            let mut running = Running {
+                machine,
+                file,
+                names,
+                state,
+            };
+            running.calls(&mut source, &mut lines)?;
+        }
+        _ => lines.refused(refusal)?,
+    }
+    lines.write()?;
+    lines.output.flush()
+}
+
+#[cfg(test)]
+mod tests;
