@@ -8,19 +8,20 @@ use peer::calls::{PLAIN, TUNED};
 use std::path::Path;
 
 /// The kinds, and how many cases of each are made.
-const KINDS: [(u8, &str, usize); 12] = [
-    (b'R', "readings", 12_000),
-    (b'N', "names", 3_000),
-    (b'W', "writings", 4_000),
-    (b'H', "hold times", 6_000),
-    (b'B', "budgets", 4_000),
-    (b'T', "wait times", 4_000),
-    (b'Q', "requirements", 4_000),
-    (b'A', "admissions", 2_000),
-    (b'L', "all hold times", 2_000),
-    (b'M', "lists", 2_500),
-    (b'S', "calls on a state", 12_000),
-    (b'V', "lists with each state", 2_500),
+const KINDS: [(u8, &str, usize); 13] = [
+    (b'R', "readings", 20_000),
+    (b'N', "names", 4_000),
+    (b'W', "writings", 6_000),
+    (b'H', "hold times", 8_000),
+    (b'B', "budgets", 6_000),
+    (b'T', "wait times", 6_000),
+    (b'Q', "requirements", 6_000),
+    (b'A', "admissions", 3_000),
+    (b'L', "all hold times", 3_000),
+    (b'M', "lists", 3_000),
+    (b'P', "lists with their lines", 3_000),
+    (b'S', "calls on a state", 20_000),
+    (b'V', "lists with each state", 3_000),
 ];
 /// So many cases go to one run of the program.
 const BATCH: usize = 100;

@@ -23,6 +23,7 @@ pub fn case(kind: u8, number: usize) -> Vec<u8> {
         b'M' => listing(random),
         b'V' if number == 0 => at_the_limit(),
         b'V' => watched(random),
+        b'P' => printing(random),
         b'S' => calling(random),
         _ => asking(kind, random),
     }
@@ -93,6 +94,18 @@ fn listing(random: &mut Random) -> Vec<u8> {
     };
     let calls = Maker::new(&file, habits).list(count, random);
     after_length(&file, &calls)
+}
+
+/// A list with the room for a line, which now and then is about as long as a line.
+fn printing(random: &mut Random) -> Vec<u8> {
+    let file = maybe_broken(plans::some(Size::some(random), random), 30, random);
+    let count = random.below(60);
+    let calls = Maker::new(&file, Habits::some(random)).list(count, random);
+    let room = match random.below(3) {
+        0 => random.below(40) as u8,
+        _ => u8::MAX,
+    };
+    after_length(&file, &[&[room], &calls[..]].concat())
 }
 
 /// Lists whose every state is shown: most of them greedy and on small plans, so that waits come near their limits.

@@ -8,7 +8,7 @@ use compare::plans::{some, Size};
 use compare::random::Random;
 use peer::calls::{PLAIN, TUNED};
 
-const INPUTS: usize = 4_800;
+const INPUTS: usize = 8_000;
 const KIND: u8 = b'P';
 /// One in so many goes through the plain machine too.
 const BY_PLAIN: usize = 8;

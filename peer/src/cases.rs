@@ -4,6 +4,7 @@
 
 use crate::calls::{Call, Machine};
 use crate::machine::{Answer, Line, Standing, State};
+use crate::program::{Lines, Running};
 use crate::{analysis, name, read, write, Counts, Plan, Refusal, Section, Task};
 use crate::{MAX_FILE, MAX_TASKS};
 
@@ -241,6 +242,28 @@ fn listing(mut case: Bytes, machine: &Machine, each: bool) -> String {
     line
 }
 
+/// The length of the file in two bytes, the file, the room for a line, and calls of three bytes each: the lines of the
+/// printing program. A call whose line has no room is refused and not made.
+fn printing(mut case: Bytes, machine: &Machine) -> String {
+    let length = case.word().into();
+    let file = case.take(length);
+    let room = case.byte().into();
+    let mut running = Running::new(machine, file);
+    let mut line = "start".to_string();
+    for &bytes in case.0.as_chunks().0 {
+        let (before, mut lines) = (running.state, Lines::default());
+        running.call(bytes, &mut lines);
+        line += "; ";
+        if lines.0.len() > room {
+            running.state = before;
+            line += "refused 10 unchanged";
+        } else {
+            line += String::from_utf8_lossy(&lines.0).trim_end();
+        }
+    }
+    line
+}
+
 /// A state: for each resource how many are queued, the processors, the hold left and the budget left; then each task's
 /// resource and place.
 fn state(case: &mut Bytes) -> State {
@@ -313,6 +336,7 @@ pub fn line(record: &[u8], machine: &Machine) -> Option<String> {
         b'M' => listing(case, machine, false),
         b'V' => listing(case, machine, true),
         b'S' => calling(case, machine),
+        b'P' => printing(case, machine),
         _ => return None,
     };
     Some(format!("{label}: {result}"))

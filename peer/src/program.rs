@@ -72,15 +72,13 @@ impl<'a, R: Read> Source<'a, R> {
     }
 }
 
-/// The lines, gathered and written in pieces.
-struct Lines<'a, W> {
-    output: &'a mut W,
-    bytes: Vec<u8>,
-}
+/// Lines, gathered until they are written.
+#[derive(Default)]
+pub(crate) struct Lines(pub Vec<u8>);
 
-impl<W: Write> Lines<'_, W> {
+impl Lines {
     fn text(&mut self, text: &[u8]) {
-        self.bytes.extend_from_slice(text);
+        self.0.extend_from_slice(text);
     }
 
     /// A space and the digits.
@@ -99,33 +97,19 @@ impl<W: Write> Lines<'_, W> {
         self.text(&digits[at - 1..]);
     }
 
-    fn end_line(&mut self) -> io::Result<()> {
-        self.bytes.push(b'\n');
-        if self.bytes.len() < PIECE {
-            return Ok(());
-        }
-        self.write()
-    }
-
-    fn write(&mut self) -> io::Result<()> {
-        self.output.write_all(&self.bytes)?;
-        self.bytes.clear();
-        Ok(())
-    }
-
-    fn plan(&mut self, c: Counts) -> io::Result<()> {
+    fn plan(&mut self, c: Counts) {
         self.text(b"plan");
-        let counts = [c.processors.into(), c.tasks.into(), c.resources.into()];
-        for count in counts.into_iter().chain([c.sections.into()]) {
-            self.number(count);
-        }
-        self.end_line()
+        self.number(c.processors.into());
+        self.number(c.tasks.into());
+        self.number(c.resources.into());
+        self.number(c.sections.into());
+        self.text(b"\n");
     }
 
-    fn refused(&mut self, number: u8) -> io::Result<()> {
+    fn refused(&mut self, number: u8) {
         self.text(b"refused");
         self.number(number.into());
-        self.end_line()
+        self.text(b"\n");
     }
 
     /// What is said of a task and a resource.
@@ -136,7 +120,7 @@ impl<W: Write> Lines<'_, W> {
         self.text(name);
     }
 
-    fn answer(&mut self, call: Call, names: &[&[u8]], answer: Answer) -> io::Result<()> {
+    fn answer(&mut self, call: Call, names: &[&[u8]], answer: Answer) {
         let name = names.get(usize::from(call.resource)).copied();
         let name = name.unwrap_or_default();
         match answer {
@@ -162,7 +146,13 @@ impl<W: Write> Lines<'_, W> {
             }
             Answer::Refused(number) => return self.refused(number),
         }
-        self.end_line()
+        self.text(b"\n");
+    }
+
+    fn write(&mut self, output: &mut impl Write) -> io::Result<()> {
+        output.write_all(&self.0)?;
+        self.0.clear();
+        Ok(())
     }
 }
 
@@ -178,21 +168,32 @@ fn names<'a>(file: &'a [u8], plan: &Plan) -> Vec<&'a [u8]> {
     names
 }
 
-/// A plan that was accepted, and the state that the last call left.
-struct Running<'a> {
+/// A plan file, and the state that the last call left.
+pub(crate) struct Running<'a> {
     machine: &'a Machine,
     file: &'a [u8],
     names: Vec<&'a [u8]>,
-    state: State,
+    pub state: State,
 }
 
-impl Running<'_> {
-    fn call(&mut self, bytes: [u8; CALL], lines: &mut Lines<impl Write>) -> io::Result<()> {
+impl<'a> Running<'a> {
+    /// What a refused plan is answered has no name in it.
+    pub fn new(machine: &'a Machine, file: &'a [u8]) -> Running<'a> {
+        Running {
+            machine,
+            file,
+            names: read(file).map_or(Vec::new(), |plan| names(file, &plan)),
+            state: (machine.start)(file).1,
+        }
+    }
+
+    /// Makes a call and puts its line behind the others.
+    pub fn call(&mut self, bytes: [u8; CALL], lines: &mut Lines) {
         let call = Call::of(bytes);
         match self.machine.make(self.file, &self.state, call) {
             Some((answer, next)) => {
                 self.state = next;
-                lines.answer(call, &self.names, answer)
+                lines.answer(call, &self.names, answer);
             }
             None => lines.refused(NO_CALL),
         }
@@ -203,51 +204,44 @@ impl Running<'_> {
     fn calls(
         &mut self,
         source: &mut Source<impl Read>,
-        lines: &mut Lines<impl Write>,
+        lines: &mut Lines,
+        output: &mut impl Write,
     ) -> io::Result<()> {
         loop {
             let (whole, rest) = source.left().as_chunks();
             for &bytes in whole {
-                self.call(bytes, lines)?;
+                self.call(bytes, lines);
+                if lines.0.len() >= PIECE {
+                    lines.write(output)?;
+                }
             }
-            lines.write()?;
+            lines.write(output)?;
             source.start = source.end - rest.len();
             if !source.more()? {
                 break;
             }
         }
-        if source.left().is_empty() {
-            return Ok(());
+        if !source.left().is_empty() {
+            lines.refused(LEFT_OVER);
         }
-        lines.refused(LEFT_OVER)
+        Ok(())
     }
 }
 
 /// Reads a plan and calls to the end of the input, and writes their lines.
 pub fn run(input: &mut impl Read, output: &mut impl Write, machine: &Machine) -> io::Result<()> {
     let mut source = Source::new(input);
-    let mut lines = Lines {
-        output,
-        bytes: Vec::with_capacity(2 * PIECE),
-    };
+    let mut lines = Lines(Vec::with_capacity(2 * PIECE));
     let file = &source.take_plan()?;
-    let (refusal, state) = (machine.start)(file);
     match read(file) {
-        Ok(plan) if refusal == 0 => {
-            lines.plan(plan.counts)?;
-            let names = names(file, &plan);
-            let mut running = Running {
-                machine,
-                file,
-                names,
-                state,
-            };
-            running.calls(&mut source, &mut lines)?;
+        Ok(plan) => {
+            lines.plan(plan.counts);
+            Running::new(machine, file).calls(&mut source, &mut lines, output)?;
         }
-        _ => lines.refused(refusal)?,
+        Err(refusal) => lines.refused(refusal.number()),
     }
-    lines.write()?;
-    lines.output.flush()
+    lines.write(output)?;
+    output.flush()
 }
 
 #[cfg(test)]

@@ -8,7 +8,7 @@ ghost use mathlib.Core.Path.{_≡_};
 ghost use mathlib.Core.Logic.{_≢_};
 ghost use mathlib.Core.Bool.{true};
 ghost use Prim.Native.Nat.{_+_, _*_, _≤_, _<_};
-ghost use lib.ListN.{length, replicate};
+ghost use lib.ListN.{length};
 ghost use Rattle.plan.specs.Reading.{refusal};
 ghost use Rattle.plan.specs.Plan.{planOf, Checked};
 ghost use Rattle.equations.specs.HoldTimes.{holdAt};
@@ -19,8 +19,10 @@ ghost use Rattle.state.specs.Shows.{freshState, shows};
 ghost use Rattle.state.specs.Sound.{sound};
 ghost use Rattle.state.specs.Seats.{Keys, Seats};
 ghost use Rattle.machine.specs.Replies.{reply, replyTold, Next, cutCount};
-ghost use Rattle.machine.specs.Inner.{refusedAt, Surveyed, Done, NewHead, grantedTold, cutsIn};
+ghost use Rattle.machine.specs.Inner.{refusedAt, Done, NewHead, grantedTold, cutsIn};
 ghost use Rattle.machine.specs.Promise.{Returned, Promise, callOf, callsOf, decodedCalls, AfterBytes};
+
+pub mod surveyed;
 
 // The answer to a call, and the next state.
 pub struct Reply {
@@ -240,38 +242,6 @@ fn act(file: &[u8], holds: &[u16], budgets: &[u16], state: State, call: Call) ->
     }
 }
 
-// Looks at a plan file for the calls to come: the first check that it fails, 0 for none, and then its hold times and budgets, where
-// all were 0.
-pub fn survey(file: &[u8], holds: &mut [u16], budgets: &mut [u16]) -> u8
-    requires { ⌜ (now holds ≡ replicate 1024 0) × (now budgets ≡ replicate 128 0) ⌝ }
-    ensures { λ r. ⌜ Surveyed (now (file .entry)) r (now (holds .exit)) (now (budgets .exit)) ⌝ }
-{
-    let code = plan::check(file);
-    if code != 0 {
-        return code;
-    }
-    holds::hold_table(file, holds, budgets);
-    0
-}
-
-// A call on a state, with what a survey of the file gave. It is for crates that make many calls on one file that they hold.
-pub fn call_surveyed(
-    file: &[u8],
-    code: u8,
-    holds: &[u16],
-    budgets: &[u16],
-    state: State,
-    call: Call,
-) -> Reply
-    requires { ⌜ Surveyed (now file) code (now holds) (now budgets) ⌝ }
-    ensures { λ r. ⌜ (r .answer ≡ reply (now (file .entry)) state call) × Next (now (file .entry)) state call (r .state) ⌝ }
-{
-    if code != 0 {
-        return refuse(state, code);
-    }
-    act(file, holds, budgets, state, call)
-}
-
 // A call on a state.
 pub fn call(file: &[u8], state: State, call: Call) -> Reply
     ensures { λ r. ⌜ r .answer ≡ reply (now (file .entry)) state call ⌝ }
@@ -280,8 +250,8 @@ pub fn call(file: &[u8], state: State, call: Call) -> Reply
 {
     let mut holds = [0u16; 1024];
     let mut budgets = [0u16; 128];
-    let code = survey(file, &mut holds, &mut budgets);
-    call_surveyed(file, code, &holds, &budgets, state, call)
+    let code = surveyed::look(file, &mut holds, &mut budgets);
+    surveyed::call(file, code, &holds, &budgets, state, call)
 }
 
 // A request of a resource by the task with this tag.

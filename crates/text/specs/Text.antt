@@ -37,6 +37,7 @@ unfoldable pub valueFrom : ℕ → List ℕ → ℕ
 valueFrom so [] = so
 valueFrom so (d ∷ text) = valueFrom (so * 10 + (d - 48)) text
 
+-- the number that a text of digits says
 abbrev pub valueOf : List ℕ → ℕ
 valueOf text = valueFrom 0 text
 

@@ -58,7 +58,7 @@ fn put_call(
         return Step { end, state };
     }
     let wanted = decoded.call;
-    let reply = machine::call_surveyed(file, code, holds, budgets, state, wanted);
+    let reply = machine::surveyed::call(file, code, holds, budgets, state, wanted);
     let answer = reply.answer;
     let next = reply.state;
     let end = wording::put_answer(buf, at, file, tag, resource, answer);
@@ -114,7 +114,7 @@ pub fn call_line(
 {
     let mut holds = [0u16; 1024];
     let mut budgets = [0u16; 128];
-    let code = machine::survey(file, &mut holds, &mut budgets);
+    let code = machine::surveyed::look(file, &mut holds, &mut budgets);
     let mut buf = [0u8; 96];
     let step = put_call(
         &mut buf,
@@ -144,7 +144,7 @@ pub fn lines(file: &[u8], state: State, calls: &[u8], out: &mut [u8]) -> Batch
 {
     let mut holds = [0u16; 1024];
     let mut budgets = [0u16; 128];
-    let code = machine::survey(file, &mut holds, &mut budgets);
+    let code = machine::surveyed::look(file, &mut holds, &mut budgets);
     let mut current = state;
     let mut used = 0;
     let mut end = 0;

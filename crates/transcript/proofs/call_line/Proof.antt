@@ -6,14 +6,14 @@ use Rattle.transcript.proofs.Buffers.{front-part, state-kept, state-mad
 use Rattle.transcript.proofs.call_line.Statement.{statement}
 use Rattle.transcript.proofs.call_line.Tie as tie
 
-slice-aggregate-survey : tie.Need-slice-aggregate-survey
-slice-aggregate-survey c = search needs
+slice-aggregate-look : tie.Need-slice-aggregate-look
+slice-aggregate-look c = search needs
 
-slice-aggregate-survey-2 : tie.Need-slice-aggregate-survey-2
-slice-aggregate-survey-2 c = search needs
+slice-aggregate-look-2 : tie.Need-slice-aggregate-look-2
+slice-aggregate-look-2 c = search needs
 
-survey-requires : tie.Need-survey-requires
-survey-requires c κs = search needs
+look-requires : tie.Need-look-requires
+look-requires c κs = search needs
 
 slice-aggregate-put-call : tie.Need-slice-aggregate-put-call
 slice-aggregate-put-call c = search needs
@@ -67,9 +67,9 @@ pub call-line-spec : {M : Type 1} → statement M
 call-line-spec =
     tie.close
     (tie.spec
-    slice-aggregate-survey
-    slice-aggregate-survey-2
-    survey-requires
+    slice-aggregate-look
+    slice-aggregate-look-2
+    look-requires
     slice-aggregate-put-call
     slice-aggregate-put-call-2
     slice-aggregate-put-call-3

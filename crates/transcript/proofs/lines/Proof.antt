@@ -24,17 +24,17 @@ left c =
     let n = goes-on (length (c .before .before .before .before .before .before .before .before .before .before .args .calls .now) - i .used) (length (i .out) - i .end) (c .loop-test .taken) in
     (omega (arith, n .0), omega (arith, n .1))
 
-slice-aggregate-survey : tie.Need-slice-aggregate-survey Inv-loop μ-loop
-slice-aggregate-survey c = search needs
+slice-aggregate-look : tie.Need-slice-aggregate-look Inv-loop μ-loop
+slice-aggregate-look c = search needs
 
-slice-aggregate-survey-2 : tie.Need-slice-aggregate-survey-2 Inv-loop μ-loop
-slice-aggregate-survey-2 c = search needs
+slice-aggregate-look-2 : tie.Need-slice-aggregate-look-2 Inv-loop μ-loop
+slice-aggregate-look-2 c = search needs
 
-survey-requires : tie.Need-survey-requires Inv-loop μ-loop
-survey-requires c κs = search needs
+look-requires : tie.Need-look-requires Inv-loop μ-loop
+look-requires c κs = search needs
 
 loop-holds : tie.Need-loop-holds Inv-loop μ-loop
-loop-holds c = (c .before .before .survey .ensures, written-none _ _ _ _, not-begun)
+loop-holds c = (c .before .before .look .ensures, written-none _ _ _ _, not-begun)
 
 sub-loop : tie.Need-sub-loop Inv-loop μ-loop
 sub-loop c = c .loop .inv .1 .within
@@ -110,9 +110,9 @@ lines-spec =
     (tie.spec
     Inv-loop
     μ-loop
-    slice-aggregate-survey
-    slice-aggregate-survey-2
-    survey-requires
+    slice-aggregate-look
+    slice-aggregate-look-2
+    look-requires
     loop-holds
     sub-loop
     sub-loop-2

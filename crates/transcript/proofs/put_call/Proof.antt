@@ -22,14 +22,14 @@ returns c =
     let p = c .before .before .put-refused .ensures in
     stepped-none _ _ _ _ _ e (p .0) (p .1)
 
-call-surveyed-requires : tie.Need-call-surveyed-requires
-call-surveyed-requires c κs = search needs
+call-requires : tie.Need-call-requires
+call-requires c κs = search needs
 
 put-answer-requires : tie.Need-put-answer-requires
 put-answer-requires c κs =
     let i = c .before .before .before in
     let e = decoded-call _ (i .before .before .decode .ensures) (i .if1 .left) in
-    (rw (c .before .before .call-surveyed .ensures .0) (call-names _ (λ k l. c .before .before .before .before .before .before .before .before .shared-slice-known .given k .fits) _ _ _ _ _ e), search needs)
+    (rw (c .before .before .call .ensures .0) (call-names _ (λ k l. c .before .before .before .before .before .before .before .before .shared-slice-known .given k .fits) _ _ _ _ _ e), search needs)
 
 same-length-2 : tie.Need-same-length-2
 same-length-2 c = search needs
@@ -38,7 +38,7 @@ returns-2 : tie.Need-returns-2
 returns-2 c =
     let i = c .before .before .before .before .before .before in
     let e = decoded-call _ (i .before .before .decode .ensures) (i .if1 .left) in
-    let r = c .before .before .before .before .before .call-surveyed .ensures in
+    let r = c .before .before .before .before .before .call .ensures in
     let p = c .before .before .put-answer .ensures in
     stepped-call _ _ _ _ _ _ e (r .0) (r .1) (p .0) (p .1)
 
@@ -50,7 +50,7 @@ put-call-spec =
     put-refused-requires
     same-length
     returns
-    call-surveyed-requires
+    call-requires
     put-answer-requires
     same-length-2
     returns-2)

@@ -2,8 +2,8 @@
 use mathlib.Core.Path.{sym, _∙_}
 use borrow.Author.Needs.{needs}
 use Rattle.machine.proofs.Answered.{plan-refused, reply-refused, next-refused}
-use Rattle.machine.proofs.call_surveyed.Statement.{statement}
-use Rattle.machine.proofs.call_surveyed.Tie as tie
+use Rattle.machine.proofs.surveyed.call.Statement.{statement}
+use Rattle.machine.proofs.surveyed.call.Tie as tie
 
 refuse-requires : tie.Need-refuse-requires
 refuse-requires c κs = search needs
@@ -25,5 +25,5 @@ act-requires c κs =
 returns-2 : tie.Need-returns-2
 returns-2 c = search needs
 
-pub call-surveyed-spec : {M : Type 1} → statement M
-call-surveyed-spec = tie.close (tie.spec refuse-requires returns act-requires returns-2)
+pub call-spec : {M : Type 1} → statement M
+call-spec = tie.close (tie.spec refuse-requires returns act-requires returns-2)

@@ -1,8 +1,8 @@
 -- The number of the reading, or the tables of a plan that passed every check.
 use mathlib.Core.Path.{sym, _∙_}
 use borrow.Author.Needs.{needs}
-use Rattle.machine.proofs.survey.Statement.{statement}
-use Rattle.machine.proofs.survey.Tie as tie
+use Rattle.machine.proofs.surveyed.look.Statement.{statement}
+use Rattle.machine.proofs.surveyed.look.Tie as tie
 
 check-requires : tie.Need-check-requires
 check-requires c κs = search needs
@@ -30,5 +30,5 @@ returns-2 c =
     let i = h .before .before .before in
     record { told = sym (i .if1 .left) ∙ i .before .check .ensures; holds = λ z. h .hold-table .ensures .0; budgets = λ z. h .hold-table .ensures .1 }
 
-pub survey-spec : {M : Type 1} → statement M
-survey-spec = tie.close (tie.spec check-requires returns hold-table-requires same-length same-length-2 returns-2)
+pub look-spec : {M : Type 1} → statement M
+look-spec = tie.close (tie.spec check-requires returns hold-table-requires same-length same-length-2 returns-2)

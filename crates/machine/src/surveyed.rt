@@ -1,0 +1,41 @@
+// Many calls on one plan file that the caller holds: it is looked at once, and each call relies on what that gave, and says so in its
+// `requires`. What a call is answered and does is the same as that of `machine::call`.
+use crate::Reply;
+use protocol::Call;
+use state::State;
+ghost use mathlib.Core.Path.{_≡_};
+ghost use lib.ListN.{replicate};
+ghost use Rattle.machine.specs.Replies.{reply, Next};
+ghost use Rattle.machine.specs.Inner.{Surveyed};
+
+// Looks at a plan file for the calls to come: the first check that it fails, 0 for none, and then its hold times and budgets, where
+// all were 0.
+pub fn look(file: &[u8], holds: &mut [u16], budgets: &mut [u16]) -> u8
+    requires { ⌜ (now holds ≡ replicate 1024 0) × (now budgets ≡ replicate 128 0) ⌝ }
+    ensures { λ r. ⌜ Surveyed (now (file .entry)) r (now (holds .exit)) (now (budgets .exit)) ⌝ }
+{
+    let code = plan::check(file);
+    if code != 0 {
+        return code;
+    }
+    holds::hold_table(file, holds, budgets);
+    0
+}
+
+// A call on a state, with what a look at the file gave.
+pub fn call(
+    file: &[u8],
+    code: u8,
+    holds: &[u16],
+    budgets: &[u16],
+    state: State,
+    call: Call,
+) -> Reply
+    requires { ⌜ Surveyed (now file) code (now holds) (now budgets) ⌝ }
+    ensures { λ r. ⌜ (r .answer ≡ reply (now (file .entry)) state call) × Next (now (file .entry)) state call (r .state) ⌝ }
+{
+    if code != 0 {
+        return crate::refuse(state, code);
+    }
+    crate::act(file, holds, budgets, state, call)
+}
