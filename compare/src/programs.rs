@@ -6,12 +6,13 @@ use compare::damage::maybe_broken;
 use compare::lists::{Habits, Maker};
 use compare::plans::{some, Size};
 use compare::random::Random;
-use peer::calls::{PLAIN, TUNED};
+use peer::calls::{Mode, PLAIN, TUNED};
 
 const INPUTS: usize = 8_000;
 const KIND: u8 = b'P';
-/// One in so many goes through the plain machine too.
+/// One in so many goes through the plain machine too, and one in so many through the mode that looks at the plan once.
 const BY_PLAIN: usize = 8;
+const BY_ONCE: usize = 3;
 
 /// Most lists are short; some are longer than a piece that the programs read.
 fn count(random: &mut Random) -> usize {
@@ -65,21 +66,27 @@ struct Found {
     differences: Vec<Difference>,
 }
 
+/// The modes of the peer that an input goes through.
+fn modes(number: usize) -> impl Iterator<Item = Mode> {
+    let all = [
+        (Mode::Each(TUNED), 1),
+        (Mode::Once, BY_ONCE),
+        (Mode::Each(PLAIN), BY_PLAIN),
+    ];
+    let wanted = all
+        .into_iter()
+        .filter(move |(_, n)| number.is_multiple_of(*n));
+    wanted.map(|(mode, _)| mode)
+}
+
 fn one(number: usize, proved: &std::path::Path) -> Found {
     let mut random = Random::of(KIND, number);
     let input = input(&mut random);
     let output = run(proved, &input, piece(input.len(), &mut random));
-    let machines = [TUNED, PLAIN];
-    let count = if number.is_multiple_of(BY_PLAIN) {
-        2
-    } else {
-        1
-    };
     let mut differences = Vec::new();
-    for machine in &machines[..count] {
+    for mode in modes(number) {
         let mut peer = Vec::new();
-        peer::program::run(&mut &input[..], &mut peer, machine)
-            .expect("memory is read and written");
+        peer::program::run(&mut &input[..], &mut peer, &mode).expect("memory is read and written");
         let found = Difference::of("program", number, &input, &output, &peer);
         differences.extend(found);
     }

@@ -1,6 +1,6 @@
 //! The operations of a machine by value, so that either machine can be handed to who makes calls, and a call by its letter.
 
-use crate::machine::{Answer, State};
+use crate::machine::{Answer, Once, State};
 use crate::{machine, plain};
 
 #[derive(Clone, Copy)]
@@ -31,6 +31,15 @@ pub const PLAIN: Machine = Machine {
     run: plain::run,
 };
 
+/// How the calls on a plan are made.
+#[derive(Clone, Copy)]
+pub enum Mode {
+    /// Each checks the plan and the state.
+    Each(Machine),
+    /// The tuned machine looks at the plan once, and each call checks the state.
+    Once,
+}
+
 /// A letter, a tag and a resource. A tag is wider here than in a list, so that it can be one that no plan has.
 #[derive(Clone, Copy, Debug, PartialEq, Eq)]
 pub struct Call {
@@ -50,16 +59,70 @@ impl Call {
     }
 }
 
-impl Machine {
+/// The operations on one plan, with the state by value.
+pub trait Operations {
+    fn request(&mut self, state: &State, tag: u16, resource: u8) -> (Answer, State);
+    fn release(&mut self, state: &State, tag: u16, resource: u8) -> (Answer, State);
+    fn tick(&mut self, state: &State) -> (Answer, State);
+
     /// The answer to a call, and the next state; none where it is no call: another letter, or a tick with a tag or a resource.
     #[inline]
-    pub fn make(&self, file: &[u8], state: &State, call: Call) -> Option<(Answer, State)> {
+    fn make(&mut self, state: &State, call: Call) -> Option<(Answer, State)> {
         let Call { tag, resource, .. } = call;
         match call.letter {
-            b'Q' => Some((self.request)(file, state, tag, resource)),
-            b'R' => Some((self.release)(file, state, tag, resource)),
-            b'T' if tag == 0 && resource == 0 => Some((self.tick)(file, state)),
+            b'Q' => Some(self.request(state, tag, resource)),
+            b'R' => Some(self.release(state, tag, resource)),
+            b'T' if tag == 0 && resource == 0 => Some(self.tick(state)),
             _ => None,
         }
+    }
+}
+
+/// A machine that is given the plan file with each call.
+pub struct OnFile<'a> {
+    pub machine: &'a Machine,
+    pub file: &'a [u8],
+}
+
+impl Operations for OnFile<'_> {
+    #[inline]
+    fn request(&mut self, state: &State, tag: u16, resource: u8) -> (Answer, State) {
+        (self.machine.request)(self.file, state, tag, resource)
+    }
+
+    #[inline]
+    fn release(&mut self, state: &State, tag: u16, resource: u8) -> (Answer, State) {
+        (self.machine.release)(self.file, state, tag, resource)
+    }
+
+    #[inline]
+    fn tick(&mut self, state: &State) -> (Answer, State) {
+        (self.machine.tick)(self.file, state)
+    }
+}
+
+impl Operations for Once<'_> {
+    #[inline]
+    fn request(&mut self, state: &State, tag: u16, resource: u8) -> (Answer, State) {
+        Once::request(self, state, tag, resource)
+    }
+
+    #[inline]
+    fn release(&mut self, state: &State, tag: u16, resource: u8) -> (Answer, State) {
+        Once::release(self, state, tag, resource)
+    }
+
+    #[inline]
+    fn tick(&mut self, state: &State) -> (Answer, State) {
+        Once::tick(self, state)
+    }
+}
+
+impl Machine {
+    /// As [`Operations::make`].
+    #[inline]
+    pub fn make(&self, file: &[u8], state: &State, call: Call) -> Option<(Answer, State)> {
+        let machine = self;
+        OnFile { machine, file }.make(state, call)
     }
 }

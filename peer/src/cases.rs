@@ -2,7 +2,7 @@
 //!
 //! A record is a kind, a label with its length before it, and the case. What a case holds stands at the function of its kind.
 
-use crate::calls::{Call, Machine};
+use crate::calls::{Call, Machine, OnFile};
 use crate::machine::{Answer, Line, Standing, State};
 use crate::program::{Lines, Running};
 use crate::{analysis, name, read, write, Counts, Plan, Refusal, Section, Task};
@@ -248,7 +248,8 @@ fn printing(mut case: Bytes, machine: &Machine) -> String {
     let length = case.word().into();
     let file = case.take(length);
     let room = case.byte().into();
-    let mut running = Running::new(machine, file);
+    let mut running = Running::new(OnFile { machine, file }, file);
+    running.state = (machine.start)(file).1;
     let mut line = "start".to_string();
     for &bytes in case.0.as_chunks().0 {
         let (before, mut lines) = (running.state, Lines::default());

@@ -3,10 +3,11 @@
 //! Each call checks the file and the state it is given, and gives its answer with the next state; after a refusal that is
 //! the state given. What it needs stands in tables of fixed size: longest sections from one pass over the sections, then
 //! hold times and budgets for those processors alone that are asked about, and who is in line from one pass over the tasks.
+//! [`Once`] has all that comes from the plan worked out before, and its calls check the state alone.
 //! The loops that are marked not to be inlined have the registers to themselves.
 
 use crate::analysis::{checked, processor, row_of, rows, sections, tasks, Order};
-use crate::analysis::{ALL, LOCAL, NOT_DECLARED, UNKNOWN_RESOURCE};
+use crate::analysis::{ALL, LOCAL, NOT_DECLARED, UNKNOWN_RESOURCE, UNKNOWN_TAG};
 use crate::{read, Plan, Refusal, MAX_PROCESSORS, MAX_RESOURCES, MAX_TASKS};
 
 const IN_LINE: u8 = 15;
@@ -96,6 +97,8 @@ impl Line {
     }
 }
 
+/// A tag of a file is a byte.
+const TAGS: usize = 256;
 const SLOTS: usize = MAX_RESOURCES * MAX_PROCESSORS;
 /// How many tasks are looked at side by side: two figures of each fill the registers.
 const ABREAST: usize = 32;
@@ -111,8 +114,8 @@ type Row = [u16; MAX_RESOURCES];
 /// A length for each task; signed, since the plain instruction set has the maximum of signed words only.
 type Column = [i16; MAX_TASKS];
 
-/// The figures of a plan, and who is in line.
-struct Tables<'a> {
+/// The figures of a plan.
+struct Figures<'a> {
     plan: &'a Plan,
     order: Order,
     /// All ones where the resource is global, else 0.
@@ -126,19 +129,25 @@ struct Tables<'a> {
     shorter: Column,
     /// By processor, its budgets on global resources.
     budgets: [Row; MAX_PROCESSORS],
+    /// The sums of the budgets that are there.
+    totals: [u32; MAX_RESOURCES],
     /// The processors whose hold times and budgets are there, as bits.
     filled: u8,
+}
+
+/// The figures of a plan, and who is in line.
+struct Tables<'a, 'b> {
+    figures: &'a mut Figures<'b>,
     /// By slot, the sum of 1 << place of its tasks.
     places: [u64; SLOTS],
     /// By slot, its task at place 0 or none; behind them, one at another place.
     first: [u8; 2 * SLOTS],
 }
 
-/// The figures.
-impl Tables<'_> {
+impl Figures<'_> {
     #[inline]
-    fn new(plan: &Plan) -> Tables<'_> {
-        Tables {
+    fn new(plan: &Plan) -> Figures<'_> {
+        Figures {
             plan,
             order: Order::of(plan, ALL),
             global: [0; MAX_RESOURCES],
@@ -147,9 +156,8 @@ impl Tables<'_> {
             longest: [0; MAX_TASKS],
             shorter: [0; MAX_TASKS],
             budgets: [[0; MAX_RESOURCES]; MAX_PROCESSORS],
+            totals: [0; MAX_RESOURCES],
             filled: 0,
-            places: [0; SLOTS],
-            first: [NONE; 2 * SLOTS],
         }
     }
 
@@ -238,16 +246,22 @@ impl Tables<'_> {
             }
         }
         self.budgets[k] = budgets;
+        for (total, budget) in self.totals.iter_mut().zip(budgets) {
+            *total += u32::from(budget);
+        }
+    }
+
+    #[inline]
+    fn fill_all(&mut self) {
+        if self.filled != ALL {
+            (0..MAX_PROCESSORS).for_each(|k| self.fill(k));
+        }
     }
 
     /// The sum of the budgets of the other processors.
     fn wait_time(&mut self, k: usize, q: usize) -> u32 {
-        let mut sum = 0;
-        for other in (0..MAX_PROCESSORS).filter(|&other| other != k) {
-            self.fill(other);
-            sum += u32::from(self.budgets[other][q]);
-        }
-        sum
+        self.fill_all();
+        self.totals[q] - u32::from(self.budgets[k][q])
     }
 
     /// Checks 13 and 14.
@@ -261,30 +275,35 @@ impl Tables<'_> {
 }
 
 /// Who is in line.
-impl Tables<'_> {
-    /// Puts in a task in line, and gives its longest section on the resource; 0 where it may not use it.
-    #[inline(always)]
-    fn put_task(&mut self, row: usize, k: usize, s: Standing) -> u16 {
-        let q = usize::from(s.resource) % MAX_RESOURCES;
-        let slot = slot(q, k);
-        let places = &mut self.places[slot];
-        *places = places.wrapping_add(1u64.wrapping_shl(s.place.into()));
-        self.first[slot + if s.place == 0 { 0 } else { SLOTS }] = row as u8;
-        self.holds[row][q] & self.global[q]
+impl Tables<'_, '_> {
+    #[inline]
+    fn new<'a, 'b>(figures: &'a mut Figures<'b>) -> Tables<'a, 'b> {
+        Tables {
+            figures,
+            places: [0; SLOTS],
+            first: [NONE; 2 * SLOTS],
+        }
     }
 
     /// Puts in the tasks in line, and gives their number; none where one is in line for what it may not use.
     #[inline(never)]
     fn put_tasks(&mut self, state: &State) -> Option<u32> {
-        let plan = self.plan;
+        let figures = &*self.figures;
         let (mut count, mut beyond, mut shortest) = (0, 0, u16::MAX);
-        for row in 0..tasks(plan).len() {
-            let s = state.tasks[row];
+        for (row, &task) in tasks(figures.plan).iter().enumerate() {
+            let s = state.tasks[row % MAX_TASKS];
             if s != Standing::NONE {
                 count += 1;
                 // No resource is 16 or more, no place 64.
                 beyond |= u16::from_le_bytes([s.resource, s.place]) & 0xc0f0;
-                shortest = shortest.min(self.put_task(row, processor(plan.tasks[row]), s));
+                let q = usize::from(s.resource) % MAX_RESOURCES;
+                let slot = slot(q, processor(task));
+                let places = &mut self.places[slot];
+                *places = places.wrapping_add(1u64.wrapping_shl(s.place.into()));
+                self.first[slot + if s.place == 0 { 0 } else { SLOTS }] = row as u8;
+                // A longest section or a hold time, 0 where the task may not use the resource.
+                let length = figures.holds[row % MAX_TASKS][q] & figures.global[q];
+                shortest = shortest.min(length);
             }
         }
         ((beyond == 0) & (shortest > 0)).then_some(count)
@@ -326,12 +345,12 @@ impl Tables<'_> {
             return line.hold_left | line.budget_left == 0;
         }
         let k = line.head();
-        self.fill(k);
-        let hold = self.holds[self.first(q, k)][q];
+        self.figures.fill(k);
+        let hold = self.figures.holds[self.first(q, k)][q];
         (1 <= line.hold_left)
             & (line.hold_left <= hold)
             & (line.hold_left <= line.budget_left)
-            & (line.budget_left <= self.budgets[k][q])
+            & (line.budget_left <= self.figures.budgets[k][q])
     }
 
     /// Puts in who is in line; whether the state is sound.
@@ -340,7 +359,7 @@ impl Tables<'_> {
     /// end; just as many where the tasks have the places from 0 up, one each. So the ends of the slots that are queued are
     /// as many as the tasks in line just where this holds for each slot, and all are queued.
     fn put_state(&mut self, state: &State) -> bool {
-        let past = &state.tasks[tasks(self.plan).len()..];
+        let past = &state.tasks[tasks(self.figures.plan).len()..];
         if past.iter().any(|&s| s != Standing::NONE) {
             return false;
         }
@@ -359,27 +378,17 @@ impl Tables<'_> {
         }
         places == count
     }
-
-    /// Fills the tables, or refuses the state.
-    fn put(&mut self, state: &State) -> Result<(), u8> {
-        self.put_plan();
-        if self.put_state(state) {
-            Ok(())
-        } else {
-            Err(NOT_SOUND)
-        }
-    }
 }
 
 /// The rules.
-impl Tables<'_> {
+impl Tables<'_, '_> {
     /// The head begins: it gets its whole budget and its first task, which is given, is granted.
     fn begin(&mut self, q: usize, line: &mut Line) -> usize {
         let k = line.head();
         let row = self.first(q, k);
-        self.fill(k);
-        line.hold_left = self.holds[row][q];
-        line.budget_left = self.budgets[k][q];
+        self.figures.fill(k);
+        line.hold_left = self.figures.holds[row][q];
+        line.budget_left = self.figures.budgets[k][q];
         row
     }
 
@@ -395,7 +404,7 @@ impl Tables<'_> {
             return Some(self.begin(q, line));
         }
         let row = usize::from(follower) % MAX_TASKS;
-        let hold = self.holds[row][q];
+        let hold = self.figures.holds[row][q];
         if hold <= line.budget_left {
             line.hold_left = hold;
             return Some(row);
@@ -409,11 +418,11 @@ impl Tables<'_> {
 
     /// The limit of a task behind all those of processor `k` that are in line, of which there are `ahead`.
     fn limit(&mut self, q: usize, k: usize, ahead: u8, tasks: &[Standing; MAX_TASKS]) -> u32 {
-        self.fill(k);
-        let mut limit = (u32::from(ahead) + 1) * self.wait_time(k, q);
-        for row in self.order.on(k) {
+        self.figures.fill(k);
+        let mut limit = (u32::from(ahead) + 1) * self.figures.wait_time(k, q);
+        for row in self.figures.order.on(k) {
             let in_line = usize::from(tasks[row].resource) == q;
-            limit += u32::from(in_line) * u32::from(self.holds[row][q]);
+            limit += u32::from(in_line) * u32::from(self.figures.holds[row][q]);
         }
         limit
     }
@@ -458,24 +467,27 @@ fn count_down(lines: &mut [Line; MAX_RESOURCES]) -> u16 {
     over
 }
 
+/// The row of a task, or the refusal of its tag.
+type Found = Result<usize, u8>;
+
 /// The calls, after the checks of the file and the state. A refusal leaves the state as it is.
-impl Tables<'_> {
-    /// Checks 11 and 12: the rows of a task and a resource.
-    fn asked(&self, tag: u16, resource: u8) -> Result<(usize, usize), u8> {
-        let row = row_of(self.plan, tag)?;
-        if resource >= self.plan.counts.resources {
+impl Tables<'_, '_> {
+    /// Checks 11, which came with the task's row, and 12: the rows of a task and a resource.
+    fn asked(&self, row: Found, resource: u8) -> Result<(usize, usize), u8> {
+        let row = row?;
+        if resource >= self.figures.plan.counts.resources {
             return Err(UNKNOWN_RESOURCE);
         }
         Ok((row % MAX_TASKS, usize::from(resource) % MAX_RESOURCES))
     }
 
-    fn request(&mut self, next: &mut State, tag: u16, resource: u8) -> Result<Answer, u8> {
-        let (row, q) = self.asked(tag, resource)?;
-        self.may_use(row, q)?;
+    fn request(&mut self, next: &mut State, row: Found, resource: u8) -> Result<Answer, u8> {
+        let (row, q) = self.asked(row, resource)?;
+        self.figures.may_use(row, q)?;
         if next.tasks[row] != Standing::NONE {
             return Err(IN_LINE);
         }
-        let k = processor(self.plan.tasks[row]);
+        let k = processor(self.figures.plan.tasks[row]);
         let place = self.places[slot(q, k)].trailing_ones() as u8;
         let line = &mut next.lines[q];
         let free = line.queued == 0;
@@ -497,23 +509,25 @@ impl Tables<'_> {
         Ok(answer)
     }
 
-    fn release(&mut self, next: &mut State, tag: u16, resource: u8) -> Result<Answer, u8> {
-        let (row, q) = self.asked(tag, resource)?;
+    fn release(&mut self, next: &mut State, row: Found, resource: u8) -> Result<Answer, u8> {
+        let (row, q) = self.asked(row, resource)?;
         let first = Standing { resource, place: 0 };
         let head = next.lines[q].queue[0];
-        if (next.tasks[row] != first) | (head != self.plan.tasks[row].processor) {
+        if (next.tasks[row] != first) | (head != self.figures.plan.tasks[row].processor) {
             return Err(NOT_HELD);
         }
-        let followers = move_up(self.plan, next, 1 << q);
+        let followers = move_up(self.figures.plan, next, 1 << q);
         let granted = self.pass_on(q, &mut next.lines[q], followers[q]);
-        Ok(granted.map_or(Answer::Free, |row| Answer::Next(self.plan.tasks[row].tag)))
+        Ok(granted.map_or(Answer::Free, |row| {
+            Answer::Next(self.figures.plan.tasks[row].tag)
+        }))
     }
 
     fn tick(&mut self, next: &mut State) -> Answer {
         let cuts = count_down(&mut next.lines);
         let mut grants = 0;
         if cuts != 0 {
-            let followers = move_up(self.plan, next, cuts);
+            let followers = move_up(self.figures.plan, next, cuts);
             for q in (0..MAX_RESOURCES).filter(|&q| cuts >> q & 1 == 1) {
                 let granted = self.pass_on(q, &mut next.lines[q], followers[q]);
                 grants |= u16::from(granted.is_some()) << q;
@@ -523,18 +537,31 @@ impl Tables<'_> {
     }
 }
 
-/// Checks a file and a state and makes a call.
+/// Checks a state and makes a call.
 #[inline]
 fn make(
+    figures: &mut Figures,
+    next: &mut State,
+    call: impl FnOnce(&mut Tables, &mut State) -> Result<Answer, u8>,
+) -> Result<Answer, u8> {
+    let mut tables = Tables::new(figures);
+    if !tables.put_state(next) {
+        return Err(NOT_SOUND);
+    }
+    call(&mut tables, next)
+}
+
+/// Checks a file, and then makes the call.
+#[inline]
+fn make_on(
     file: &[u8],
     next: &mut State,
     call: impl FnOnce(&mut Tables, &mut State) -> Result<Answer, u8>,
 ) -> Result<Answer, u8> {
     let answer = read(file);
-    let plan = checked(&answer)?;
-    let mut tables = Tables::new(plan);
-    tables.put(next)?;
-    call(&mut tables, next)
+    let mut figures = Figures::new(checked(&answer)?);
+    figures.put_plan();
+    make(&mut figures, next, call)
 }
 
 /// The refusal of the plan, or 0, and the fresh state.
@@ -545,14 +572,17 @@ pub fn start(file: &[u8]) -> (u8, State) {
 
 /// Whether a state is sound under a checked plan.
 pub fn sound(plan: &Plan, state: &State) -> bool {
-    Tables::new(plan).put(state).is_ok()
+    let mut figures = Figures::new(plan);
+    figures.put_plan();
+    Tables::new(&mut figures).put_state(state)
 }
 
 /// A task asks for a resource.
 pub fn request(file: &[u8], state: &State, tag: u16, resource: u8) -> (Answer, State) {
     let mut next = *state;
-    let answer = make(file, &mut next, |tables, next| {
-        tables.request(next, tag, resource)
+    let answer = make_on(file, &mut next, |tables, next| {
+        let row = row_of(tables.figures.plan, tag);
+        tables.request(next, row, resource)
     });
     (answer.unwrap_or_else(Answer::Refused), next)
 }
@@ -560,22 +590,82 @@ pub fn request(file: &[u8], state: &State, tag: u16, resource: u8) -> (Answer, S
 /// A task gives a resource back.
 pub fn release(file: &[u8], state: &State, tag: u16, resource: u8) -> (Answer, State) {
     let mut next = *state;
-    let answer = make(file, &mut next, |tables, next| {
-        tables.release(next, tag, resource)
+    let answer = make_on(file, &mut next, |tables, next| {
+        let row = row_of(tables.figures.plan, tag);
+        tables.release(next, row, resource)
     });
     (answer.unwrap_or_else(Answer::Refused), next)
 }
+
+/// A tick in which nothing happens.
+const IDLE: Answer = Answer::Ticked { cuts: 0, grants: 0 };
 
 /// A tick passes. Where nobody is in line, the plan is all there is to check.
 pub fn tick(file: &[u8], state: &State) -> (Answer, State) {
     let mut next = *state;
     let answer = if next == State::FRESH {
-        let idle = Answer::Ticked { cuts: 0, grants: 0 };
-        read(file).map_or_else(|refusal| Err(refusal.number()), |_| Ok(idle))
+        read(file).map_or_else(|refusal| Err(refusal.number()), |_| Ok(IDLE))
     } else {
-        make(file, &mut next, |tables, next| Ok(tables.tick(next)))
+        make_on(file, &mut next, |tables, next| Ok(tables.tick(next)))
     };
     (answer.unwrap_or_else(Answer::Refused), next)
+}
+
+/// A checked plan with all that can be known of it before a call. Each call checks the state alone.
+pub struct Once<'a> {
+    figures: Figures<'a>,
+    /// By tag, the row of its task or none.
+    rows: [u8; TAGS],
+}
+
+impl Once<'_> {
+    pub fn new(plan: &Plan) -> Once<'_> {
+        let mut figures = Figures::new(plan);
+        figures.put_plan();
+        figures.fill_all();
+        let mut rows = [NONE; TAGS];
+        for (row, task) in tasks(plan).iter().enumerate() {
+            rows[usize::from(task.tag) % TAGS] = row as u8;
+        }
+        Once { figures, rows }
+    }
+
+    fn row(&self, tag: u16) -> Found {
+        match self.rows.get(usize::from(tag)) {
+            None | Some(&NONE) => Err(UNKNOWN_TAG),
+            Some(&row) => Ok(row.into()),
+        }
+    }
+
+    /// A task asks for a resource.
+    pub fn request(&mut self, state: &State, tag: u16, resource: u8) -> (Answer, State) {
+        let (row, mut next) = (self.row(tag), *state);
+        let answer = make(&mut self.figures, &mut next, |tables, next| {
+            tables.request(next, row, resource)
+        });
+        (answer.unwrap_or_else(Answer::Refused), next)
+    }
+
+    /// A task gives a resource back.
+    pub fn release(&mut self, state: &State, tag: u16, resource: u8) -> (Answer, State) {
+        let (row, mut next) = (self.row(tag), *state);
+        let answer = make(&mut self.figures, &mut next, |tables, next| {
+            tables.release(next, row, resource)
+        });
+        (answer.unwrap_or_else(Answer::Refused), next)
+    }
+
+    /// A tick passes.
+    pub fn tick(&mut self, state: &State) -> (Answer, State) {
+        let mut next = *state;
+        if next == State::FRESH {
+            return (IDLE, next);
+        }
+        let answer = make(&mut self.figures, &mut next, |tables, next| {
+            Ok(tables.tick(next))
+        });
+        (answer.unwrap_or_else(Answer::Refused), next)
+    }
 }
 
 /// Makes the calls of a list, three bytes for each, from a fresh state on; shows each answer with the state that came with
@@ -1547,6 +1637,15 @@ mod tests {
             }
         }
 
+        /// With the plan looked at before.
+        fn once(self, once: &mut Once, state: &State) -> (Answer, State) {
+            match self {
+                Call::Request(tag, resource) => once.request(state, tag, resource),
+                Call::Release(tag, resource) => once.release(state, tag, resource),
+                Call::Tick => once.tick(state),
+            }
+        }
+
         fn by_words(self, model: &mut Model) -> Answer {
             match self {
                 Call::Request(tag, resource) => model.request(tag, resource),
@@ -1638,10 +1737,12 @@ mod tests {
         let figures = Figures::of(file);
         let mut model = Model::fresh(&figures);
         let mut limits = Limits(vec![None; MAX_TASKS]);
+        let mut once = Once::new(&figures.plan);
         let mut state = start(file).1;
         for _ in 0..calls {
             let call = Call::made(n, &model);
             let (answer, next) = call.on(file, &state);
+            assert_eq!(call.once(&mut once, &state), (answer, next), "{call:?}");
             assert_eq!(answer, call.by_words(&mut model), "{call:?}");
             assert_eq!(next, model.state(), "{call:?}");
             assert!(sound(&figures.plan, &next));
@@ -1765,17 +1866,20 @@ mod tests {
     ) -> bool {
         let is_sound = sound_by_words(figures, state);
         assert_eq!(sound(&figures.plan, state), is_sound, "{state:?}");
+        let mut once = Once::new(&figures.plan);
         if !is_sound {
             for call in [Call::Request(999, 99), Call::Release(999, 99), Call::Tick] {
                 assert_eq!(call.on(file, state), (Refused(19), *state));
+                assert_eq!(call.once(&mut once, state), (Refused(19), *state));
             }
             return false;
         }
         let model = Model::of(figures, state);
         for call in [Call::made(n, &model), Call::made(n, &model), Call::Tick] {
             let mut model = Model::of(figures, state);
-            let expected = call.by_words(&mut model);
-            assert_eq!(call.on(file, state), (expected, model.state()), "{call:?}");
+            let expected = (call.by_words(&mut model), model.state());
+            assert_eq!(call.on(file, state), expected, "{call:?}");
+            assert_eq!(call.once(&mut once, state), expected, "{call:?}");
         }
         true
     }

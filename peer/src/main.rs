@@ -1,20 +1,23 @@
-//! The printing program from standard input to standard output, by the tuned machine, or by the plain one where asked.
+//! The printing program from standard input to standard output, by the tuned machine, which where asked
+//! looks at the plan once, or by the plain one.
 
-use peer::{calls, program};
+use peer::calls::{Mode, PLAIN, TUNED};
+use peer::program;
 use std::io::{self, ErrorKind};
 use std::process::ExitCode;
 
 fn main() -> ExitCode {
     let words: Vec<String> = std::env::args().skip(1).collect();
-    let machine = match words.iter().map(String::as_str).collect::<Vec<_>>()[..] {
-        [] => calls::TUNED,
-        ["plain"] => calls::PLAIN,
+    let mode = match words.iter().map(String::as_str).collect::<Vec<_>>()[..] {
+        [] => Mode::Each(TUNED),
+        ["once"] => Mode::Once,
+        ["plain"] => Mode::Each(PLAIN),
         _ => {
-            eprintln!("peer-mspis [plain]");
+            eprintln!("peer-mspis [once | plain]");
             return ExitCode::FAILURE;
         }
     };
-    match program::run(&mut io::stdin(), &mut io::stdout().lock(), &machine) {
+    match program::run(&mut io::stdin(), &mut io::stdout().lock(), &mode) {
         // Whoever reads the lines may stop at any of them.
         Err(error) if error.kind() != ErrorKind::BrokenPipe => {
             eprintln!("peer-mspis: {error}");

@@ -1,7 +1,7 @@
 //! The printing program of document 01: a plan and then calls, and a line for each.
 
-use crate::calls::{Call, Machine};
-use crate::machine::{Answer, State};
+use crate::calls::{Call, Mode, OnFile, Operations};
+use crate::machine::{Answer, Once, State};
 use crate::{read, Counts, Offsets, Plan, HEADER};
 use std::io::{self, ErrorKind, Read, Write};
 
@@ -168,29 +168,27 @@ fn names<'a>(file: &'a [u8], plan: &Plan) -> Vec<&'a [u8]> {
     names
 }
 
-/// A plan file, and the state that the last call left.
-pub(crate) struct Running<'a> {
-    machine: &'a Machine,
-    file: &'a [u8],
+/// The operations on a plan file, and the state that the last call left.
+pub(crate) struct Running<'a, O> {
+    operations: O,
     names: Vec<&'a [u8]>,
     pub state: State,
 }
 
-impl<'a> Running<'a> {
+impl<'a, O: Operations> Running<'a, O> {
     /// What a refused plan is answered has no name in it.
-    pub fn new(machine: &'a Machine, file: &'a [u8]) -> Running<'a> {
+    pub fn new(operations: O, file: &'a [u8]) -> Self {
         Running {
-            machine,
-            file,
+            operations,
             names: read(file).map_or(Vec::new(), |plan| names(file, &plan)),
-            state: (machine.start)(file).1,
+            state: State::FRESH,
         }
     }
 
     /// Makes a call and puts its line behind the others.
     pub fn call(&mut self, bytes: [u8; CALL], lines: &mut Lines) {
         let call = Call::of(bytes);
-        match self.machine.make(self.file, &self.state, call) {
+        match self.operations.make(&self.state, call) {
             Some((answer, next)) => {
                 self.state = next;
                 lines.answer(call, &self.names, answer);
@@ -229,16 +227,22 @@ impl<'a> Running<'a> {
 }
 
 /// Reads a plan and calls to the end of the input, and writes their lines.
-pub fn run(input: &mut impl Read, output: &mut impl Write, machine: &Machine) -> io::Result<()> {
+pub fn run(input: &mut impl Read, output: &mut impl Write, mode: &Mode) -> io::Result<()> {
     let mut source = Source::new(input);
     let mut lines = Lines(Vec::with_capacity(2 * PIECE));
     let file = &source.take_plan()?;
-    match read(file) {
-        Ok(plan) => {
+    match (read(file), mode) {
+        (Ok(plan), Mode::Each(machine)) => {
             lines.plan(plan.counts);
-            Running::new(machine, file).calls(&mut source, &mut lines, output)?;
+            let operations = OnFile { machine, file };
+            Running::new(operations, file).calls(&mut source, &mut lines, output)?;
         }
-        Err(refusal) => lines.refused(refusal.number()),
+        (Ok(plan), Mode::Once) => {
+            lines.plan(plan.counts);
+            let operations = Once::new(&plan);
+            Running::new(operations, file).calls(&mut source, &mut lines, output)?;
+        }
+        (Err(refusal), _) => lines.refused(refusal.number()),
     }
     lines.write(output)?;
     output.flush()

@@ -1,4 +1,4 @@
-//! The printing programs beside each other, on long lists of calls: the proved one and the peer's, by either machine.
+//! The printing programs beside each other, on long lists of calls: the proved one and the peer's, in each of its modes.
 
 #![forbid(unsafe_code)]
 
@@ -12,7 +12,7 @@ use std::path::{Path, PathBuf};
 use std::process::{Command, Stdio};
 use std::time::Instant;
 
-const ROUNDS: usize = 7;
+const ROUNDS: usize = 5;
 const CALLS: usize = 1_000_000;
 /// As the comparison's lists, with queues that are neither full nor empty and calls of every kind.
 const MIX: Habits = Habits {
@@ -36,8 +36,10 @@ struct Program {
     words: &'static [&'static str],
 }
 
-/// The proved program, the peer, and the peer by its plain machine.
-type Programs = [Program; 3];
+const PROGRAMS: usize = 4;
+/// The proved program, the peer, the peer where it looks at the plan once as the proved one does, and by its plain machine.
+type Programs = [Program; PROGRAMS];
+type Seconds = [f64; PROGRAMS];
 
 /// A plan and calls, in a file.
 struct Input {
@@ -52,8 +54,15 @@ fn programs() -> Programs {
     let proved = std::env::var_os("MSPIS").map(PathBuf::from);
     let proved = proved.unwrap_or(root().join("target/bin/mspis"));
     let peer = root().join("peer/target/release/peer-mspis");
-    [(proved, &[][..]), (peer.clone(), &[]), (peer, &["plain"])]
-        .map(|(path, words)| Program { path, words })
+    let by = |words| Program {
+        path: peer.clone(),
+        words,
+    };
+    let proved = Program {
+        path: proved,
+        words: &[],
+    };
+    [proved, by(&[]), by(&["once"]), by(&["plain"])]
 }
 
 impl Input {
@@ -112,8 +121,8 @@ fn checked(programs: &Programs, name: &str, plan: &[u8], calls: &[u8]) -> io::Re
 }
 
 /// The medians of rounds in turn, so that a change of the machine's pace meets all alike.
-fn medians(programs: &Programs, input: &Input, sink: Sink) -> io::Result<[f64; 3]> {
-    let mut times = [(); 3].map(|()| Vec::new());
+fn medians(programs: &Programs, input: &Input, sink: Sink) -> io::Result<Seconds> {
+    let mut times = [(); PROGRAMS].map(|()| Vec::new());
     for _ in 0..ROUNDS {
         for (program, times) in programs.iter().zip(&mut times) {
             times.push(program.time(input, sink)?);
@@ -124,26 +133,28 @@ fn medians(programs: &Programs, input: &Input, sink: Sink) -> io::Result<[f64; 3
 
 fn heading(first: &str) {
     println!(
-        "\n| {first} | proved | peer | peer, plain machine | proved / peer | proved / plain |"
+        "\n| {first} | proved | peer | peer once | peer, plain machine \
+         | proved / peer | proved / peer once | proved / plain |"
     );
-    println!("|---|---|---|---|---|---|");
+    println!("|---|---|---|---|---|---|---|---|");
 }
 
 /// What is said of each program's seconds, and the proved one's by those of the others.
-fn row(what: &str, seconds: [f64; 3], said: impl Fn(f64) -> String) {
-    let [proved, peer, plain] = seconds;
-    let [one, two, three] = seconds.map(said);
-    let (by_peer, by_plain) = (proved / peer, proved / plain);
-    println!("| {what} | {one} | {two} | {three} | {by_peer:.2} | {by_plain:.2} |");
+fn row(what: &str, seconds: Seconds, said: impl Fn(f64) -> String) {
+    let ratios = seconds[1..]
+        .iter()
+        .map(|s| format!("{:.2}", seconds[0] / s));
+    let columns: Vec<String> = seconds.map(said).into_iter().chain(ratios).collect();
+    println!("| {what} | {} |", columns.join(" | "));
 }
 
-fn pace(what: &str, calls: usize, seconds: [f64; 3]) {
+fn pace(what: &str, calls: usize, seconds: Seconds) {
     row(what, seconds, |s| {
         format!("{s:.2} s, {:.0} a second", calls as f64 / s)
     });
 }
 
-fn microseconds(what: &str, calls: usize, seconds: [f64; 3]) {
+fn microseconds(what: &str, calls: usize, seconds: Seconds) {
     row(what, seconds, |s| format!("{:.2}", s * 1e6 / calls as f64));
 }
 
@@ -156,7 +167,7 @@ fn mixed(tasks: usize, count: usize) -> (Vec<u8>, Vec<u8>) {
 }
 
 /// A million calls: the mix, and ticks with every resource held. Gives the seconds of the mix.
-fn at_length(programs: &Programs, plan: &[u8], calls: &[u8]) -> io::Result<[f64; 3]> {
+fn at_length(programs: &Programs, plan: &[u8], calls: &[u8]) -> io::Result<Seconds> {
     let mix = checked(programs, "mix", plan, calls)?;
     let long = plans::long();
     let held = checked(programs, "held", &long, &lists::held(&long, CALLS))?;

@@ -2,6 +2,8 @@ use super::*;
 use crate::analysis::tests::file;
 use crate::calls::{PLAIN, TUNED};
 
+const MODES: [Mode; 3] = [Mode::Each(TUNED), Mode::Once, Mode::Each(PLAIN)];
+
 /// The listing's plan: its priorities, C and T are free.
 fn listed() -> Vec<u8> {
     [
@@ -26,17 +28,18 @@ impl Read for Slowly<'_> {
     }
 }
 
-/// What is printed, which is the same by both machines and for all sizes of pieces.
+/// What is printed, which is the same in all modes and for all sizes of pieces.
 fn printed(input: &[u8]) -> String {
-    let by = |machine, size| {
+    let by = |mode, size| {
         let mut output = Vec::new();
-        run(&mut Slowly(input, size), &mut output, machine).unwrap();
+        run(&mut Slowly(input, size), &mut output, mode).unwrap();
         String::from_utf8(output).unwrap()
     };
-    let whole = by(&TUNED, usize::MAX);
-    assert_eq!(by(&PLAIN, usize::MAX), whole);
-    for size in [1, 2, 7, 64] {
-        assert_eq!(by(&TUNED, size), whole, "pieces of {size}");
+    let whole = by(&MODES[0], usize::MAX);
+    for mode in &MODES {
+        for size in [1, 2, 7, 64, usize::MAX] {
+            assert_eq!(by(mode, size), whole, "pieces of {size}");
+        }
     }
     whole
 }
@@ -143,11 +146,13 @@ fn bytes_left_over() {
 fn a_long_list() {
     let calls = b"Q\x0a\0R\x0a\0T\0\0".repeat(20_000);
     let lines = "granted 10 bus\nreleased 10 bus free\ntick 0 0\n".repeat(20_000);
-    let mut output = Vec::new();
     let input = [&listed()[..], &calls, b"Q"].concat();
-    run(&mut &input[..], &mut output, &TUNED).unwrap();
-    assert_eq!(
-        String::from_utf8(output).unwrap(),
-        format!("plan 2 2 1 2\n{lines}refused 22\n")
-    );
+    for mode in &MODES[..2] {
+        let mut output = Vec::new();
+        run(&mut &input[..], &mut output, mode).unwrap();
+        assert_eq!(
+            String::from_utf8(output).unwrap(),
+            format!("plan 2 2 1 2\n{lines}refused 22\n")
+        );
+    }
 }
