@@ -100,17 +100,19 @@ fn serve_all(file: &[u8]) {
     let mut state = machine::start(file).state;
     let mut kept = 0;
     let mut going = true;
+    let mut written = true;
     let mut turns = u64::MAX;
     while going & (turns > 0) {
         let got = read_more(&mut calls, kept);
         let end = kept + got;
         let served = serve(file, state, &calls[0..end], &mut out);
         state = served.state;
+        written = served.written;
         kept = keep(&mut calls, served.used, end);
-        going = served.written & (got != 0);
+        going = written & (got != 0);
         turns -= 1;
     }
-    if kept != 0 {
+    if written & (kept != 0) {
         print_refused(22);
     }
 }

@@ -11,11 +11,11 @@ use Rattle.mspis.proofs.serve_all.Statement.{statement}
 use Rattle.mspis.proofs.serve_all.Tie as tie
 
 abbrev Inv-loop : tie.InvT-loop
-Inv-loop file calls₀ out₀ state₀ kept₀ going₀ turns₀ calls out state kept going turns =
+Inv-loop file calls₀ out₀ state₀ kept₀ going₀ written₀ turns₀ calls out state kept going written turns =
     (length calls ≡ 65536) × (length out ≡ 65536) × (kept ≤ 65536)
 
 abbrev μ-loop : tie.MeasureT-loop
-μ-loop file calls₀ out₀ state₀ kept₀ going₀ turns₀ calls out state kept going turns = turns
+μ-loop file calls₀ out₀ state₀ kept₀ going₀ written₀ turns₀ calls out state kept going written turns = turns
 
 large-buffer-requires : tie.Need-large-buffer-requires Inv-loop μ-loop
 large-buffer-requires c κs = search needs
@@ -61,11 +61,11 @@ keep-requires c κs = search needs
 
 sub-turns : tie.Need-sub-turns Inv-loop μ-loop
 sub-turns c =
-    let t = ltb-true 0 (c .before .before .before .before .before .before .before .before .before .before .before .before .before .before .loop .turns) (and-parts (c .before .before .before .before .before .before .before .before .before .before .before .before .before .before .loop .going) (ltb 0 (c .before .before .before .before .before .before .before .before .before .before .before .before .before .before .loop .turns)) (c .before .before .before .before .before .before .before .before .before .before .before .before .before .loop-test .taken) .1) in omega (arith, t)
+    let t = ltb-true 0 (c .before .before .before .before .before .before .before .before .before .before .before .before .before .loop .turns) (and-parts (c .before .before .before .before .before .before .before .before .before .before .before .before .before .loop .going) (ltb 0 (c .before .before .before .before .before .before .before .before .before .before .before .before .before .loop .turns)) (c .before .before .before .before .before .before .before .before .before .before .before .before .loop-test .taken) .1) in omega (arith, t)
 
 loop-less : tie.Need-loop-less Inv-loop μ-loop
 loop-less c =
-    let t = ltb-true 0 (c .before .before .before .before .before .before .before .before .before .before .before .before .before .before .loop .turns) (and-parts (c .before .before .before .before .before .before .before .before .before .before .before .before .before .before .loop .going) (ltb 0 (c .before .before .before .before .before .before .before .before .before .before .before .before .before .before .loop .turns)) (c .before .before .before .before .before .before .before .before .before .before .before .before .before .loop-test .taken) .1) in omega (arith, t)
+    let t = ltb-true 0 (c .before .before .before .before .before .before .before .before .before .before .before .before .before .loop .turns) (and-parts (c .before .before .before .before .before .before .before .before .before .before .before .before .before .loop .going) (ltb 0 (c .before .before .before .before .before .before .before .before .before .before .before .before .before .loop .turns)) (c .before .before .before .before .before .before .before .before .before .before .before .before .loop-test .taken) .1) in omega (arith, t)
 
 loop-again : tie.Need-loop-again Inv-loop μ-loop
 loop-again c = search needs
