@@ -214,11 +214,10 @@ fn tick_on(
     requires { ⌜ (Checked (now file)) × (Cells (holdAt (planOf (now file))) (now holds)) × (Shares (planOf (now file)) (now budgets)) × (Keys (planOf (now file)) (state .tasks) (now keys)) × (Seats (planOf (now file)) (state .tasks) (now seats)) × (sound (planOf (now file)) state ≡ true) ⌝ }
     ensures { λ r. ⌜ Done (planOf (now (file .entry))) state Tick r ⌝ }
 {
-    let before = state.lines;
-    let next = steps::tick(state, holds, budgets, keys, seats);
-    let after = next.lines;
+    let ticked = steps::tick(state, holds, budgets, keys, seats);
+    let next = ticked.state;
     Reply {
-        answer: Answer::Ticked(steps::cuts(before), steps::grants(before, after)),
+        answer: Answer::Ticked(ticked.cuts, ticked.grants),
         state: next,
     }
 }

@@ -20,6 +20,22 @@ pub struct Ahead {
     pub holds: u32,
 }
 
+// What a tick makes of the lines: they after it, a mark for each queue that loses its first, the resources cut, and those of them
+// with a new grant.
+struct Stepped {
+    lines: [Line; 16],
+    marks: [u8; 129],
+    cuts: u16,
+    grants: u16,
+}
+
+// The state after a tick, the resources cut, and those of them with a new grant.
+pub struct Ticked {
+    pub state: State,
+    pub cuts: u16,
+    pub grants: u16,
+}
+
 // Those in the queue of processor k for q.
 pub fn ahead_of(holds: &[u16], seats: &[u8], q: usize, k: u8) -> Ahead
     requires { ⌜ (length (now holds) ≡ 1024) × (length (now seats) ≡ 8193) × (q < 16) × (k < 8) × ((x : ℕ) → x < 8193 → getD (now seats) x 0 < 65) ⌝ }
@@ -234,65 +250,11 @@ fn step(line: Line, holds: &[u16], budgets: &[u16], seats: &[u8], q: usize) -> L
     after
 }
 
-// The lines after a tick.
-fn step_lines(lines: [Line; 16], holds: &[u16], budgets: &[u16], seats: &[u8]) -> [Line; 16]
-    requires { ⌜ (length (now holds) ≡ 1024) × (length (now budgets) ≡ 128) × (length (now seats) ≡ 8193) × ((x : ℕ) → x < 8193 → getD (now seats) x 0 < 65) × ((q : ℕ) → q < 16 → 1 ≤ getD lines q noLine .queued → Running (now seats) q (getD lines q noLine)) ⌝ }
-    ensures { λ r. ⌜ r ≡ steppedLines (now (holds .entry)) (now (budgets .entry)) (now (seats .entry)) lines ⌝ }
-{
-    let mut next = lines;
-    let mut q = 0;
-    while q < 16 {
-        let line = next[q];
-        let after = step(line, holds, budgets, seats, q);
-        next[q] = after;
-        q += 1;
-    }
-    next
-}
-
 // Whether a tick cuts the holder of a line.
 fn ends(line: Line) -> bool
     ensures { λ r. ⌜ r ≡ (ltb 0 (line .queued) && eqb (line .«hold_left») 1) ⌝ }
 {
     (0 < line.queued) & (line.hold_left == 1)
-}
-
-// The queues that lose their first in a tick.
-fn ended(lines: [Line; 16]) -> [u8; 129]
-    requires { ⌜ ((q : ℕ) → q < 16 → 1 ≤ getD lines q noLine .queued → slot (getD lines q noLine) 0 < 8) ⌝ }
-    ensures { λ r. ⌜ r ≡ endedOf lines ⌝ }
-{
-    let mut ended = [0u8; 129];
-    let mut q = 0;
-    while q < 16 {
-        let line = lines[q];
-        let queue = line.queue;
-        let on = ends(line);
-        if on {
-            ended[q * 8 + folds::wide(queue[0])] = 1;
-        } else {
-            // 128 is no queue: both arms store once, so that the table is one of stores by key.
-            ended[128] = 0;
-        }
-        q += 1;
-    }
-    ended
-}
-
-// The state after a tick.
-pub fn tick(state: State, holds: &[u16], budgets: &[u16], keys: &[u16], seats: &[u8]) -> State
-    requires { ⌜ (Sized (now holds) (now budgets) (now keys) (now seats)) × ((q : ℕ) → q < 16 → 1 ≤ lineAt state q .queued → Running (now seats) q (lineAt state q)) ⌝ }
-    ensures { λ r. ⌜ r ≡ ticked (now (holds .entry)) (now (budgets .entry)) (now (keys .entry)) (now (seats .entry)) state ⌝ }
-{
-    let lines = state.lines;
-    let rows = state.tasks;
-    let marks = ended(lines);
-    let tasks = lower(rows, keys, &marks);
-    let after = step_lines(lines, holds, budgets, seats);
-    let mut next = state;
-    next.lines = after;
-    next.tasks = tasks;
-    next
 }
 
 // 2 to the power of q where `on`, else 0.
@@ -306,33 +268,59 @@ fn bit(on: bool, q: usize) -> u16
     0
 }
 
-// The resources that a tick cuts.
-pub fn cuts(before: [Line; 16]) -> u16
-    ensures { λ r. ⌜ r ≡ cutWord before ⌝ }
+// The lines after a tick, in one pass with what the tick tells of them.
+fn step_lines(lines: [Line; 16], holds: &[u16], budgets: &[u16], seats: &[u8]) -> Stepped
+    requires { ⌜ (length (now holds) ≡ 1024) × (length (now budgets) ≡ 128) × (length (now seats) ≡ 8193) × ((x : ℕ) → x < 8193 → getD (now seats) x 0 < 65) × ((q : ℕ) → q < 16 → 1 ≤ getD lines q noLine .queued → Running (now seats) q (getD lines q noLine)) ⌝ }
+    ensures { λ r. ⌜ (r .lines ≡ steppedLines (now (holds .entry)) (now (budgets .entry)) (now (seats .entry)) lines) × (r .marks ≡ endedOf lines) × (r .cuts ≡ cutWord lines) × (r .grants ≡ grantWord lines (steppedLines (now (holds .entry)) (now (budgets .entry)) (now (seats .entry)) lines)) ⌝ }
 {
-    let mut word = 0u16;
+    let mut next = lines;
+    let mut marks = [0u8; 129];
+    let mut cuts = 0u16;
+    let mut grants = 0u16;
     let mut q = 0;
     while q < 16 {
-        let line = before[q];
+        let line = next[q];
+        let queue = line.queue;
         let on = ends(line);
-        word += bit(on, q);
+        let after = step(line, holds, budgets, seats, q);
+        next[q] = after;
+        cuts += bit(on, q);
+        grants += bit(on & (0 < after.queued), q);
+        if on {
+            marks[q * 8 + folds::wide(queue[0])] = 1;
+        } else {
+            // 128 is no queue: both arms store once, so that the table is one of stores by key.
+            marks[128] = 0;
+        }
         q += 1;
     }
-    word
+    Stepped {
+        lines: next,
+        marks,
+        cuts,
+        grants,
+    }
 }
 
-// Those of them with a new grant.
-pub fn grants(before: [Line; 16], after: [Line; 16]) -> u16
-    ensures { λ r. ⌜ r ≡ grantWord before after ⌝ }
+// A tick. The rows of the tasks stay as they are where no hold ends.
+pub fn tick(state: State, holds: &[u16], budgets: &[u16], keys: &[u16], seats: &[u8]) -> Ticked
+    requires { ⌜ (Sized (now holds) (now budgets) (now keys) (now seats)) × ((q : ℕ) → q < 16 → 1 ≤ lineAt state q .queued → Running (now seats) q (lineAt state q)) ⌝ }
+    ensures { λ r. ⌜ (r .state ≡ ticked (now (holds .entry)) (now (budgets .entry)) (now (keys .entry)) (now (seats .entry)) state) × (r .cuts ≡ cutWord (state .lines)) × (r .grants ≡ grantWord (state .lines) (r .state .lines)) ⌝ }
 {
-    let mut word = 0u16;
-    let mut q = 0;
-    while q < 16 {
-        let line = before[q];
-        let next = after[q];
-        let on = ends(line) & (0 < next.queued);
-        word += bit(on, q);
-        q += 1;
+    let lines = state.lines;
+    let stepped = step_lines(lines, holds, budgets, seats);
+    let after = stepped.lines;
+    let mut next = state;
+    next.lines = after;
+    if stepped.cuts != 0 {
+        let rows = state.tasks;
+        let marks = stepped.marks;
+        let tasks = lower(rows, keys, &marks);
+        next.tasks = tasks;
     }
-    word
+    Ticked {
+        state: next,
+        cuts: stepped.cuts,
+        grants: stepped.grants,
+    }
 }

@@ -9,21 +9,11 @@ use Rattle.machine.proofs.tick_on.Statement.{statement}
 use Rattle.machine.proofs.tick_on.Tie as tie
 use Rattle.machine.proofs.tick_on.Reads as reads
 use Rattle.machine.proofs.tick_on.Lts as lts
-use Rattle.steps.proofs.cuts.Reads as cuts-reads
-use Rattle.steps.proofs.grants.Reads as grants-reads
 use Rattle.steps.proofs.tick.Reads as tick-reads
 
 -- at the start
 abbrev Here : Type 0
-Here =
-    lts.Start (
-      tick-reads.Asked,
-      tick-reads.Learnt,
-      cuts-reads.Asked,
-      cuts-reads.Learnt,
-      grants-reads.Asked,
-      grants-reads.Learnt,
-    ) reads.Pre reads.Post
+Here = lts.Start (tick-reads.Asked, tick-reads.Learnt) reads.Pre reads.Post
 
 tables : (c : Here) → let a = c .args in
     Tabled (planOf (a .file .now)) (a .state) (a .holds .now) (a .budgets .now) (a .keys .now) (a .seats .now)
@@ -39,20 +29,14 @@ tables c =
 
 tick-requires : tie.Need-tick-requires
 tick-requires c κs =
-    let a = c .before .before .before .before .before .before in
+    let a = c .before .before .before .before .before in
     beat-ready _ (valid-plan _ (a .pre .0)) _ (a .pre .5) (tables a)
-
-cuts-requires : tie.Need-cuts-requires
-cuts-requires c κs = search needs
-
-grants-requires : tie.Need-grants-requires
-grants-requires c κs = search needs
 
 returns : tie.Need-returns
 returns c =
-    let a = c .before .before .before .before .before .before .before .before .before .before in
-    beat-done _ (valid-plan _ (a .pre .0)) _ (a .pre .5) (tables a)
-    (c .before .before .before .tick .ensures) (c .before .cuts .ensures) (c .grants .ensures)
+    let a = c .before .before .before .before .before .before .before in
+    let t = c .before .tick .ensures in
+    beat-done _ (valid-plan _ (a .pre .0)) _ (a .pre .5) (tables a) (t .0) (t .1) (t .2)
 
 pub tick-on-spec : {M : Type 1} → statement M
-tick-on-spec = tie.close (tie.spec tick-requires cuts-requires grants-requires returns)
+tick-on-spec = tie.close (tie.spec tick-requires returns)

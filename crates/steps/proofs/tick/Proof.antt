@@ -1,12 +1,13 @@
--- Each held line has a head to mark.
+-- Where no resource is cut, the rows of the tasks are already as the marks would make them.
 use borrow.Author.Needs.{needs}
+use mathlib.Core.Path.{_≡_, sym, ap, _∙_}
+use Rattle.steps.specs.Steps.{grantWord}
+use Rattle.steps.proofs.Marks.{rows-kept}
 use Rattle.steps.proofs.tick.Statement.{statement}
 use Rattle.steps.proofs.tick.Tie as tie
 
-ended-requires : tie.Need-ended-requires
-ended-requires c κs q l held =
-    let r = c .before .before .before .before .before .before .pre .1 q l held .ready in
-    r .placed 0 (r .some)
+step-lines-requires : tie.Need-step-lines-requires
+step-lines-requires c κs = search needs
 
 slice-aggregate-lower : tie.Need-slice-aggregate-lower
 slice-aggregate-lower c = search needs
@@ -14,13 +15,17 @@ slice-aggregate-lower c = search needs
 lower-requires : tie.Need-lower-requires
 lower-requires c κs = search needs
 
-step-lines-requires : tie.Need-step-lines-requires
-step-lines-requires c κs = search needs
-
 returns : tie.Need-returns
-returns c = rw (c .step-lines .ensures, c .before .lower .ensures, c .before .before .before .ended .ensures)
+returns c =
+    let s = c .before .before .before .before .before .before .before .step-lines .ensures in
+    (rw (s .0, c .lower .ensures, s .1), s .2, s .3 ∙ ap (grantWord _) (sym (s .0)))
+
+returns-2 : tie.Need-returns-2
+returns-2 c =
+    let s = c .before .before .before .step-lines .ensures in
+    let p = c .before .before .before .before .before .before .before .before .before .pre in
+    (rw (s .0, rows-kept _ _ _ (p .0 .keys-low) (sym (s .2) ∙ c .if1 .left)), s .2, s .3 ∙ ap (grantWord _) (sym (s .0)))
 
 pub tick-spec : {M : Type 1} → statement M
 tick-spec =
-    tie.close
-    (tie.spec ended-requires slice-aggregate-lower lower-requires step-lines-requires returns)
+    tie.close (tie.spec step-lines-requires slice-aggregate-lower lower-requires returns returns-2)
