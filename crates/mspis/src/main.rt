@@ -48,6 +48,14 @@ fn print_plan(counts: rows::Counts) {
     io::write_all(STDOUT_FILENO, &out[0..end]);
 }
 
+// "refused 22", where bytes are left over.
+fn print_end(left: usize) {
+    let mut out = [0u8; 96];
+    let line = transcript::end_line(left, &mut out);
+    let end = line.length;
+    io::write_all(STDOUT_FILENO, &out[0..end]);
+}
+
 // Makes all whole calls, and writes their lines in pieces as large as the buffer.
 fn serve(file: &[u8], start: State, calls: &[u8], out: &mut [u8]) -> Served
     requires { ⌜ 96 ≤ length (now out) ⌝ }
@@ -112,8 +120,8 @@ fn serve_all(file: &[u8]) {
         going = written & (got != 0);
         turns -= 1;
     }
-    if written & (kept != 0) {
-        print_refused(22);
+    if written {
+        print_end(kept);
     }
 }
 

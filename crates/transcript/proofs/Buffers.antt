@@ -1,7 +1,7 @@
 -- Lines at the front of a buffer: what is lent on, and what a buffer that is too short or long enough holds.
 use Prim.Native.Nat.{ℕ, _-_, _<_, _≤_}
 use mathlib.Core.Bool.{Bool, true, false, cond}
-use mathlib.Core.List.{List, _++_}
+use mathlib.Core.List.{List, [], _++_}
 use mathlib.Core.Path.{_≡_, refl, sym, ap, _∙_}
 use native.Mathlib.Nat.{zero-add}
 use native.Mathlib.Omega.{arith}
@@ -51,3 +51,8 @@ line-fits text n = go (leb (length text) n) refl
     go : (b : Bool) → leb (length text) n ≡ b → (cond {A = Line} b (record { refusal = 0; length = length text }) (record { refusal = 10; length = 0 })) .length ≤ n
     go true e = leb-true _ _ e
     go false e = omega arith
+
+-- no line fits every buffer, and leaves it as it was
+pub no-line : {text : List ℕ} (l : List ℕ) → text ≡ [] → (record { refusal = 0; length = 0 } ≡ lineFor text (length l)) × (l ≡ lineIn text l)
+unfolding lineFor lineIn
+no-line l e = rw (e, le-leb 0 (length l) (omega arith)) (refl, refl)

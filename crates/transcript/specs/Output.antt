@@ -22,9 +22,13 @@ unfoldable pub linesBelow : List ℕ → ℕ → List ℕ → List ℕ
 linesBelow f zero l = []
 linesBelow f (suc n) l = linesBelow f n l ++ lineAfter f (callsBelow n l) (getD l (n * 3) 0) (getD l (n * 3 + 1) 0) (getD l (n * 3 + 2) 0)
 
--- those of all whole calls, and "1 or 2 left-over bytes print "refused 22" and end"
+-- what the output ends with, for calls of n bytes: "1 or 2 left-over bytes print "refused 22" and end"
+unfoldable pub endLine : ℕ → List ℕ
+endLine n = cond (eqb (n % 3) 0) [] (refusedLine 22)
+
+-- the lines of all whole calls, and the end
 unfoldable pub callsOutput : List ℕ → List ℕ → List ℕ
-callsOutput f l = linesBelow f (length l / 3) l ++ cond (eqb (length l % 3) 0) [] (refusedLine 22)
+callsOutput f l = linesBelow f (length l / 3) l ++ endLine (length l)
 
 -- the plan in a file and the calls behind it; "A refused plan prints its number in one line and nothing more"
 unfoldable pub fileOutput : List ℕ → List ℕ → List ℕ

@@ -8,6 +8,7 @@ ghost use Rattle.machine.specs.Inner.{Surveyed};
 ghost use Rattle.machine.specs.Promise.{callOf, AfterBytes};
 ghost use Rattle.wording.specs.Lines.{refusedLine, planLine};
 ghost use Rattle.transcript.specs.Calls.{callLine};
+ghost use Rattle.transcript.specs.Output.{endLine};
 ghost use Rattle.transcript.specs.Buffers.{lineFor, lineIn, StateBeside, Told};
 ghost use Rattle.transcript.specs.Inner.{Stepped};
 
@@ -79,7 +80,7 @@ fn hand_over(line: &[u8], out: &mut [u8]) -> Line
     Line { refusal: 0, length }
 }
 
-// The line of a refusal: of a plan that is refused, or 22 for bytes left over.
+// The line of a refusal.
 pub fn refused_line(number: u8, out: &mut [u8]) -> Line
     ensures { λ r. ⌜ r ≡ lineFor (refusedLine number) (length (now (out .entry))) ⌝ }
     ensures { λ r. ⌜ now (out .exit) ≡ lineIn (refusedLine number) (now (out .entry)) ⌝ }
@@ -87,6 +88,20 @@ pub fn refused_line(number: u8, out: &mut [u8]) -> Line
     let mut line = [0u8; 96];
     let end = wording::put_refused(&mut line, 0, number);
     hand_over(&line[0..end], out)
+}
+
+// What the output ends with, where so many bytes stand behind the last call that was made: nothing, or the refusal 22.
+pub fn end_line(left: usize, out: &mut [u8]) -> Line
+    ensures { λ r. ⌜ r ≡ lineFor (endLine left) (length (now (out .entry))) ⌝ }
+    ensures { λ r. ⌜ now (out .exit) ≡ lineIn (endLine left) (now (out .entry)) ⌝ }
+{
+    if left % 3 == 0 {
+        return Line {
+            refusal: 0,
+            length: 0,
+        };
+    }
+    refused_line(22, out)
 }
 
 // The line of a plan that is read.

@@ -70,8 +70,8 @@ loop-less c =
 loop-again : tie.Need-loop-again Inv-loop μ-loop
 loop-again c = search needs
 
-print-refused-requires : tie.Need-print-refused-requires Inv-loop μ-loop
-print-refused-requires c κs = search needs
+print-end-requires : tie.Need-print-end-requires Inv-loop μ-loop
+print-end-requires c κs = search needs
 
 returns : tie.Need-returns Inv-loop μ-loop
 returns c = search needs
@@ -102,6 +102,6 @@ serve-all-spec =
     sub-turns
     loop-less
     loop-again
-    print-refused-requires
+    print-end-requires
     returns
     returns-2)
