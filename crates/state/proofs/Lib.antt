@@ -1,6 +1,7 @@
 pub mod Tables
-pub mod Good
+pub mod Numbers
 pub mod Passing
+pub mod Good
 pub mod Wholes
 pub mod SoundTest
 pub mod FreshLaws

@@ -3,6 +3,7 @@ use Prim.Native.Nat.{ℕ, zero, suc, _+_, _<_, _≤_, max}
 use mathlib.Core.Bool.{Bool, true, false, cond, _&&_}
 use mathlib.Core.List.{List}
 use mathlib.Core.Path.{_≡_, refl, sym, _∙_}
+use mathlib.Core.Logic.{_≢_}
 use native.Mathlib.Omega.{arith}
 use native.Mathlib.Nat.{max-zero}
 use borrow.Author.Tests.{eqb-true, eq-eqb, ltb-true, lt-ltb}
@@ -64,6 +65,17 @@ key-out s m q k j lm lk lq lj h = go (ltb (s .resource) 16) (ltb (s .place) 64) 
     go true true t e = let l = ltb-true (s .place) 64 t in (omega arith, omega arith, omega arith)
     go true false t e = let bad : ⊥ = omega arith in absurd bad
     go false b t e = let bad : ⊥ = omega arith in absurd bad
+
+-- a seat in a queue is that of a row that names a resource and a place
+pub key-on : (s : Standing) (m : ℕ) → keyOf s m ≢ 8192 → (s .resource < 16) × (s .place < 64)
+unfolding keyOf
+key-on s m n = go (ltb (s .resource) 16) (ltb (s .place) 64) refl refl n
+  where
+    go : (a b : Bool) → ltb (s .resource) 16 ≡ a → ltb (s .place) 64 ≡ b → cond (a && b) (seat (s .resource) m (s .place)) 8192 ≢ 8192
+        → (s .resource < 16) × (s .place < 64)
+    go true true x y h = (ltb-true _ 16 x, ltb-true _ 64 y)
+    go true false x y h = absurd (h refl)
+    go false b x y h = absurd (h refl)
 
 module _ (p : Plan) (ts : List Standing) where
   pub rank-in : (q k j u : ℕ) → Stands (standing ts u) (processorOf p u) q k j → rank p ts q k u ≡ j + 1

@@ -49,10 +49,10 @@ alone-from n u f h l a =
     (λ ne. rw (ne-eqb (f v) (f u) (λ e. ne (sym (h v b (omega arith)) ∙ ap (taskAt n f) e ∙ h u l a)))))
 
 -- some f u is 1 or more
-serves-max : (n : ℕ) (f : ℕ → ℕ) → anyBelow n (λ u. leb 1 (f u)) ≡ true → 1 ≤ maxBelow n f
+pub serves-max : (n : ℕ) (f : ℕ → ℕ) → anyBelow n (λ u. leb 1 (f u)) ≡ true → 1 ≤ maxBelow n f
 serves-max n f h = any-out n (λ u. leb 1 (f u)) (1 ≤ maxBelow n f) h (λ u l e. omega (arith, leb-true 1 (f u) e, max-at n u f l))
 
-max-serves : (n : ℕ) (f : ℕ → ℕ) → 1 ≤ maxBelow n f → anyBelow n (λ u. leb 1 (f u)) ≡ true
+pub max-serves : (n : ℕ) (f : ℕ → ℕ) → 1 ≤ maxBelow n f → anyBelow n (λ u. leb 1 (f u)) ≡ true
 max-serves n f a =
     let l = max-there n f a in
     let b : 1 ≤ f (taskAt n f (maxBelow n f)) = omega (arith, task-rank n (maxBelow n f) f l) in
@@ -157,62 +157,63 @@ module _ (p : Plan) (v : Valid p) where
               (λ e. any-out (p .tasks) (λ w. eqb (beside p ts u w) (standing ts u .place)) _ e
               (λ w m i. omega (arith, task-first (p .tasks) (standing ts u .place) w (beside p ts u) m (eqb-true _ _ i)))))
 
-      good-of : (q : ℕ) (l : Line) → q < 16 → lineFits p ts q l ≡ true → Good p ts q l
-      unfolding lineFits slotFits coreFits clockFits
-      good-of q l b h =
-          let c = and-parts (leb (l .queued) 8 && allBelow 8 (slotFits p ts q l)) _ h in
-          let d = and-parts (leb (l .queued) 8) (allBelow 8 (slotFits p ts q l)) (c .0) in
-          let e = and-parts (allBelow (p .processors) (coreFits p ts q l)) (clockFits p ts q l) (c .1) in
-          made (leb-true (l .queued) 8 (d .0)) (λ i x. all-at 8 i (slotFits p ts q l) (d .1) x)
-          (λ k x. all-at (p .processors) k (coreFits p ts q l) (e .0) x) (e .1)
-        where
-          made : l .queued ≤ 8 → ((i : ℕ) → i < 8 → slotFits p ts q l i ≡ true) → ((k : ℕ) → k < p .processors → coreFits p ts q l k ≡ true)
-              → clockFits p ts q l ≡ true → Good p ts q l
-          made small slots cores clock = record {
-            small = small;
-            ranked = ranked q b;
-            queued = record {
-              placed = λ i x. server-low q (slot l i) (served i x);
-              served = served;
-              once = once;
-              stands = stands;
-            };
-            rest = λ i x y. eqb-true (slot l i) 255 (rw (le-ltb i (l .queued) x) at (slots i y));
-            timed = record {
-              idle = λ z.
-                  let x = and-parts (eqb (l .«hold_left») 0) _ (rw (eq-eqb (l .queued) 0 z) at clock) in
-                  (eqb-true _ _ (x .0), eqb-true _ _ (x .1));
-              runs = λ z.
-                  let x = and-parts (leb 1 (l .«hold_left») && leb (l .«hold_left») (holdAt p (holderOf p ts q l) q)) _
-                  (rw (ne-eqb (l .queued) 0 (λ i. omega arith)) at clock) in
-                  let y = and-parts (leb 1 (l .«hold_left»)) _ (x .0) in
-                  let w = and-parts (leb (l .«hold_left») (l .«budget_left»)) _ (x .1) in
-                  (leb-true _ _ (y .0), leb-true _ _ (y .1), leb-true _ _ (w .0), leb-true _ _ (w .1));
-            };
-          }
-            where
-              slot-parts : (i : ℕ) → i < l .queued → (serves p ts q (slot l i) ≡ true) × (allBelow i (λ j. not (eqb (slot l j) (slot l i))) ≡ true)
-              slot-parts i x = and-parts (serves p ts q (slot l i)) _ (rw (lt-ltb i (l .queued) x) at (slots i (omega arith)))
+    -- a line, where the ranks are sound
+    pub good-of : (q : ℕ) (l : Line) → Ranked (p .tasks) (terms p q) (rank p ts q) → lineFits p ts q l ≡ true → Good p ts q l
+    unfolding lineFits slotFits coreFits clockFits
+    good-of q l r h =
+        let c = and-parts (leb (l .queued) 8 && allBelow 8 (slotFits p ts q l)) _ h in
+        let d = and-parts (leb (l .queued) 8) (allBelow 8 (slotFits p ts q l)) (c .0) in
+        let e = and-parts (allBelow (p .processors) (coreFits p ts q l)) (clockFits p ts q l) (c .1) in
+        made (leb-true (l .queued) 8 (d .0)) (λ i x. all-at 8 i (slotFits p ts q l) (d .1) x)
+        (λ k x. all-at (p .processors) k (coreFits p ts q l) (e .0) x) (e .1)
+      where
+        made : l .queued ≤ 8 → ((i : ℕ) → i < 8 → slotFits p ts q l i ≡ true) → ((k : ℕ) → k < p .processors → coreFits p ts q l k ≡ true)
+            → clockFits p ts q l ≡ true → Good p ts q l
+        made small slots cores clock = record {
+          small = small;
+          ranked = r;
+          queued = record {
+            placed = λ i x. server-low q (slot l i) (served i x);
+            served = served;
+            once = once;
+            stands = stands;
+          };
+          rest = λ i x y. eqb-true (slot l i) 255 (rw (le-ltb i (l .queued) x) at (slots i y));
+          timed = record {
+            idle = λ z.
+                let x = and-parts (eqb (l .«hold_left») 0) _ (rw (eq-eqb (l .queued) 0 z) at clock) in
+                (eqb-true _ _ (x .0), eqb-true _ _ (x .1));
+            runs = λ z.
+                let x = and-parts (leb 1 (l .«hold_left») && leb (l .«hold_left») (holdAt p (holderOf p ts q l) q)) _
+                (rw (ne-eqb (l .queued) 0 (λ i. omega arith)) at clock) in
+                let y = and-parts (leb 1 (l .«hold_left»)) _ (x .0) in
+                let w = and-parts (leb (l .«hold_left») (l .«budget_left»)) _ (x .1) in
+                (leb-true _ _ (y .0), leb-true _ _ (y .1), leb-true _ _ (w .0), leb-true _ _ (w .1));
+          };
+        }
+          where
+            slot-parts : (i : ℕ) → i < l .queued → (serves p ts q (slot l i) ≡ true) × (allBelow i (λ j. not (eqb (slot l j) (slot l i))) ≡ true)
+            slot-parts i x = and-parts (serves p ts q (slot l i)) _ (rw (lt-ltb i (l .queued) x) at (slots i (omega arith)))
 
-              served : (i : ℕ) → i < l .queued → 1 ≤ maxBelow (p .tasks) (rank p ts q (slot l i))
-              served i x = serves-max (p .tasks) (rank p ts q (slot l i)) (slot-parts i x .0)
+            served : (i : ℕ) → i < l .queued → 1 ≤ maxBelow (p .tasks) (rank p ts q (slot l i))
+            served i x = serves-max (p .tasks) (rank p ts q (slot l i)) (slot-parts i x .0)
 
-              differ : (i j : ℕ) → j < l .queued → i < j → slot l i ≢ slot l j
-              differ i j y x = eqb-false _ _ (not-true _ (all-at j i (λ i. not (eqb (slot l i) (slot l j))) (slot-parts j y .1) x))
+            differ : (i j : ℕ) → j < l .queued → i < j → slot l i ≢ slot l j
+            differ i j y x = eqb-false _ _ (not-true _ (all-at j i (λ i. not (eqb (slot l i) (slot l j))) (slot-parts j y .1) x))
 
-              once : (i j : ℕ) → i < l .queued → j < l .queued → slot l i ≡ slot l j → i ≡ j
-              once i j x y e =
-                  on-eq (i ≡ j) i j (λ s. s)
-                  (λ ne. on-le (i ≡ j) i j (λ a. absurd (differ i j y (omega arith) e)) (λ a. absurd (differ j i x a (sym e))))
+            once : (i j : ℕ) → i < l .queued → j < l .queued → slot l i ≡ slot l j → i ≡ j
+            once i j x y e =
+                on-eq (i ≡ j) i j (λ s. s)
+                (λ ne. on-le (i ≡ j) i j (λ a. absurd (differ i j y (omega arith) e)) (λ a. absurd (differ j i x a (sym e))))
 
-              stands : (k : ℕ) → 1 ≤ maxBelow (p .tasks) (rank p ts q k) → At (l .queued) (slot l) k
-              stands k a =
-                  any-out (l .queued) (λ i. eqb (slot l i) k) (At (l .queued) (slot l) k)
-                  (rw (max-serves (p .tasks) (rank p ts q k) a) at (cores k (server-low q k a)))
-                  (λ i x e. record { index = i; within = x; is = eqb-true _ _ e })
+            stands : (k : ℕ) → 1 ≤ maxBelow (p .tasks) (rank p ts q k) → At (l .queued) (slot l) k
+            stands k a =
+                any-out (l .queued) (λ i. eqb (slot l i) k) (At (l .queued) (slot l) k)
+                (rw (max-serves (p .tasks) (rank p ts q k) a) at (cores k (server-low q k a)))
+                (λ i x e. record { index = i; within = x; is = eqb-true _ _ e })
 
     -- ── to the test ──
-    of-good : (q : ℕ) (l : Line) → Good p ts q l → lineFits p ts q l ≡ true
+    pub of-good : (q : ℕ) (l : Line) → Good p ts q l → lineFits p ts q l ≡ true
     unfolding lineFits slotFits coreFits clockFits
     of-good q l w =
         both (both (le-leb _ _ (w .small)) (all-from 8 (slotFits p ts q l) slots)) (both (all-from (p .processors) (coreFits p ts q l) cores) clock)
@@ -273,7 +274,8 @@ whole-of p v s h =
     let rows : (u : ℕ) → u < 64 → taskFits p (s .tasks) u ≡ true = λ u l. all-at 64 u (taskFits p (s .tasks)) (a .0) l in
     record {
       rows = λ u l. ⊎-elim (λ e. inl e) (λ w. inr (w .hold)) (row-of p v (s .tasks) u (rows u l));
-      lines = λ q l. good-of p v (s .tasks) rows q (lineAt s q) l (all-at 16 q (λ q. lineFits p (s .tasks) q (lineAt s q)) (a .1) l);
+      lines = λ q l. good-of p v (s .tasks) q (lineAt s q) (ranked p v (s .tasks) rows q l)
+          (all-at 16 q (λ q. lineFits p (s .tasks) q (lineAt s q)) (a .1) l);
     }
 
 pub sound-of : (p : Plan) → Valid p → (s : State) → Whole p s → sound p s ≡ true

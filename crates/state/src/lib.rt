@@ -1,13 +1,15 @@
 // The state of the machine by value, the test whether it is sound, and the tables by which a call looks it up. The functions here
 // are for the crates above: each says in its `requires` what it relies on.
 ghost use mathlib.Core.Path.{_≡_};
-ghost use Prim.Native.Nat.{ℕ, _+_, _*_, _≤_, _<_, min};
+ghost use Prim.Native.Nat.{ℕ, _+_, _*_, _≤_, _<_};
 ghost use lib.ListN.{length, getD, replicate};
+ghost use lib.Dec.{eqb};
 ghost use Rattle.folds.specs.Below.{allBelow};
+ghost use Rattle.folds.specs.Bytes.{number, placedBelow};
 ghost use Rattle.plan.specs.Plan.{planOf, Checked};
 ghost use Rattle.state.specs.Shows.{freshState, noLine, standing, slot};
 ghost use Rattle.state.specs.Seats.{seat, keyOf, Keys, Seats};
-ghost use Rattle.state.specs.Tests.{taskTest, slotsOf, slotTest, coreTest, clockTest, freeTest, lineTest, stateTest};
+ghost use Rattle.state.specs.Tests.{taskTest, firstSeat, tailTest, queueTest, clockTest, freeTest, lineTest, stateTest};
 
 // A task: the resource it is in line for, and its place in its processor's queue for it, from 0; 255 and 255 for none.
 pub struct Standing {
@@ -27,16 +29,6 @@ pub struct Line {
 pub struct State {
     pub lines: [Line; 16],
     pub tasks: [Standing; 64],
-}
-
-// The smaller of two numbers.
-fn least(a: usize, b: usize) -> usize
-    ensures { λ r. ⌜ r ≡ min a b ⌝ }
-{
-    if a <= b {
-        return a;
-    }
-    b
 }
 
 // Nobody in line.
@@ -104,95 +96,99 @@ pub fn fill_seats(file: &[u8], tasks: [Standing; 64], keys: &[u16], seats: &mut 
     }
 }
 
-// Whether the row of task u, whose seat is `key`, is as it must be.
-fn task_ok(holds: &[u16], seats: &[u8], s: Standing, key: u16, u: usize) -> bool
-    requires { ⌜ (length (now holds) ≡ 1024) × (length (now seats) ≡ 8193) × (u < 64) × (key < 8193) × (s .resource < 16 → s .place < 64 → s .place ≤ key) ⌝ }
+// Whether the row of task u, whose seat is `key`, is as it must be. `base` is 8,192 for each task before u, so that one division
+// finds its hold time.
+fn task_ok(holds: &[u16], seats: &[u8], s: Standing, key: u16, u: usize, base: usize) -> bool
+    requires { ⌜ (length (now holds) ≡ 1024) × (length (now seats) ≡ 8193) × (u < 64) × (key < 8193) × (base ≡ u * 8192) ⌝ }
     ensures { λ r. ⌜ r ≡ taskTest (now (holds .entry)) (now (seats .entry)) s key u ⌝ }
 {
-    if (s.resource == 255) & (s.place == 255) {
+    if key == 8192 {
+        return (s.resource == 255) & (s.place == 255);
+    }
+    let at = key as usize;
+    if holds[(base + at) / 512] == 0 {
+        return false;
+    }
+    if folds::wide(seats[at]) != u + 1 {
+        return false;
+    }
+    if at % 64 == 0 {
         return true;
     }
-    if (s.resource < 16) & (s.place < 64) {
-        let hold = holds[u * 16 + folds::wide(s.resource)];
-        let at = key as usize;
-        let before = at - least(folds::wide(s.place), 1);
-        let own = seats[at];
-        return (1 <= hold) & (folds::wide(own) == u + 1) & (1 <= seats[before]);
-    }
-    false
+    1 <= seats[at - 1]
 }
 
 // Whether all are.
 fn tasks_ok(tasks: [Standing; 64], holds: &[u16], keys: &[u16], seats: &[u8]) -> bool
-    requires { ⌜ (length (now holds) ≡ 1024) × (length (now keys) ≡ 64) × (length (now seats) ≡ 8193) × ((u : ℕ) → u < 64 → getD (now keys) u 0 < 8193) × ((u : ℕ) → u < 64 → standing tasks u .resource < 16 → standing tasks u .place < 64 → standing tasks u .place ≤ getD (now keys) u 0) ⌝ }
+    requires { ⌜ (length (now holds) ≡ 1024) × (length (now keys) ≡ 64) × (length (now seats) ≡ 8193) × ((u : ℕ) → u < 64 → getD (now keys) u 0 < 8193) ⌝ }
     ensures { λ r. ⌜ r ≡ allBelow 64 (λ u. taskTest (now (holds .entry)) (now (seats .entry)) (standing tasks u) (getD (now (keys .entry)) u 0) u) ⌝ }
 {
-    let mut ok = true;
     let mut u = 0;
+    let mut base = 0;
     while u < 64 {
         let s = tasks[u];
-        let fits = task_ok(holds, seats, s, keys[u], u);
-        ok = ok & fits;
+        if !task_ok(holds, seats, s, keys[u], u, base) {
+            return false;
+        }
         u += 1;
+        base += 8192;
     }
-    ok
+    true
 }
 
-// The slot of each processor in a queue.
-fn slot_table(queue: [u8; 8]) -> [u8; 9]
-    ensures { λ r. ⌜ r ≡ slotsOf queue ⌝ }
+// Eight bytes as one number, low byte first: all of them are tested at once.
+fn eight(b: [u8; 8]) -> u64
+    ensures { λ r. ⌜ (r ≡ number 8 b 0) × ((k : ℕ) → k < 8 → getD b k 0 < 256) ⌝ }
 {
-    let mut slots = [0u8; 9];
-    let mut i = 0;
-    while i < 8 {
-        let at = least(folds::wide(queue[i]), 8);
-        slots[at] = (i + 1) as u8;
-        i += 1;
-    }
-    slots
+    let first = folds::byte(b[0]) + 256 * folds::byte(b[1]);
+    let second = folds::byte(b[2]) + 256 * folds::byte(b[3]);
+    let third = folds::byte(b[4]) + 256 * folds::byte(b[5]);
+    let fourth = folds::byte(b[6]) + 256 * folds::byte(b[7]);
+    first + 65536 * second + 4294967296 * third + 281474976710656 * fourth
 }
 
-// Whether slot i of a queue of c is as it must be.
-fn slot_ok(queue: [u8; 8], c: u8, slots: [u8; 9], i: usize) -> bool
-    requires { ⌜ i < 8 ⌝ }
-    ensures { λ r. ⌜ r ≡ slotTest queue c slots i ⌝ }
-{
-    let k = queue[i];
-    if i < folds::wide(c) {
-        let at = least(folds::wide(k), 8);
-        return (k < 8) & (folds::wide(slots[at]) == i + 1);
-    }
-    k == 255
-}
-
-// Whether all are.
-fn slots_ok(queue: [u8; 8], c: u8, slots: [u8; 9]) -> bool
-    ensures { λ r. ⌜ r ≡ allBelow 8 (slotTest queue c slots) ⌝ }
-{
-    let mut ok = true;
-    let mut i = 0;
-    while i < 8 {
-        let fits = slot_ok(queue, c, slots, i);
-        ok = ok & fits;
-        i += 1;
-    }
-    ok
-}
-
-// Whether the processors in a queue are those with a task in line for q.
-fn cores_ok(seats: &[u8], slots: [u8; 9], q: usize) -> bool
+// Who has the first seat of each processor's queue for q.
+fn first_seats(seats: &[u8], q: usize, first: &mut [u8; 8])
     requires { ⌜ (length (now seats) ≡ 8193) × (q < 16) ⌝ }
-    ensures { λ r. ⌜ r ≡ allBelow 8 (coreTest (now (seats .entry)) slots q) ⌝ }
+    ensures { λ u. ⌜ now (first .exit) ≡ placedBelow 8 (firstSeat (now (seats .entry)) q) (now (first .entry)) ⌝ }
 {
-    let mut ok = true;
     let mut k = 0;
     while k < 8 {
-        let stands = least(folds::wide(slots[k]), 1);
-        let waits = least(folds::wide(seats[(q * 8 + k) * 64]), 1);
-        ok = ok & (stands == waits);
+        first[k] = seats[(q * 8 + k) * 64];
         k += 1;
     }
-    ok
+}
+
+// Whether the slots of a queue from c on are empty.
+fn tail_ok(queue: [u8; 8], c: u8) -> bool
+    requires { ⌜ (1 ≤ c) × (c ≤ 8) ⌝ }
+    ensures { λ r. ⌜ r ≡ tailTest queue c ⌝ }
+{
+    let taken = 18446744073709551615 - eight(queue);
+    (taken >> (8 * folds::byte(c) - 8)) < 256
+}
+
+// Whether a queue of c for q is as it must be: each processor in it is struck off those with a task in line, and none is left.
+fn queue_ok(queue: [u8; 8], c: u8, seats: &[u8], q: usize) -> bool
+    requires { ⌜ (length (now seats) ≡ 8193) × (q < 16) × (1 ≤ c) × (c ≤ 8) ⌝ }
+    ensures { λ r. ⌜ r ≡ queueTest (now (seats .entry)) q queue c ⌝ }
+{
+    let mut rest = [0u8; 8];
+    first_seats(seats, q, &mut rest);
+    let n = folds::wide(c);
+    let mut i = 0;
+    while i < n {
+        let k = folds::wide(queue[i]);
+        if 8 <= k {
+            return false;
+        }
+        if rest[k] == 0 {
+            return false;
+        }
+        rest[k] = 0;
+        i += 1;
+    }
+    tail_ok(queue, c) & (eight(rest) == 0)
 }
 
 // Whether the hold left and the budget left of q are within their bounds.
@@ -213,20 +209,28 @@ fn clock_ok(line: Line, holds: &[u16], budgets: &[u16], seats: &[u8], q: usize) 
     (1 <= left) & (left <= most) & (left <= rest) & (rest <= budget)
 }
 
+// Whether nobody has the first seat of a processor's queue for q.
+fn none_waits(seats: &[u8], q: usize) -> bool
+    requires { ⌜ (length (now seats) ≡ 8193) × (q < 16) ⌝ }
+    ensures { λ r. ⌜ r ≡ allBelow 8 (λ k. eqb (firstSeat (now (seats .entry)) q k) 0) ⌝ }
+{
+    let mut ok = true;
+    let mut k = 0;
+    while k < 8 {
+        ok = ok & (seats[(q * 8 + k) * 64] == 0);
+        k += 1;
+    }
+    ok
+}
+
 // Whether the row of a free resource q is as it must be.
 fn free_ok(line: Line, seats: &[u8], q: usize) -> bool
     requires { ⌜ (length (now seats) ≡ 8193) × (q < 16) ⌝ }
     ensures { λ r. ⌜ r ≡ freeTest (now (seats .entry)) q line ⌝ }
 {
     let queue = line.queue;
-    let mut ok = true;
-    let mut k = 0;
-    while k < 8 {
-        let fits = (queue[k] == 255) & (seats[(q * 8 + k) * 64] == 0);
-        ok = ok & fits;
-        k += 1;
-    }
-    ok & (line.hold_left == 0) & (line.budget_left == 0)
+    let empty = eight(queue) == 18446744073709551615;
+    empty & none_waits(seats, q) & (line.hold_left == 0) & (line.budget_left == 0)
 }
 
 // Whether the row of resource q is as it must be.
@@ -239,8 +243,7 @@ fn line_ok(line: Line, holds: &[u16], budgets: &[u16], seats: &[u8], q: usize) -
     }
     if line.queued <= 8 {
         let queue = line.queue;
-        let slots = slot_table(queue);
-        if slots_ok(queue, line.queued, slots) & cores_ok(seats, slots, q) {
+        if queue_ok(queue, line.queued, seats, q) {
             return clock_ok(line, holds, budgets, seats, q);
         }
     }
@@ -252,15 +255,15 @@ fn lines_ok(lines: [Line; 16], holds: &[u16], budgets: &[u16], seats: &[u8]) -> 
     requires { ⌜ (length (now holds) ≡ 1024) × (length (now budgets) ≡ 128) × (length (now seats) ≡ 8193) × ((x : ℕ) → x < 8193 → getD (now seats) x 0 < 65) ⌝ }
     ensures { λ r. ⌜ r ≡ allBelow 16 (λ q. lineTest (now (holds .entry)) (now (budgets .entry)) (now (seats .entry)) q (getD lines q noLine)) ⌝ }
 {
-    let mut ok = true;
     let mut q = 0;
     while q < 16 {
         let line = lines[q];
-        let fits = line_ok(line, holds, budgets, seats, q);
-        ok = ok & fits;
+        if !line_ok(line, holds, budgets, seats, q) {
+            return false;
+        }
         q += 1;
     }
-    ok
+    true
 }
 
 // Whether a state is sound, by the tables of its plan.

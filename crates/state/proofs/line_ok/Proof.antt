@@ -1,11 +1,11 @@
--- One outcome of the tests at a time, a free line by its own; where both have passed, the clock's can read the head and its first
+-- One outcome of the tests at a time, a free line by its own; where the queue has passed, the clock's can read the head and its first
 -- task.
-use mathlib.Core.Path.{_∙_}
+use mathlib.Core.Path.{sym, _∙_}
 use borrow.Author.Needs.{needs}
 use borrow.Author.Tests.{le-leb, lt-leb}
 use native.Mathlib.Omega.{arith}
 use Rattle.state.specs.Tests.{lineTest}
-use Rattle.state.proofs.Passing.{queue-tested, head-passed, free-line}
+use Rattle.state.proofs.Passing.{head-passed, free-line}
 use Rattle.state.proofs.line_ok.Statement.{statement}
 use Rattle.state.proofs.line_ok.Tie as tie
 
@@ -17,44 +17,28 @@ returns c =
     let a = c .before .before .before .before .before .before .args in
     c .free-ok .ensures ∙ free-line (a .holds .now) (a .budgets .now) (a .seats .now) (a .q) (a .line) (c .before .if1 .taken)
 
-slot-table-requires : tie.Need-slot-table-requires
-slot-table-requires c κs = search needs
-
-slots-ok-requires : tie.Need-slots-ok-requires
-slots-ok-requires c κs = search needs
-
-cores-ok-requires : tie.Need-cores-ok-requires
-cores-ok-requires c κs = search needs
+queue-ok-requires : tie.Need-queue-ok-requires
+queue-ok-requires c κs = search needs
 
 clock-ok-requires : tie.Need-clock-ok-requires
 clock-ok-requires c κs =
-    let d = c .before in
-    let a = d .before .before .before .before .before .before .before .before .before .before .before .args in
-    let slots = d .before .before .slot-table .ensures in
-    let tested = queue-tested (a .seats .now) (a .q) (a .line) slots (d .before .slots-ok .ensures) (d .cores-ok .ensures) in
-    let p = d .before .before .before .before .before .before .before .before .before .before .before .pre in
-    let head = head-passed (a .seats .now) (a .q) (a .line) (tested ∙ c .if3 .taken) in
+    let start = c .before .before .before .before .before .before .before .before .before .before in
+    let a = start .args in
+    let p = start .pre in
+    let head = head-passed (a .seats .now) (a .q) (a .line .queue) (a .line .queued) (sym (c .before .queue-ok .ensures) ∙ c .if3 .taken) in
     (p .0, p .1, p .2, p .3, λ l. head l .0, λ l. head l .1, λ l. p .4 _ (omega (arith, head l .0)))
 
 returns-2 : tie.Need-returns-2
 unfolding lineTest
 returns-2 c =
-    let d = c .before .before in
-    let a = d .before .before .before .before .before .before .before .before .before .before .before .args in
-    let slots = d .before .before .slot-table .ensures in
-    let tested = queue-tested (a .seats .now) (a .q) (a .line) slots (d .before .slots-ok .ensures) (d .cores-ok .ensures) in
-    let few = le-leb _ _ (d .before .before .before .before .if2 .taken) in
-    rw (few, tested ∙ c .before .if3 .taken) (c .clock-ok .ensures)
+    let few = le-leb _ _ (c .before .before .before .before .if2 .taken) in
+    rw (few, sym (c .before .before .queue-ok .ensures) ∙ c .before .if3 .taken) (c .clock-ok .ensures)
 
 returns-3 : tie.Need-returns-3
 unfolding lineTest
 returns-3 c =
-    let d = c .before in
-    let a = d .before .before .before .before .before .before .before .before .before .before .before .args in
-    let slots = d .before .before .slot-table .ensures in
-    let tested = queue-tested (a .seats .now) (a .q) (a .line) slots (d .before .slots-ok .ensures) (d .cores-ok .ensures) in
-    let few = le-leb _ _ (d .before .before .before .before .if2 .taken) in
-    rw (few, tested ∙ c .if3 .left)
+    let few = le-leb _ _ (c .before .before .before .if2 .taken) in
+    rw (few, sym (c .before .queue-ok .ensures) ∙ c .if3 .left)
 
 returns-4 : tie.Need-returns-4
 unfolding lineTest
@@ -66,9 +50,7 @@ line-ok-spec =
     (tie.spec
     free-ok-requires
     returns
-    slot-table-requires
-    slots-ok-requires
-    cores-ok-requires
+    queue-ok-requires
     clock-ok-requires
     returns-2
     returns-3

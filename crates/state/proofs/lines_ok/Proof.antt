@@ -1,20 +1,21 @@
--- The invariant: `ok` says whether the rows passed are as they must be.
+-- The invariant: the rows passed are as they must be.
 use Prim.Native.Nat.{_≤_, _-_}
-use mathlib.Core.Path.{_≡_, refl}
+use mathlib.Core.Bool.{true}
+use mathlib.Core.Path.{_≡_, refl, sym}
 use native.Mathlib.Omega.{arith}
 use lib.ListN.{getD}
 use Rattle.folds.specs.Below.{allBelow}
-use Rattle.folds.proofs.Tests.{all-step, all-done}
+use Rattle.folds.proofs.Tests.{held, failed, all-more, all-left, all-done}
 use Rattle.state.specs.Shows.{noLine}
 use Rattle.state.specs.Tests.{lineTest}
 use Rattle.state.proofs.lines_ok.Statement.{statement}
 use Rattle.state.proofs.lines_ok.Tie as tie
 
 abbrev Inv-loop : tie.InvT-loop
-Inv-loop holds budgets seats lines ok₀ q₀ ok q = (q ≤ 16) × (ok ≡ allBelow q (λ k. lineTest holds budgets seats k (getD lines k noLine)))
+Inv-loop holds budgets seats lines q₀ q = (q ≤ 16) × (allBelow q (λ k. lineTest holds budgets seats k (getD lines k noLine)) ≡ true)
 
 abbrev μ-loop : tie.MeasureT-loop
-μ-loop holds budgets seats lines ok₀ q₀ ok q = 16 - q
+μ-loop holds budgets seats lines q₀ q = 16 - q
 
 loop-holds : tie.Need-loop-holds Inv-loop μ-loop
 unfolding allBelow
@@ -29,6 +30,9 @@ array-copy-out-line c = omega arith
 line-ok-requires : tie.Need-line-ok-requires Inv-loop μ-loop
 line-ok-requires c κs = let p = c .before .before .before .before .before .before .pre in (p .0, p .1, p .2, omega arith, p .3)
 
+returns : tie.Need-returns Inv-loop μ-loop
+returns c = all-left 16 (c .before .before .before .before .loop .q) _ (omega arith) (failed (c .before .line-ok .ensures) (c .if1 .taken))
+
 add-q : tie.Need-add-q Inv-loop μ-loop
 add-q c = omega arith
 
@@ -36,10 +40,12 @@ loop-less : tie.Need-loop-less Inv-loop μ-loop
 loop-less c = omega arith
 
 loop-again : tie.Need-loop-again Inv-loop μ-loop
-loop-again c = (omega arith, all-step _ _ (c .before .before .before .loop .inv .1) (c .line-ok .ensures))
+loop-again c =
+    let l = c .before .before .before .before .loop in
+    (omega arith, all-more (l .q) _ (l .inv .1) (held (c .before .line-ok .ensures) (c .if1 .left)))
 
-returns : tie.Need-returns Inv-loop μ-loop
-returns c = all-done _ (c .before .loop .q) _ (omega arith) (c .before .loop .inv .1)
+returns-2 : tie.Need-returns-2 Inv-loop μ-loop
+returns-2 c = all-done 16 (c .before .loop .q) _ (omega arith) (sym (c .before .loop .inv .1))
 
 pub lines-ok-spec : {M : Type 1} → statement M
 lines-ok-spec =
@@ -51,7 +57,8 @@ lines-ok-spec =
     mul-line
     array-copy-out-line
     line-ok-requires
+    returns
     add-q
     loop-less
     loop-again
-    returns)
+    returns-2)

@@ -1,24 +1,26 @@
--- The invariant: `ok` says whether the rows passed are as they must be.
-use Prim.Native.Nat.{_≤_, _-_}
-use mathlib.Core.Path.{_≡_, refl}
+-- The invariant: the rows passed are as they must be.
+use Prim.Native.Nat.{_≤_, _-_, _*_}
+use mathlib.Core.Bool.{true}
+use mathlib.Core.Path.{_≡_, refl, sym, _∙_}
 use native.Mathlib.Omega.{arith}
 use lib.ListN.{getD}
 use Rattle.folds.specs.Below.{allBelow}
-use Rattle.folds.proofs.Tests.{all-step, all-done}
+use Rattle.folds.proofs.Tests.{held, failed, all-more, all-left, all-done}
 use Rattle.state.specs.Shows.{standing}
 use Rattle.state.specs.Tests.{taskTest}
 use Rattle.state.proofs.tasks_ok.Statement.{statement}
 use Rattle.state.proofs.tasks_ok.Tie as tie
 
 abbrev Inv-loop : tie.InvT-loop
-Inv-loop holds keys seats tasks ok₀ u₀ ok u = (u ≤ 64) × (ok ≡ allBelow u (λ v. taskTest holds seats (standing tasks v) (getD keys v 0) v))
+Inv-loop holds keys seats tasks u₀ base₀ u base =
+    (u ≤ 64) × (base ≡ u * 8192) × (allBelow u (λ v. taskTest holds seats (standing tasks v) (getD keys v 0) v) ≡ true)
 
 abbrev μ-loop : tie.MeasureT-loop
-μ-loop holds keys seats tasks ok₀ u₀ ok u = 64 - u
+μ-loop holds keys seats tasks u₀ base₀ u base = 64 - u
 
 loop-holds : tie.Need-loop-holds Inv-loop μ-loop
 unfolding allBelow
-loop-holds c = (omega arith, refl)
+loop-holds c = (omega arith, omega arith, refl)
 
 mul-s : tie.Need-mul-s Inv-loop μ-loop
 mul-s c = omega arith
@@ -36,19 +38,27 @@ task-ok-requires : tie.Need-task-ok-requires Inv-loop μ-loop
 task-ok-requires c κs =
     let l = c .before .before .before .loop in
     let p = c .before .before .before .before .before .before .before .pre in
-    (p .0, p .2, omega arith, p .3 (l .u) (omega arith), p .4 (l .u) (omega arith))
+    (p .0, p .2, omega arith, p .3 (l .u) (omega arith), l .inv .1)
+
+returns : tie.Need-returns Inv-loop μ-loop
+returns c = all-left 64 (c .before .before .before .before .before .loop .u) _ (omega arith) (failed (c .before .task-ok .ensures) (c .if1 .taken))
 
 add-u : tie.Need-add-u Inv-loop μ-loop
 add-u c = omega arith
+
+add-base : tie.Need-add-base Inv-loop μ-loop
+add-base c = omega arith
 
 loop-less : tie.Need-loop-less Inv-loop μ-loop
 loop-less c = omega arith
 
 loop-again : tie.Need-loop-again Inv-loop μ-loop
-loop-again c = (omega arith, all-step _ _ (c .before .before .before .before .loop .inv .1) (c .task-ok .ensures))
+loop-again c =
+    let l = c .before .before .before .before .before .loop in
+    (omega arith, omega arith, all-more (l .u) _ (l .inv .2) (held (c .before .task-ok .ensures) (c .if1 .left)))
 
-returns : tie.Need-returns Inv-loop μ-loop
-returns c = all-done _ (c .before .loop .u) _ (omega arith) (c .before .loop .inv .1)
+returns-2 : tie.Need-returns-2 Inv-loop μ-loop
+returns-2 c = all-done 64 (c .before .loop .u) _ (omega arith) (sym (c .before .loop .inv .2))
 
 pub tasks-ok-spec : {M : Type 1} → statement M
 tasks-ok-spec =
@@ -62,7 +72,9 @@ tasks-ok-spec =
     mul-task-ok
     shared-slice-read-task-ok
     task-ok-requires
+    returns
     add-u
+    add-base
     loop-less
     loop-again
-    returns)
+    returns-2)
