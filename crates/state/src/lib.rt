@@ -106,16 +106,10 @@ fn task_ok(holds: &[u16], seats: &[u8], s: Standing, key: u16, u: usize, base: u
         return (s.resource == 255) & (s.place == 255);
     }
     let at = key as usize;
-    if holds[(base + at) / 512] == 0 {
-        return false;
-    }
-    if folds::wide(seats[at]) != u + 1 {
-        return false;
-    }
-    if at % 64 == 0 {
-        return true;
-    }
-    1 <= seats[at - 1]
+    let hold = holds[(base + at) / 512];
+    let own = seats[at];
+    let back = (0 < at % 64) as usize;
+    (1 <= hold) & (folds::wide(own) == u + 1) & (1 <= seats[at - back])
 }
 
 // Whether all are.
@@ -123,17 +117,17 @@ fn tasks_ok(tasks: [Standing; 64], holds: &[u16], keys: &[u16], seats: &[u8]) ->
     requires { ⌜ (length (now holds) ≡ 1024) × (length (now keys) ≡ 64) × (length (now seats) ≡ 8193) × ((u : ℕ) → u < 64 → getD (now keys) u 0 < 8193) ⌝ }
     ensures { λ r. ⌜ r ≡ allBelow 64 (λ u. taskTest (now (holds .entry)) (now (seats .entry)) (standing tasks u) (getD (now (keys .entry)) u 0) u) ⌝ }
 {
+    let mut ok = true;
     let mut u = 0;
     let mut base = 0;
     while u < 64 {
         let s = tasks[u];
-        if !task_ok(holds, seats, s, keys[u], u, base) {
-            return false;
-        }
+        let fits = task_ok(holds, seats, s, keys[u], u, base);
+        ok = ok & fits;
         u += 1;
         base += 8192;
     }
-    true
+    ok
 }
 
 // Eight bytes as one number, low byte first: all of them are tested at once.

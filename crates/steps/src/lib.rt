@@ -86,20 +86,19 @@ fn push(line: Line, k: u8, hold: u16, budget: u16) -> Line
 }
 
 // Task i of processor k joins the line of q, behind `ahead` of its fellows.
-pub fn join(state: State, q: u8, i: usize, k: u8, ahead: u8, hold: u16, budget: u16) -> State
+pub fn join(mut state: State, q: u8, i: usize, k: u8, ahead: u8, hold: u16, budget: u16) -> State
     requires { ⌜ (q < 16) × (i < 64) × (ahead ≡ 0 → lineAt state q .queued < 8) ⌝ }
     ensures { λ r. ⌜ r ≡ joined state q i k ahead hold budget ⌝ }
 {
-    let mut next = state;
-    next.tasks[i] = Standing {
+    state.tasks[i] = Standing {
         resource: q,
         place: ahead,
     };
     if ahead == 0 {
         let line = state.lines[q as usize];
-        next.lines[q as usize] = push(line, k, hold, budget);
+        state.lines[q as usize] = push(line, k, hold, budget);
     }
-    next
+    state
 }
 
 // A row once the first of its queue left, where it did.
@@ -206,7 +205,7 @@ fn pass(line: Line, holds: &[u16], budgets: &[u16], seats: &[u8], q: usize) -> L
 
 // The holder of q leaves.
 pub fn leave(
-    state: State,
+    mut state: State,
     holds: &[u16],
     budgets: &[u16],
     keys: &[u16],
@@ -223,10 +222,9 @@ pub fn leave(
     let rows = state.tasks;
     let tasks = lower(rows, keys, &marks);
     let after = pass(line, holds, budgets, seats, q);
-    let mut next = state;
-    next.lines[q] = after;
-    next.tasks = tasks;
-    next
+    state.lines[q] = after;
+    state.tasks = tasks;
+    state
 }
 
 // The line of q after a tick.
@@ -303,23 +301,22 @@ fn step_lines(lines: [Line; 16], holds: &[u16], budgets: &[u16], seats: &[u8]) -
 }
 
 // A tick. The rows of the tasks stay as they are where no hold ends.
-pub fn tick(state: State, holds: &[u16], budgets: &[u16], keys: &[u16], seats: &[u8]) -> Ticked
+pub fn tick(mut state: State, holds: &[u16], budgets: &[u16], keys: &[u16], seats: &[u8]) -> Ticked
     requires { ⌜ (Sized (now holds) (now budgets) (now keys) (now seats)) × ((q : ℕ) → q < 16 → 1 ≤ lineAt state q .queued → Running (now seats) q (lineAt state q)) ⌝ }
     ensures { λ r. ⌜ (r .state ≡ ticked (now (holds .entry)) (now (budgets .entry)) (now (keys .entry)) (now (seats .entry)) state) × (r .cuts ≡ cutWord (state .lines)) × (r .grants ≡ grantWord (state .lines) (r .state .lines)) ⌝ }
 {
     let lines = state.lines;
     let stepped = step_lines(lines, holds, budgets, seats);
     let after = stepped.lines;
-    let mut next = state;
-    next.lines = after;
+    state.lines = after;
     if stepped.cuts != 0 {
         let rows = state.tasks;
         let marks = stepped.marks;
         let tasks = lower(rows, keys, &marks);
-        next.tasks = tasks;
+        state.tasks = tasks;
     }
     Ticked {
-        state: next,
+        state,
         cuts: stepped.cuts,
         grants: stepped.grants,
     }

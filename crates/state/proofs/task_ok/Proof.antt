@@ -1,104 +1,99 @@
--- One outcome of the tests at a time.
+-- A task in the first place has its own seat looked at twice.
 use borrow.Author.Needs.{needs}
-use Prim.Native.Nat.{ℕ, _+_, _*_, _/_, _≤_}
+use Prim.Native.Nat.{ℕ, _+_, _*_, _-_, _/_, _%_, _≤_}
+use mathlib.Core.Bool.{Bool, true, false, _&&_, _||_}
 use mathlib.Core.List.{List}
-use mathlib.Core.Path.{_≡_, sym, ap, _∙_}
-use mathlib.Core.Logic.{_≢_}
+use mathlib.Core.Path.{_≡_, refl, sym, ap, _∙_}
 use native.Mathlib.Omega.{arith}
-use borrow.Author.Tests.{eq-eqb, ne-eqb, le-leb}
+use borrow.Author.Tests.{eq-eqb, ne-eqb, eqb-true, ltb-true, ltb-false, le-leb}
+use lib.Dec.{eqb, leb, ltb}
 use lib.ListN.{getD}
+use mir.Val.{boolByte}
 use Rattle.holds.specs.Holds.{cell}
 use Rattle.state.specs.Tests.{taskTest}
 use Rattle.state.proofs.task_ok.Statement.{statement}
 use Rattle.state.proofs.task_ok.Tie as tie
 
 -- the hold time that the code reads
-module _ (holds : List ℕ) (base key u : ℕ) (e : base ≡ u * 8192) where
-  hold-at : getD holds (cell u (key / 512)) 0 ≡ getD holds ((base + key) / 512) 0
-  hold-at = ap (λ (k : ℕ). getD holds k 0) (omega arith)
+hold-at : (holds : List ℕ) (base key u : ℕ) → base ≡ u * 8192 → getD holds ((base + key) / 512) 0 ≡ getD holds (cell u (key / 512)) 0
+hold-at holds base key u e = ap (λ (k : ℕ). getD holds k 0) (omega arith)
 
-  held : getD holds ((base + key) / 512) 0 ≢ 0 → 1 ≤ getD holds (cell u (key / 512)) 0
-  held n = rw hold-at (omega arith)
+-- no further back than the first place
+back-low : (key : ℕ) (b : Bool) → ltb 0 (key % 64) ≡ b → boolByte b ≤ key
+back-low key true e = omega (arith, ltb-true 0 (key % 64) e)
+back-low key false e = omega arith
+
+-- the seat before, or its own
+module _ (seats : List ℕ) (key u : ℕ) where
+  own-taken : (b : Bool) → eqb (getD seats key 0) (u + 1) ≡ b → (b && leb 1 (getD seats key 0)) ≡ (b && true)
+  own-taken true e = le-leb 1 (getD seats key 0) (omega (arith, eqb-true (getD seats key 0) (u + 1) e))
+  own-taken false e = refl
+
+  assoc : (a b c : Bool) → (a && b && c) ≡ (a && (b && c))
+  assoc true b c = refl
+  assoc false b c = refl
+
+  back-same : (a b : Bool) → ltb 0 (key % 64) ≡ b
+      → (a && eqb (getD seats key 0) (u + 1) && leb 1 (getD seats (key - boolByte b) 0))
+      ≡ (a && eqb (getD seats key 0) (u + 1) && (eqb (key % 64) 0 || leb 1 (getD seats (key - 1) 0)))
+  back-same a true e = rw (ne-eqb (key % 64) 0 (λ z. omega (arith, ltb-true 0 (key % 64) e)))
+  back-same a false e =
+      let z : key % 64 ≡ 0 = omega (arith, ltb-false 0 (key % 64) e) in
+      let k : key - 0 ≡ key = omega arith in
+      rw (eq-eqb (key % 64) 0 z, k)
+      (assoc a _ _ ∙ ap (λ (x : Bool). a && x) (own-taken (eqb (getD seats key 0) (u + 1)) refl) ∙ sym (assoc a _ true))
 
 returns : tie.Need-returns
 unfolding taskTest
 returns c = rw (eq-eqb _ _ (c .before .before .if1 .taken))
 
-add-if2 : tie.Need-add-if2
-add-if2 c = search needs
+add-hold : tie.Need-add-hold
+add-hold c = search needs
 
-mul-if2 : tie.Need-mul-if2
-mul-if2 c = search needs
+mul-hold : tie.Need-mul-hold
+mul-hold c = search needs
 
-shared-slice-read-if2 : tie.Need-shared-slice-read-if2
-shared-slice-read-if2 c = search needs
+shared-slice-read-hold : tie.Need-shared-slice-read-hold
+shared-slice-read-hold c = search needs
 
-returns-2 : tie.Need-returns-2
-unfolding taskTest
-returns-2 c =
-    let start = c .before .before .before .before .before in
-    let a = start .args in
-    let none = hold-at (a .holds .now) (a .base) (a .key) (a .u) (start .pre .4) ∙ c .if2 .taken in
-    rw (ne-eqb _ _ (c .before .before .if1 .left), none)
+shared-slice-read-own : tie.Need-shared-slice-read-own
+shared-slice-read-own c = search needs
 
-shared-slice-read-wide : tie.Need-shared-slice-read-wide
-shared-slice-read-wide c = search needs
+cast-back : tie.Need-cast-back
+cast-back c = search needs
 
 wide-requires : tie.Need-wide-requires
 wide-requires c κs = search needs
 
-add-if3 : tie.Need-add-if3
-add-if3 c = search needs
-
-returns-3 : tie.Need-returns-3
-unfolding taskTest
-returns-3 c =
-    let low = c .before .before .before .before in
-    let start = low .before .before .before .before in
-    let a = start .args in
-    let hold = held (a .holds .now) (a .base) (a .key) (a .u) (start .pre .4) (c .before .before .before .if2 .left) in
-    rw (ne-eqb _ _ (low .before .if1 .left), le-leb 1 _ hold, ← c .before .wide .ensures .0, ne-eqb _ _ (c .if3 .taken))
-
-returns-4 : tie.Need-returns-4
-unfolding taskTest
-returns-4 c =
-    let low = c .before .before .before .before in
-    let start = low .before .before .before .before .before in
-    let a = start .args in
-    let hold = held (a .holds .now) (a .base) (a .key) (a .u) (start .pre .4) (low .if2 .left) in
-    let own = eq-eqb _ _ (c .before .if3 .left) in
-    rw (ne-eqb _ _ (low .before .before .if1 .left), le-leb 1 _ hold, ← c .before .before .wide .ensures .0, own, eq-eqb _ _ (c .if4 .taken))
+add-result : tie.Need-add-result
+add-result c = search needs
 
 sub-result : tie.Need-sub-result
-sub-result c = search needs
+sub-result c = back-low _ _ refl
 
 shared-slice-read-result : tie.Need-shared-slice-read-result
 shared-slice-read-result c = search needs
 
-returns-5 : tie.Need-returns-5
+returns-2 : tie.Need-returns-2
 unfolding taskTest
-returns-5 c =
-    let low = c .before .before .before .before .before in
-    let start = low .before .before .before .before .before in
+returns-2 c =
+    let start = c .before .before .before .before .before .before .before in
     let a = start .args in
-    let hold = held (a .holds .now) (a .base) (a .key) (a .u) (start .pre .4) (low .if2 .left) in
-    let own = eq-eqb _ _ (c .before .before .if3 .left) in
-    rw (ne-eqb _ _ (low .before .before .if1 .left), le-leb 1 _ hold, ← c .before .before .before .wide .ensures .0, own, ne-eqb _ _ (c .before .if4 .left))
+    rw (ne-eqb _ _ (c .before .before .before .before .if1 .left), c .before .wide .ensures .0, hold-at (a .holds .now) (a .base) (a .key) (a .u) (start .pre .4))
+    (back-same (a .seats .now) (a .key) (a .u) (leb 1 (getD (a .holds .now) (cell (a .u) (a .key / 512)) 0)) _ refl)
 
 pub task-ok-spec : {M : Type 1} → statement M
 task-ok-spec =
     tie.close
     (tie.spec
     returns
-    add-if2
-    mul-if2
-    shared-slice-read-if2
-    returns-2
-    shared-slice-read-wide
+    add-hold
+    mul-hold
+    shared-slice-read-hold
+    shared-slice-read-own
+    cast-back
     wide-requires
-    add-if3
-    returns-3
-    returns-4
+    add-result
     sub-result
     shared-slice-read-result
-    returns-5)
+    returns-2)

@@ -1,22 +1,21 @@
--- The invariant: the rows passed are as they must be.
+-- The invariant: `ok` says whether the rows passed are as they must be.
 use Prim.Native.Nat.{_≤_, _-_, _*_}
-use mathlib.Core.Bool.{true}
-use mathlib.Core.Path.{_≡_, refl, sym, _∙_}
+use mathlib.Core.Path.{_≡_, refl}
 use native.Mathlib.Omega.{arith}
 use lib.ListN.{getD}
 use Rattle.folds.specs.Below.{allBelow}
-use Rattle.folds.proofs.Tests.{held, failed, all-more, all-left, all-done}
+use Rattle.folds.proofs.Tests.{all-step, all-done}
 use Rattle.state.specs.Shows.{standing}
 use Rattle.state.specs.Tests.{taskTest}
 use Rattle.state.proofs.tasks_ok.Statement.{statement}
 use Rattle.state.proofs.tasks_ok.Tie as tie
 
 abbrev Inv-loop : tie.InvT-loop
-Inv-loop holds keys seats tasks u₀ base₀ u base =
-    (u ≤ 64) × (base ≡ u * 8192) × (allBelow u (λ v. taskTest holds seats (standing tasks v) (getD keys v 0) v) ≡ true)
+Inv-loop holds keys seats tasks ok₀ u₀ base₀ ok u base =
+    (u ≤ 64) × (base ≡ u * 8192) × (ok ≡ allBelow u (λ v. taskTest holds seats (standing tasks v) (getD keys v 0) v))
 
 abbrev μ-loop : tie.MeasureT-loop
-μ-loop holds keys seats tasks u₀ base₀ u base = 64 - u
+μ-loop holds keys seats tasks ok₀ u₀ base₀ ok u base = 64 - u
 
 loop-holds : tie.Need-loop-holds Inv-loop μ-loop
 unfolding allBelow
@@ -40,9 +39,6 @@ task-ok-requires c κs =
     let p = c .before .before .before .before .before .before .before .pre in
     (p .0, p .2, omega arith, p .3 (l .u) (omega arith), l .inv .1)
 
-returns : tie.Need-returns Inv-loop μ-loop
-returns c = all-left 64 (c .before .before .before .before .before .loop .u) _ (omega arith) (failed (c .before .task-ok .ensures) (c .if1 .taken))
-
 add-u : tie.Need-add-u Inv-loop μ-loop
 add-u c = omega arith
 
@@ -54,11 +50,11 @@ loop-less c = omega arith
 
 loop-again : tie.Need-loop-again Inv-loop μ-loop
 loop-again c =
-    let l = c .before .before .before .before .before .loop in
-    (omega arith, omega arith, all-more (l .u) _ (l .inv .2) (held (c .before .task-ok .ensures) (c .if1 .left)))
+    let l = c .before .before .before .before .loop in
+    (omega arith, omega arith, all-step (l .u) _ (l .inv .2) (c .task-ok .ensures))
 
-returns-2 : tie.Need-returns-2 Inv-loop μ-loop
-returns-2 c = all-done 64 (c .before .loop .u) _ (omega arith) (sym (c .before .loop .inv .2))
+returns : tie.Need-returns Inv-loop μ-loop
+returns c = all-done 64 (c .before .loop .u) _ (omega arith) (c .before .loop .inv .2)
 
 pub tasks-ok-spec : {M : Type 1} → statement M
 tasks-ok-spec =
@@ -72,9 +68,8 @@ tasks-ok-spec =
     mul-task-ok
     shared-slice-read-task-ok
     task-ok-requires
-    returns
     add-u
     add-base
     loop-less
     loop-again
-    returns-2)
+    returns)
