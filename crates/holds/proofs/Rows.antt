@@ -1,5 +1,5 @@
 -- Rows and tables that a loop over the resources makes.
-use Prim.Native.Nat.{ℕ, zero, suc, _+_, _*_, _<_, _≤_}
+use Prim.Native.Nat.{ℕ, zero, suc, _+_, _*_, _-_, _<_, _≤_}
 use mathlib.Core.Bool.{Bool, true, false, cond}
 use mathlib.Core.List.{List}
 use mathlib.Core.Path.{_≡_, refl, ap, _∙_}
@@ -24,6 +24,9 @@ chosen-le b e p q = rw e (pick-le b p q)
 
 pub plus-same : (u : ℕ) {x y : ℕ} → x ≡ y → u + x ≡ u + y
 plus-same u e = rw e
+
+pub minus-same : (u : ℕ) {x y : ℕ} → x ≡ y → u - x ≡ u - y
+minus-same u e = rw e
 
 -- a table's figure for resource q, whose number is r
 pub cell-at : (f : ℕ → ℕ → ℕ) (t : List ℕ) {j q r : ℕ} → Cells f t → r ≡ q → j < 64 → q < 16 → getD t (cell j r) 0 ≡ f j q

@@ -7,16 +7,14 @@ use native.Mathlib.Omega.{arith}
 use borrow.Author.Tests.{ltb-true, ltb-false, lt-ltb, le-ltb, eqb-true, eq-eqb, ne-eqb}
 use lib.Dec.{eqb, ltb}
 use lib.ListN.{getD, replicate}
-use Rattle.folds.specs.Below.{maxBelow}
+use Rattle.folds.specs.Below.{maxBelow, sumBelow}
 use Rattle.folds.proofs.Tests.{is-not-false, same-test, any-none}
-use Rattle.folds.proofs.Figures.{max-same, count-bound}
-use Rattle.folds.proofs.Ranges.{max-none, max-insert}
+use Rattle.folds.proofs.Figures.{max-same, sum-same, count-bound}
+use Rattle.folds.proofs.Ranges.{max-none, max-insert, sum-none, sum-where-bound, sum-insert}
 use Rattle.folds.proofs.Arrays.{by-eq}
 use Rattle.plan.specs.Plan.{Plan, Valid}
 use Rattle.equations.specs.Sharing.{processorOf, priorityOf, higher}
-use Rattle.equations.specs.HoldTimes.{longestOn}
-use Rattle.holds.specs.Holds.{cell, Cells}
-use Rattle.holds.specs.Inner.{part, Row, rankOf, Sits, Orders, longestOf}
+use Rattle.holds.specs.Inner.{part, Row, rankOf, Sits, Orders}
 use Rattle.holds.proofs.Rows.{row-zeros, row-same}
 use Rattle.holds.proofs.Ranks.{load, rank-order, rank-below, rank-distinct}
 
@@ -79,6 +77,27 @@ module _ (p : Plan) where
 
     pub most-done : (x : ℕ) {row : List ℕ} → ((i : ℕ) → i < p .tasks → processorOf p i ≡ k → rankOf p i < x) → MostBelow x row → Row (λ q. maxBelow (p .tasks) (λ j. cond (eqb (processorOf p j) k) (f j q) 0)) row
     most-done x h m = row-same _ _ m (λ q l. max-same (p .tasks) _ _ (λ j lj. ap (λ (b : Bool). cond b (f j q) 0) (passed-all k x h j lj)))
+
+    -- ── the sum of a figure over the tasks passed ──
+
+    -- a row of it
+    abbrev pub SumBelow : ℕ → List ℕ → Type 0
+    SumBelow x = Row (λ q. sumBelow (p .tasks) (λ j. cond (passed k x j) (f j q) 0))
+
+    pub sums-none : SumBelow 0 (replicate 16 0)
+    sums-none = row-zeros _ (λ q l. sum-none (p .tasks) _ (λ j lj. rw (passed-none k j)))
+
+    pub sums-step : (v : Valid p) (x i : ℕ) (row : List ℕ) {g : ℕ → ℕ} {next : List ℕ} → Sits p k x i → SumBelow x row → ((q : ℕ) → q < 16 → g q ≡ getD row q 0 + f i q) → Row g next → SumBelow (x + 1) next
+    sums-step v x i row {g} s m e r =
+        row-same _ _ r
+        (λ q l. e q l ∙ ap (λ (y : ℕ). y + f i q) (m .at q l) ∙ sym (sum-insert (p .tasks) i (passed k (x + 1)) (passed k x) (λ j. f j q) (s .below) (passed-own k x i s) (passed-new k x i s) (passed-other k x i s v)))
+
+    pub sums-done : (x : ℕ) {row : List ℕ} → ((i : ℕ) → i < p .tasks → processorOf p i ≡ k → rankOf p i < x) → SumBelow x row → Row (λ q. sumBelow (p .tasks) (λ j. cond (eqb (processorOf p j) k) (f j q) 0)) row
+    sums-done x h m = row-same _ _ m (λ q l. sum-same (p .tasks) _ _ (λ j lj. ap (λ (b : Bool). cond b (f j q) 0) (passed-all k x h j lj)))
+
+    pub sums-high : (v : Valid p) (x : ℕ) {row : List ℕ} → ((j q : ℕ) → f j q ≤ 1000) → SumBelow x row → (q : ℕ) → q < 16 → getD row q 0 ≤ 64000
+    sums-high v x h m q l =
+        omega (arith, m .at q l, v .tasks, sum-where-bound (p .tasks) 1000 (passed k x) (λ j. f j q) (λ j lj t. h j q))
 
 -- what stands at x in the order of processor k
 module _ (p : Plan) (o : List ℕ) (k x : ℕ) {w : ℕ} (h : Orders p o) (lk : k < 8) (lx : x < 64) (e : w ≡ getD o (part k x) 0) where

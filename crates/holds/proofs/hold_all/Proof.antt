@@ -7,17 +7,17 @@ use mathlib.Core.Path.{sym, _∙_}
 use lib.ListN.{length-replicate}
 use Rattle.plan.specs.Plan.{planOf, Checked}
 use Rattle.plan.proofs.Laws.{valid-plan}
-use Rattle.holds.specs.Inner.{Orders, Tops, Users}
+use Rattle.holds.specs.Inner.{Orders, Tops, Flags}
 use Rattle.holds.proofs.Tables.{TablesBelow, tables-none, tables-begun, tables-step, tables-done}
 use Rattle.holds.proofs.hold_all.Statement.{statement}
 use Rattle.holds.proofs.hold_all.Tie as tie
 
 abbrev Inv-loop : tie.InvT-loop
-Inv-loop file holds₀ budgets₀ order tops users m k₀ holds budgets k =
-    (k ≤ m) × (m ≡ planOf file .processors) × (h : Checked file) × Orders (planOf file) order × Tops (planOf file) tops × Users (planOf file) users × TablesBelow (planOf file) (valid-plan file h) k holds budgets
+Inv-loop file holds₀ budgets₀ order tops m flags k₀ holds budgets k =
+    (k ≤ m) × (m ≡ planOf file .processors) × (h : Checked file) × Orders (planOf file) order × Tops (planOf file) 64 tops × Flags (planOf file) flags × TablesBelow (planOf file) (valid-plan file h) k holds budgets
 
 abbrev μ-loop : tie.MeasureT-loop
-μ-loop file holds₀ budgets₀ order tops users m k₀ holds budgets k = m - k
+μ-loop file holds₀ budgets₀ order tops m flags k₀ holds budgets k = m - k
 
 counts-requires : tie.Need-counts-requires Inv-loop μ-loop
 counts-requires c κs = search needs
@@ -25,10 +25,13 @@ counts-requires c κs = search needs
 wide-requires : tie.Need-wide-requires Inv-loop μ-loop
 wide-requires c κs = search needs
 
+shared-flags-requires : tie.Need-shared-flags-requires Inv-loop μ-loop
+shared-flags-requires c κs = search needs
+
 loop-holds : tie.Need-loop-holds Inv-loop μ-loop
 loop-holds c =
-    let h = c .before .before .before .before .before .before .before .pre in
-    (omega arith, c .wide .ensures .0 ∙ c .before .counts .ensures .0, h .0, h .3, h .4, h .5, tables-none _ _ (h .1) (h .2))
+    let h = c .before .before .before .before .before .before .before .before .pre in
+    (omega arith, c .before .wide .ensures .0 ∙ c .before .before .counts .ensures .0, h .0, h .3, h .4, c .shared-flags .ensures, tables-none _ _ (h .1) (h .2))
 
 hold-rows-requires : tie.Need-hold-rows-requires Inv-loop μ-loop
 hold-rows-requires c κs =
@@ -56,10 +59,10 @@ loop-again c =
     (omega arith, i .1, i .2, i .3, i .4, i .5, tables-step _ v (l .k) _ _ (omega (arith, i .1)) (i .6) (c .before .before .before .before .before .before .hold-rows .ensures) (c .before .before .set-row .ensures))
 
 same-length : tie.Need-same-length Inv-loop μ-loop
-same-length c = c .before .loop .inv .6 .long ∙ sym (c .before .before .before .before .before .before .before .before .before .pre .1 .long)
+same-length c = c .before .loop .inv .6 .long ∙ sym (c .before .before .before .before .before .before .before .before .before .before .pre .1 .long)
 
 same-length-2 : tie.Need-same-length-2 Inv-loop μ-loop
-same-length-2 c = c .before .loop .inv .6 .wide ∙ sym (rw (c .before .before .before .before .before .before .before .before .before .pre .2) (length-replicate {A = ℕ} 128 0))
+same-length-2 c = c .before .loop .inv .6 .wide ∙ sym (rw (c .before .before .before .before .before .before .before .before .before .before .pre .2) (length-replicate {A = ℕ} 128 0))
 
 returns : tie.Need-returns Inv-loop μ-loop
 returns c = let l = c .before .loop in let i = l .inv in tables-done _ _ (l .k) (omega (arith, i .1)) (i .6)
@@ -72,6 +75,7 @@ hold-all-spec =
     μ-loop
     counts-requires
     wide-requires
+    shared-flags-requires
     loop-holds
     hold-rows-requires
     set-row-requires

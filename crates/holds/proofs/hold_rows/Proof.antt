@@ -6,18 +6,19 @@ use borrow.Author.Needs.{needs}
 use mathlib.Core.Path.{sym, _∙_}
 use Rattle.plan.specs.Plan.{planOf, Checked}
 use Rattle.plan.proofs.Laws.{valid-plan}
-use Rattle.holds.specs.Inner.{Orders, Tops, Users}
+use Rattle.holds.specs.Inner.{Orders, Tops, Flags}
 use Rattle.holds.proofs.Walks.{rank-tasks, next-sits, last-sits}
-use Rattle.holds.proofs.Holding.{HeldBelow, Begun, held-none, held-done, above-high, own-row, own-high, held-row, held-step}
+use Rattle.holds.proofs.Holding.{HeldBelow, Begun, held-none, held-done, above-high, product-high, own-row, own-high, own-top, held-row, held-step}
+use Rattle.holds.proofs.Tops.{top-high}
 use Rattle.holds.proofs.hold_rows.Statement.{statement}
 use Rattle.holds.proofs.hold_rows.Tie as tie
 
 abbrev Inv-loop : tie.InvT-loop
-Inv-loop file rows₀ order tops users k n above₀ most₀ x₀ rows above most x =
-    (x ≤ n) × (n ≡ planOf file .tasks) × (h : Checked file) × Orders (planOf file) order × Tops (planOf file) tops × Users (planOf file) users × (k < 8) × Begun (planOf file) (valid-plan file h) k rows₀ × HeldBelow (planOf file) (valid-plan file h) k rows₀ x rows above most
+Inv-loop file rows₀ order tops flags k n above₀ most₀ x₀ rows above most x =
+    (x ≤ n) × (n ≡ planOf file .tasks) × (h : Checked file) × Orders (planOf file) order × Tops (planOf file) 64 tops × Flags (planOf file) flags × (k < 8) × Begun (planOf file) (valid-plan file h) k rows₀ × HeldBelow (planOf file) (valid-plan file h) k rows₀ x rows above most
 
 abbrev μ-loop : tie.MeasureT-loop
-μ-loop file rows₀ order tops users k n above₀ most₀ x₀ rows above most x = n - x
+μ-loop file rows₀ order tops flags k n above₀ most₀ x₀ rows above most x = n - x
 
 counts-requires : tie.Need-counts-requires Inv-loop μ-loop
 counts-requires c κs = search needs
@@ -65,7 +66,7 @@ shared-row-requires c κs =
     let p = planOf (a .file .now) in
     let v = valid-plan _ (i .2) in
     let s = next-sits p (a .order .now) (a .k) (l .x) (i .3) (i .6) (omega (arith, v .tasks, i .1)) (c .before .before .wide2 .ensures .0) (omega arith) in
-    (i .8 .long, omega (arith, v .tasks, s .below))
+    (i .8 .long, omega (arith, v .tasks, s .below), product-high p v (a .k) _ (l .x) _ _ _ _ (a .flags) (a .tops .now) (i .8) s (i .5) (i .4) (i .7))
 
 held-row-requires : tie.Need-held-row-requires Inv-loop μ-loop
 held-row-requires c κs =
@@ -75,8 +76,8 @@ held-row-requires c κs =
     let p = planOf (a .file .now) in
     let v = valid-plan _ (i .2) in
     let s = next-sits p (a .order .now) (a .k) (l .x) (i .3) (i .6) (omega (arith, v .tasks, i .1)) (c .before .before .before .before .wide2 .ensures .0) (omega arith) in
-    let o = own-row p v (a .k) _ (l .x) _ _ _ _ (a .users) (a .tops .now) (i .8) s (i .5) (i .4) (i .7) (c .before .shared-row .ensures) in
-    (own-high p v (a .k) _ (l .x) _ _ _ _ (a .users) (a .tops .now) (i .8) s (i .5) (i .4) (i .7) o, above-high p v (a .k) _ (l .x) (i .8))
+    let o = own-row p v (a .k) _ (l .x) _ _ _ _ (a .flags) (a .tops .now) (i .8) s (i .5) (i .4) (i .7) (c .before .shared-row .ensures) in
+    (own-high p v (a .k) _ (l .x) _ _ _ _ (a .flags) (a .tops .now) (i .8) s (i .5) (i .4) (i .7) o, above-high p v (a .k) _ (l .x) (i .8))
 
 set-row-requires : tie.Need-set-row-requires Inv-loop μ-loop
 set-row-requires c κs =
@@ -135,7 +136,8 @@ above-row-requires c κs =
     let p = planOf (a .file .now) in
     let v = valid-plan _ (i .2) in
     let s = next-sits p (a .order .now) (a .k) (l .x) (i .3) (i .6) (omega (arith, v .tasks, i .1)) (c .before .before .before .before .before .before .before .before .before .before .before .before .wide2 .ensures .0) (omega arith) in
-    (i .4 .low _ (omega (arith, v .tasks, s .below)), i .4 .low _ (omega (arith, v .tasks, s .below)), above-high p v (a .k) _ (l .x) (i .8))
+    let o = own-row p v (a .k) _ (l .x) _ _ _ _ (a .flags) (a .tops .now) (i .8) s (i .5) (i .4) (i .7) (c .before .before .before .before .before .before .before .before .before .shared-row .ensures) in
+    (top-high p v (a .tops .now) _ (i .4) (omega (arith, v .tasks, s .below)), above-high p v (a .k) _ (l .x) (i .8), own-top p v (a .k) _ (l .x) _ _ _ _ (a .flags) (a .tops .now) (i .8) s (i .5) (i .4) (i .7) o)
 
 add-x : tie.Need-add-x Inv-loop μ-loop
 add-x c = omega arith
@@ -151,8 +153,8 @@ loop-again c =
     let p = planOf (a .file .now) in
     let v = valid-plan _ (i .2) in
     let s = next-sits p (a .order .now) (a .k) (l .x) (i .3) (i .6) (omega (arith, v .tasks, i .1)) (c .before .before .before .before .before .before .before .before .before .before .before .before .before .wide2 .ensures .0) (omega arith) in
-    let o = own-row p v (a .k) _ (l .x) _ _ _ _ (a .users) (a .tops .now) (i .8) s (i .5) (i .4) (i .7) (c .before .before .before .before .before .before .before .before .before .before .shared-row .ensures) in
-    let d = held-row p v (a .k) _ (l .x) _ _ _ _ (a .users) (a .tops .now) (i .8) s (i .5) (i .4) (i .7) _ o (c .before .before .before .before .before .before .before .before .held-row .ensures) in (
+    let o = own-row p v (a .k) _ (l .x) _ _ _ _ (a .flags) (a .tops .now) (i .8) s (i .5) (i .4) (i .7) (c .before .before .before .before .before .before .before .before .before .before .shared-row .ensures) in
+    let d = held-row p v (a .k) _ (l .x) _ _ _ _ (a .flags) (a .tops .now) (i .8) s (i .5) (i .4) (i .7) _ o (c .before .before .before .before .before .before .before .before .held-row .ensures) in (
       omega arith,
       i .1,
       i .2,
@@ -161,7 +163,7 @@ loop-again c =
       i .5,
       i .6,
       i .7,
-      held-step p v (a .k) _ (l .x) _ _ _ _ (a .users) (a .tops .now) (i .8) s (i .5) (i .4) (i .7) _ _ o d (c .before .before .before .before .before .before .before .set-row .ensures) refl refl (c .above-row .ensures) (c .before .before .before .longer-row .ensures),
+      held-step p v (a .k) _ (l .x) _ _ _ _ (a .flags) (a .tops .now) (i .8) s (i .5) (i .4) (i .7) _ _ o d (c .before .before .before .before .before .before .before .set-row .ensures) refl refl (c .above-row .ensures) (c .before .before .before .longer-row .ensures),
     )
 
 same-length-2 : tie.Need-same-length-2 Inv-loop μ-loop

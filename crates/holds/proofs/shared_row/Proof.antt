@@ -2,52 +2,48 @@
 use Prim.Native.Nat.{_+_, _*_, _-_, _<_, _≤_}
 use mathlib.Core.Path.{_≡_, refl}
 use native.Mathlib.Omega.{arith}
-use borrow.Author.Needs.{needs}
 use Prim.Native.Nat.{ℕ}
-use mathlib.Core.Bool.{cond}
-use lib.Dec.{eqb, ltb}
-use lib.ListN.{getD, replicate}
+use lib.ListN.{getD, replicate, length-replicate}
 use Rattle.folds.specs.Bytes.{placedBelow}
 use Rattle.folds.proofs.Arrays.{placed-step}
 use Rattle.holds.specs.Holds.{cell}
 use Rattle.holds.proofs.Rows.{row-done}
-use lib.ListN.{length-replicate}
 use Rattle.holds.proofs.shared_row.Statement.{statement}
 use Rattle.holds.proofs.shared_row.Tie as tie
 
 abbrev Inv-loop : tie.InvT-loop
-Inv-loop rows i users row₀ q₀ row q = (q ≤ 16) × (row ≡ placedBelow q (λ x. cond (ltb (getD users x 0) 2) 0 (getD rows (cell i x) 0)) (replicate 16 0))
+Inv-loop rows i flags row₀ q₀ row q = (q ≤ 16) × (row ≡ placedBelow q (λ x. getD rows (cell i x) 0 * getD flags x 0) (replicate 16 0))
 
 abbrev μ-loop : tie.MeasureT-loop
-μ-loop rows i users row₀ q₀ row q = 16 - q
+μ-loop rows i flags row₀ q₀ row q = 16 - q
 
 loop-holds : tie.Need-loop-holds Inv-loop μ-loop
 unfolding placedBelow
 loop-holds c = (omega arith, refl)
 
-mul-chosen : tie.Need-mul-chosen Inv-loop μ-loop
-mul-chosen c = omega arith
-
-array-read-chosen : tie.Need-array-read-chosen Inv-loop μ-loop
-array-read-chosen c = omega arith
-
-mul-chosen-2 : tie.Need-mul-chosen-2 Inv-loop μ-loop
-mul-chosen-2 c = omega arith
-
-add-chosen : tie.Need-add-chosen Inv-loop μ-loop
-add-chosen c = omega arith
-
-mul-chosen-3 : tie.Need-mul-chosen-3 Inv-loop μ-loop
-mul-chosen-3 c = omega arith
-
-shared-slice-read-chosen : tie.Need-shared-slice-read-chosen Inv-loop μ-loop
-shared-slice-read-chosen c = omega arith
-
-chosen-requires : tie.Need-chosen-requires Inv-loop μ-loop
-chosen-requires c κs = search needs
-
 mul-row : tie.Need-mul-row Inv-loop μ-loop
 mul-row c = omega arith
+
+add-row : tie.Need-add-row Inv-loop μ-loop
+add-row c = omega arith
+
+mul-row-2 : tie.Need-mul-row-2 Inv-loop μ-loop
+mul-row-2 c = omega arith
+
+shared-slice-read-row : tie.Need-shared-slice-read-row Inv-loop μ-loop
+shared-slice-read-row c = omega arith
+
+mul-row-3 : tie.Need-mul-row-3 Inv-loop μ-loop
+mul-row-3 c = omega arith
+
+array-read-row : tie.Need-array-read-row Inv-loop μ-loop
+array-read-row c = omega arith
+
+mul-row-4 : tie.Need-mul-row-4 Inv-loop μ-loop
+mul-row-4 c = omega (arith, c .before .before .before .pre .2 (c .before .before .loop .q) (omega arith))
+
+mul-row-5 : tie.Need-mul-row-5 Inv-loop μ-loop
+mul-row-5 c = omega arith
 
 array-write-row : tie.Need-array-write-row Inv-loop μ-loop
 array-write-row c = omega arith
@@ -59,7 +55,7 @@ loop-less : tie.Need-loop-less Inv-loop μ-loop
 loop-less c = omega arith
 
 loop-again : tie.Need-loop-again Inv-loop μ-loop
-loop-again c = let l = c .before .before .before .loop in (omega arith, placed-step (l .q) _ _ (l .inv .1) (c .chosen .ensures))
+loop-again c = let l = c .before .before .loop in (omega arith, placed-step (l .q) _ _ (l .inv .1) refl)
 
 returns : tie.Need-returns Inv-loop μ-loop
 returns c = let l = c .before .loop in row-done (l .q) _ _ (omega arith) (length-replicate {A = ℕ} 16 0) (l .inv .1)
@@ -71,14 +67,14 @@ shared-row-spec =
     Inv-loop
     μ-loop
     loop-holds
-    mul-chosen
-    array-read-chosen
-    mul-chosen-2
-    add-chosen
-    mul-chosen-3
-    shared-slice-read-chosen
-    chosen-requires
     mul-row
+    add-row
+    mul-row-2
+    shared-slice-read-row
+    mul-row-3
+    array-read-row
+    mul-row-4
+    mul-row-5
     array-write-row
     add-q
     loop-less

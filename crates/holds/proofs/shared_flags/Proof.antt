@@ -1,0 +1,70 @@
+-- The invariant: the flags are in place at the resources below `q`.
+use Prim.Native.Nat.{_+_, _*_, _-_, _<_, _≤_}
+use mathlib.Core.Path.{_≡_, refl}
+use native.Mathlib.Omega.{arith}
+use Prim.Native.Nat.{ℕ}
+use mathlib.Core.Bool.{cond}
+use lib.ListN.{replicate, length-replicate}
+use Rattle.folds.specs.Bytes.{placedBelow}
+use Rattle.folds.proofs.Arrays.{placed-step}
+use Rattle.plan.specs.Plan.{planOf}
+use Rattle.plan.proofs.Laws.{valid-plan}
+use Rattle.equations.specs.Sharing.{global}
+use Rattle.holds.proofs.Longest.{users-high, flag-at}
+use Rattle.holds.proofs.Rows.{row-done}
+use Rattle.holds.proofs.shared_flags.Statement.{statement}
+use Rattle.holds.proofs.shared_flags.Tie as tie
+
+abbrev Inv-loop : tie.InvT-loop
+Inv-loop file users flags₀ q₀ flags q = (q ≤ 16) × (flags ≡ placedBelow q (λ x. cond (global (planOf file) x) 1 0) (replicate 16 0))
+
+abbrev μ-loop : tie.MeasureT-loop
+μ-loop file users flags₀ q₀ flags q = 16 - q
+
+loop-holds : tie.Need-loop-holds Inv-loop μ-loop
+unfolding placedBelow
+loop-holds c = (omega arith, refl)
+
+mul-flags : tie.Need-mul-flags Inv-loop μ-loop
+mul-flags c = omega arith
+
+array-read-flags : tie.Need-array-read-flags Inv-loop μ-loop
+array-read-flags c = omega arith
+
+add-flags : tie.Need-add-flags Inv-loop μ-loop
+add-flags c = let h = c .before .before .pre in omega (arith, users-high _ (valid-plan _ (h .0)) (c .before .loop .q) (h .1) (omega arith))
+
+mul-flags-2 : tie.Need-mul-flags-2 Inv-loop μ-loop
+mul-flags-2 c = omega arith
+
+array-write-flags : tie.Need-array-write-flags Inv-loop μ-loop
+array-write-flags c = omega arith
+
+add-q : tie.Need-add-q Inv-loop μ-loop
+add-q c = omega arith
+
+loop-less : tie.Need-loop-less Inv-loop μ-loop
+loop-less c = omega arith
+
+loop-again : tie.Need-loop-again Inv-loop μ-loop
+loop-again c = let l = c .before .loop in let h = c .before .before .pre in (omega arith, placed-step (l .q) _ _ (l .inv .1) (flag-at _ (valid-plan _ (h .0)) (l .q) (h .1) (omega arith)))
+
+returns : tie.Need-returns Inv-loop μ-loop
+returns c = let l = c .before .loop in row-done (l .q) _ _ (omega arith) (length-replicate {A = ℕ} 16 0) (l .inv .1)
+
+pub shared-flags-spec : {M : Type 1} → statement M
+shared-flags-spec =
+    tie.close
+    (tie.spec
+    Inv-loop
+    μ-loop
+    loop-holds
+    mul-flags
+    array-read-flags
+    add-flags
+    mul-flags-2
+    array-write-flags
+    add-q
+    loop-less
+    loop-again
+    returns)
