@@ -2,11 +2,11 @@
 use Prim.Native.Nat.{ℕ, zero, suc, _+_, _-_, _*_, _/_, _^_, _<_, _≤_}
 use mathlib.Core.Bool.{Bool, true, _||_, or-true}
 use mathlib.Core.List.{List}
-use mathlib.Core.Path.{_≡_, refl, sym, ap, _∙_}
+use mathlib.Core.Path.{_≡_, refl}
 use mathlib.Core.Logic.{_↔_}
 use native.Mathlib.Omega.{arith}
-use native.Mathlib.Nat.{pow-succ', mul-suc, div-lt-iff-lt-mul}
-use borrow.Author.Tests.{eqb-true, eq-eqb, ltb-true, lt-ltb, le-ltb}
+use native.Mathlib.Nat.{pow-succ', div-lt-iff-lt-mul}
+use borrow.Author.Tests.{eqb-true, eq-eqb, ltb-true, lt-ltb}
 use lib.Dec.{eqb, ltb}
 use lib.ListN.{getD}
 use lib.Pow.{pow-pos, pow-add}
@@ -42,14 +42,14 @@ module _ (s : List ℕ) where
       (λ t. all-from 8 (λ k. eqb (getD s k 0) 0) (λ k l. eq-eqb _ 0 (zero-at 8 0 k (eqb-true _ 0 t) (omega arith) (omega arith))))
       (λ t. eq-eqb (number 8 s 0) 0 (zero-from 8 0 (λ x l m. eqb-true _ 0 (all-at 8 x (λ k. eqb (getD s k 0) 0) t (omega arith)))))
 
-  module _ (n : ℕ) (low : (x : ℕ) → x < n → getD s x 0 < 256) where
-    below : (w at : ℕ) → at + w ≤ n → number w s at < 256 ^ w
+  module _ (low : (x : ℕ) → x < 8 → getD s x 0 < 256) where
+    below : (w at : ℕ) → at + w ≤ 8 → number w s at < 256 ^ w
     unfolding number
     below zero at h = omega arith
     below (suc w) at h = omega (arith, number-more w at, low at (omega arith), below w (at + 1) (omega arith), pow-succ' 256 w)
 
     -- the bytes from c on are 255 exactly when the number is within 256 ^ c of the end of its range
-    tail-at : (w c at x : ℕ) → at + w ≤ n → 256 ^ w ≤ number w s at + 256 ^ c → at + c ≤ x → x < at + w → getD s x 0 ≡ 255
+    tail-at : (w c at x : ℕ) → at + w ≤ 8 → 256 ^ w ≤ number w s at + 256 ^ c → at + c ≤ x → x < at + w → getD s x 0 ≡ 255
     tail-at zero c at x h e l m = let bad : ⊥ = omega arith in absurd bad
     tail-at (suc w) zero at x h e l m =
         let one = number-more w at in
@@ -62,7 +62,7 @@ module _ (s : List ℕ) where
         let small = low at (omega arith) in
         tail-at w c (at + 1) x (omega arith) (omega (arith, pow-succ' 256 w, pow-succ' 256 c)) (omega arith) (omega arith)
 
-    tail-from : (w c at : ℕ) → at + w ≤ n → c ≤ w → ((x : ℕ) → at + c ≤ x → x < at + w → getD s x 0 ≡ 255)
+    tail-from : (w c at : ℕ) → at + w ≤ 8 → c ≤ w → ((x : ℕ) → at + c ≤ x → x < at + w → getD s x 0 ≡ 255)
         → 256 ^ w ≤ number w s at + 256 ^ c
     tail-from zero zero at h l f = omega arith
     tail-from zero (suc c) at h l f = let bad : ⊥ = omega arith in absurd bad
@@ -73,6 +73,7 @@ module _ (s : List ℕ) where
         let more = tail-from w c (at + 1) (omega arith) (omega arith) (λ x a b. f x (omega arith) (omega arith)) in
         omega (arith, number-more w at, pow-succ' 256 w, pow-succ' 256 c)
 
+-- powers of 256 as powers of 2
 bits : (n : ℕ) → 256 ^ n ≡ 2 ^ (8 * n)
 bits zero = refl
 bits (suc n) =
@@ -86,7 +87,7 @@ power (suc n) l =
     rw (less, ← bits n) (pow-succ' 256 n)
 
 module _ (s : List ℕ) (low : (x : ℕ) → x < 8 → getD s x 0 < 256) (c : ℕ) (few : c ≤ 8) where
-  -- a test of that is the test of the slots from c on
+  -- a test of that is the test of the slots
   tail-tested : (b : Bool) → (b ≡ true → 18446744073709551616 ≤ number 8 s 0 + 256 ^ c)
       → (18446744073709551616 ≤ number 8 s 0 + 256 ^ c → b ≡ true) → b ≡ tailTest s c
   unfolding tailTest
@@ -99,23 +100,23 @@ module _ (s : List ℕ) (low : (x : ℕ) → x < 8 → getD s x 0 < 256) (c : �
       there t =
           all-from 8 test
           (λ i l. on-le (test i ≡ true) c i
-          (λ a. rw (eq-eqb _ 255 (tail-at s 8 low 8 c 0 i (omega arith) (f t) (omega arith) (omega arith))) (or-true (ltb i c)))
+          (λ a. rw (eq-eqb _ 255 (tail-at s low 8 c 0 i (omega arith) (f t) (omega arith) (omega arith))) (or-true (ltb i c)))
           (λ a. rw (lt-ltb i c a)))
 
       back : allBelow 8 test ≡ true → b ≡ true
       back t =
-          g (tail-from s 8 low 8 c 0 (omega arith) few
+          g (tail-from s low 8 c 0 (omega arith) few
           (λ x l m. or-out (ltb x c) (eqb (getD s x 0) 255) (getD s x 0 ≡ 255) (all-at 8 x test t (omega arith))
           (λ e. let a = ltb-true x c e in let bad : ⊥ = omega arith in absurd bad)
           (λ e. eqb-true _ 255 e)))
 
-  -- the test by the number itself, and by what is left of its end when c - 1 bytes are dropped
+  -- for c = 0 by the number itself, and else by how far it is from the largest, without the last c - 1 bytes of that
   pub whole-tail : c ≡ 0 → eqb (number 8 s 0) 18446744073709551615 ≡ tailTest s c
   whole-tail z =
       let one : 256 ^ c ≡ 1 = rw z in
       tail-tested (eqb (number 8 s 0) 18446744073709551615)
       (λ t. omega (arith, eqb-true (number 8 s 0) 18446744073709551615 t))
-      (λ h. eq-eqb (number 8 s 0) 18446744073709551615 (omega (arith, below s 8 low 8 0 (omega arith))))
+      (λ h. eq-eqb (number 8 s 0) 18446744073709551615 (omega (arith, below s low 8 0 (omega arith))))
 
   pub part-tail : 1 ≤ c → ltb ((18446744073709551615 - number 8 s 0) / 2 ^ (8 * c - 8)) 256 ≡ tailTest s c
   part-tail some =

@@ -6,7 +6,7 @@ use mathlib.Core.Path.{_≡_, refl, sym, ap, ap₂, _∙_}
 use mathlib.Core.Logic.{_⊎_, inl, inr, _≢_}
 use native.Mathlib.Omega.{arith}
 use native.Mathlib.Nat.{le-antisymm}
-use borrow.Author.Tests.{eqb-true, eq-eqb, ne-eqb, ltb-true, lt-ltb, le-ltb, leb-true, le-leb}
+use borrow.Author.Tests.{eqb-true, eq-eqb, ne-eqb, lt-ltb, le-ltb, leb-true, le-leb}
 use lib.Dec.{eqb, leb, ltb}
 use lib.ListN.{getD}
 use Rattle.folds.specs.Below.{allBelow, anyBelow, maxBelow}
@@ -17,7 +17,7 @@ use Rattle.plan.specs.Plan.{Plan, Valid}
 use Rattle.equations.specs.Sharing.{processorOf}
 use Rattle.equations.specs.HoldTimes.{holdAt, budget}
 use Rattle.protocol.specs.Machine.{terms}
-use Rattle.holds.specs.Holds.{cell, Cells, share, Shares}
+use Rattle.holds.specs.Holds.{cell, Cells, Shares}
 use Rattle.ranks.specs.Ranks.{taskAt}
 use Rattle.folds.proofs.Searches.{on-eq, on-le, find-is}
 use Rattle.ranks.proofs.Ranked.{Ranked, task-rank, task-first, sole, ranks-few, full}
@@ -27,7 +27,7 @@ use Rattle.state.specs.declared.State.{State}
 use Rattle.state.specs.Shows.{standing, noneInLine, lineAt, slot, rank}
 use Rattle.state.specs.Sound.{serves, slotFits, coreFits, holderOf, clockFits, lineFits, sound}
 use Rattle.state.specs.Seats.{seat, keyOf, Keys, seatedAt, Seats}
-use Rattle.state.specs.Tests.{taskTest, firstSeat, stands, tailTest, slotTest, coreTest, queueTest, clockTest, lineTest, stateTest}
+use Rattle.state.specs.Tests.{taskTest, firstSeat, tailTest, slotTest, coreTest, queueTest, clockTest, lineTest, stateTest}
 use Rattle.state.proofs.Tables.{Stands, key-in, key-on}
 use Rattle.state.proofs.Passing.{slot-high, head-passed}
 use Rattle.state.proofs.Good.{Whole}

@@ -1,8 +1,8 @@
 -- Laws of the tables: the seats of the tasks, and who sits where.
 use Prim.Native.Nat.{ℕ, zero, suc, _+_, _<_, _≤_, max}
 use mathlib.Core.Bool.{Bool, true, false, cond, _&&_}
-use mathlib.Core.List.{List}
-use mathlib.Core.Path.{_≡_, refl, sym, _∙_}
+use mathlib.Core.List.{List, [], _∷_}
+use mathlib.Core.Path.{_≡_, refl, sym, ap, _∙_}
 use mathlib.Core.Logic.{_≢_}
 use native.Mathlib.Omega.{arith}
 use native.Mathlib.Nat.{max-zero}
@@ -12,10 +12,10 @@ use lib.ListN.{length, getD, set, replicate, length-replicate, getD-replicate}
 use lib.Seq.{getD-set-same, getD-set-other}
 use Rattle.folds.specs.Below.{maxBelow}
 use Rattle.folds.specs.Bytes.{placedBelow}
-use Rattle.folds.proofs.Tests.{same-test}
+use Rattle.folds.proofs.Tests.{and-parts, is-not-false, same-test}
 use Rattle.folds.proofs.Figures.{max-same}
 use Rattle.folds.proofs.Ranges.{max-where-bound}
-use Rattle.folds.proofs.Arrays.{by-eq, placed-length, placed-later, placed-at, stampedBelow, stamped-length}
+use Rattle.folds.proofs.Arrays.{by-eq, placed-length, placed-later, placed-at, placed-step, stampedBelow, stamped-length}
 use Rattle.plan.specs.Plan.{Plan, Valid}
 use Rattle.equations.specs.Sharing.{processorOf}
 use Rattle.state.specs.declared.Standing.{Standing}
@@ -48,6 +48,39 @@ module _ (p : Plan) (v : Valid p) where
       key : ℕ → ℕ
       key u = keyOf (standing ts u) (processorOf p u)
 
+module _ (s : Standing) where
+  -- the row names a resource and a place
+  abbrev inLine : Bool
+  inLine = ltb (s .resource) 16 && ltb (s .place) 64
+
+  pub row-low : inLine ≡ true → (s .resource < 16) × (s .place < 64)
+  row-low t =
+      let a = and-parts (ltb (s .resource) 16) (ltb (s .place) 64) t in
+      (ltb-true (s .resource) 16 (a .0), ltb-true (s .place) 64 (a .1))
+
+  -- its seat by that test
+  pub key-at : (m : ℕ) → inLine ≡ true → keyOf s m ≡ seat (s .resource) m (s .place)
+  unfolding keyOf
+  key-at m t = rw t
+
+  pub key-off : (m : ℕ) → inLine ≡ false → keyOf s m ≡ 8192
+  unfolding keyOf
+  key-off m t = rw t
+
+  pub key-on : (m : ℕ) → keyOf s m ≢ 8192 → (s .resource < 16) × (s .place < 64)
+  key-on m n = row-low (is-not-false inLine (λ t. n (key-off m t)))
+
+-- a turn that puts nothing down, where it would put down what stands there
+set-own : (l : List ℕ) (i : ℕ) → set l i (getD l i 0) ≡ l
+set-own [] i = refl
+set-own (x ∷ l) zero = refl
+set-own (x ∷ l) (suc i) = ap (λ (m : List ℕ). x ∷ m) (set-own l i)
+
+pub placed-skip : (n : ℕ) (f : ℕ → ℕ) (l : List ℕ) {m : List ℕ} → m ≡ placedBelow n f l → f n ≡ getD l n 0 → m ≡ placedBelow (n + 1) f l
+placed-skip n f l {m} e same =
+    let own : f n ≡ getD m n 0 = rw (e, placed-later n n f l 0 (omega arith)) same in
+    sym (set-own m n) ∙ placed-step n f l e (sym own)
+
 -- a task of processor m with this row stands in place j of k's queue for q
 abbrev pub Stands : Standing → ℕ → ℕ → ℕ → ℕ → Type 0
 Stands s m q k j = (m ≡ k) × (s .resource ≡ q) × (s .place ≡ j)
@@ -65,17 +98,6 @@ key-out s m q k j lm lk lq lj h = go (ltb (s .resource) 16) (ltb (s .place) 64) 
     go true true t e = let l = ltb-true (s .place) 64 t in (omega arith, omega arith, omega arith)
     go true false t e = let bad : ⊥ = omega arith in absurd bad
     go false b t e = let bad : ⊥ = omega arith in absurd bad
-
--- a seat in a queue is that of a row that names a resource and a place
-pub key-on : (s : Standing) (m : ℕ) → keyOf s m ≢ 8192 → (s .resource < 16) × (s .place < 64)
-unfolding keyOf
-key-on s m n = go (ltb (s .resource) 16) (ltb (s .place) 64) refl refl n
-  where
-    go : (a b : Bool) → ltb (s .resource) 16 ≡ a → ltb (s .place) 64 ≡ b → cond (a && b) (seat (s .resource) m (s .place)) 8192 ≢ 8192
-        → (s .resource < 16) × (s .place < 64)
-    go true true x y h = (ltb-true _ 16 x, ltb-true _ 64 y)
-    go true false x y h = absurd (h refl)
-    go false b x y h = absurd (h refl)
 
 module _ (p : Plan) (ts : List Standing) where
   pub rank-in : (q k j u : ℕ) → Stands (standing ts u) (processorOf p u) q k j → rank p ts q k u ≡ j + 1

@@ -8,7 +8,7 @@ ghost use Rattle.folds.specs.Below.{allBelow};
 ghost use Rattle.folds.specs.Bytes.{number, placedBelow};
 ghost use Rattle.plan.specs.Plan.{planOf, Checked};
 ghost use Rattle.state.specs.Shows.{freshState, noLine, standing, slot};
-ghost use Rattle.state.specs.Seats.{seat, keyOf, Keys, Seats};
+ghost use Rattle.state.specs.Seats.{seat, Keys, Seats};
 ghost use Rattle.state.specs.Tests.{taskTest, firstSeat, tailTest, queueTest, clockTest, freeTest, lineTest, stateTest};
 
 // A task: the resource it is in line for, and its place in its processor's queue for it, from 0; 255 and 255 for none.
@@ -51,19 +51,16 @@ pub fn fresh() -> State
     }
 }
 
-// The seat of a task of a processor, by its row.
-fn key_of(s: Standing, processor: u8) -> u16
-    requires { ⌜ processor < 8 ⌝ }
-    ensures { λ r. ⌜ (r ≡ keyOf s processor) × (r < 8193) ⌝ }
+// The seat of a task of a processor in the queue that its row names.
+fn seat_of(s: Standing, processor: u8) -> u16
+    requires { ⌜ (processor < 8) × (s .resource < 16) × (s .place < 64) ⌝ }
+    ensures { λ r. ⌜ r ≡ seat (s .resource) processor (s .place) ⌝ }
 {
-    if (s.resource < 16) & (s.place < 64) {
-        let queue = tables::half(s.resource) * 8 + tables::half(processor);
-        return queue * 64 + tables::half(s.place);
-    }
-    8192
+    let queue = tables::half(s.resource) * 8 + tables::half(processor);
+    queue * 64 + tables::half(s.place)
 }
 
-// The seats of the tasks.
+// The seats of the tasks; 8,192 stays for those in no queue.
 pub fn key_table(file: &[u8], tasks: [Standing; 64]) -> [u16; 64]
     requires { ⌜ Checked (now file) ⌝ }
     ensures { λ r. ⌜ Keys (planOf (now (file .entry))) tasks r ⌝ }
@@ -75,7 +72,9 @@ pub fn key_table(file: &[u8], tasks: [Standing; 64]) -> [u16; 64]
     while u < n {
         let row = plan::checked::task(file, u);
         let s = tasks[u];
-        keys[u] = key_of(s, row.processor);
+        if (s.resource < 16) & (s.place < 64) {
+            keys[u] = seat_of(s, row.processor);
+        }
         u += 1;
     }
     keys
@@ -153,7 +152,7 @@ fn first_seats(seats: &[u8], q: usize, first: &mut [u8; 8])
     }
 }
 
-// Whether the slots of a queue from c on are empty.
+// Whether the slots of a queue from c on are empty: then their number is less than 256 ^ c below the largest.
 fn tail_ok(queue: [u8; 8], c: u8) -> bool
     requires { ⌜ (1 ≤ c) × (c ≤ 8) ⌝ }
     ensures { λ r. ⌜ r ≡ tailTest queue c ⌝ }

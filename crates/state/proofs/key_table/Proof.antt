@@ -1,13 +1,16 @@
 -- The invariant: the seats of the tasks below `u` stand in `keys`.
 use Prim.Native.Nat.{_≤_, _-_}
-use mathlib.Core.Path.{_≡_, refl}
+use mathlib.Core.Path.{_≡_, refl, sym, _∙_}
+use mathlib.Core.Logic.{⊎-elim}
 use native.Mathlib.Omega.{arith}
 use borrow.Author.Needs.{needs}
+use lib.ListN.{getD-replicate}
 use Rattle.folds.specs.Bytes.{placedBelow}
 use Rattle.folds.proofs.Arrays.{placed-step}
 use Rattle.plan.specs.Plan.{planOf}
 use Rattle.plan.proofs.Laws.{valid-plan}
-use Rattle.state.proofs.Tables.{low-processor, keysBelow, keys-done}
+use Rattle.state.specs.Shows.{standing}
+use Rattle.state.proofs.Tables.{low-processor, keysBelow, keys-done, row-low, key-at, key-off, placed-skip}
 use Rattle.state.proofs.key_table.Statement.{statement}
 use Rattle.state.proofs.key_table.Tie as tie
 
@@ -36,16 +39,21 @@ mul-s c = omega arith
 array-copy-out-s : tie.Need-array-copy-out-s Inv-loop μ-loop
 array-copy-out-s c = omega (arith, valid-plan _ (c .before .before .before .before .before .before .pre) .tasks)
 
-key-of-requires : tie.Need-key-of-requires Inv-loop μ-loop
-key-of-requires c κs =
-    let v = valid-plan _ (c .before .before .before .before .before .before .before .pre) in
-    rw (c .before .task .ensures) (low-processor _ v _ (omega arith))
+seat-of-requires : tie.Need-seat-of-requires Inv-loop μ-loop
+seat-of-requires c κs =
+    let low = c .before .before .before .before in
+    let start = low .before .before .before .before .before .before in
+    let l = low .before .before .loop in
+    let row = row-low (standing (start .args .t2) (l .u)) (c .if1 .taken) in
+    (rw (low .task .ensures) (low-processor _ (valid-plan _ (start .pre)) _ (omega arith)), row .0, row .1)
 
 mul-keys : tie.Need-mul-keys Inv-loop μ-loop
 mul-keys c = omega arith
 
 array-write-keys : tie.Need-array-write-keys Inv-loop μ-loop
-array-write-keys c = omega (arith, valid-plan _ (c .before .before .before .before .before .before .before .before .pre) .tasks)
+array-write-keys c =
+    let start = c .before .before .before .before .before .before .before .before .before .before .before in
+    omega (arith, valid-plan _ (start .pre) .tasks)
 
 add-u : tie.Need-add-u Inv-loop μ-loop
 add-u c = omega arith
@@ -55,8 +63,17 @@ loop-less c = omega arith
 
 loop-again : tie.Need-loop-again Inv-loop μ-loop
 loop-again c =
-    let l = c .before .before .before .before .loop in
-    (omega arith, placed-step (l .u) _ _ (l .inv .1) (rw (c .key-of .ensures .0, c .before .before .task .ensures)))
+    let low = c .before .before .before .before in
+    let start = low .before .before .before .before .before .before in
+    let l = low .before .before .loop in
+    let s = standing (start .args .t2) (l .u) in
+    let few = valid-plan _ (start .pre) .tasks in (
+      omega arith,
+      ⊎-elim
+          (λ t. rw (t .2) (placed-step (l .u) _ _ (l .inv .1) (rw (t .1 .ensures, low .task .ensures, key-at s _ (t .0 .taken)))))
+          (λ t. rw (t .1) (placed-skip (l .u) _ _ (l .inv .1) (key-off s _ (t .0 .left) ∙ sym (getD-replicate 64 (l .u) 8192 0 (omega arith)))))
+          (c .if1 .came),
+    )
 
 returns : tie.Need-returns Inv-loop μ-loop
 returns c =
@@ -75,7 +92,7 @@ key-table-spec =
     task-requires
     mul-s
     array-copy-out-s
-    key-of-requires
+    seat-of-requires
     mul-keys
     array-write-keys
     add-u
