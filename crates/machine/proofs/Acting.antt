@@ -2,7 +2,7 @@
 use Prim.Native.Nat.{ℕ, _<_, _≤_}
 use mathlib.Core.Bool.{Bool, true, false, not}
 use mathlib.Core.List.{List}
-use mathlib.Core.Path.{_≡_, refl, _∙_}
+use mathlib.Core.Path.{_≡_, _∙_}
 use native.Mathlib.Omega.{arith}
 use borrow.Author.Tests.{eq-eqb}
 use lib.ListN.{getD}
@@ -10,7 +10,6 @@ use Rattle.folds.proofs.Tests.{held, failed}
 use Rattle.plan.specs.Reading.{refusal}
 use Rattle.plan.specs.Plan.{Plan, planOf, Checked, Valid}
 use Rattle.plan.proofs.Laws.{valid-plan}
-use Rattle.equations.specs.Sharing.{processorOf}
 use Rattle.equations.specs.HoldTimes.{holdAt}
 use Rattle.holds.specs.Holds.{Cells, Shares}
 use Rattle.folds.proofs.Searches.{on-le}
@@ -19,11 +18,11 @@ use Rattle.protocol.specs.declared.Answer.the-variants.{Refused}
 use Rattle.protocol.specs.Machine.{callCode, answer}
 use Rattle.state.specs.declared.Standing.{Standing}
 use Rattle.state.specs.declared.State.{State}
-use Rattle.state.specs.Shows.{standing, shows}
+use Rattle.state.specs.Shows.{shows}
 use Rattle.state.specs.Sound.{sound}
 use Rattle.state.specs.Seats.{Keys, Seats}
 use Rattle.state.specs.Tests.{stateTest}
-use Rattle.state.proofs.Tables.{key-in, seat-high}
+use Rattle.state.proofs.Tables.{seat-high}
 use Rattle.state.proofs.SoundTest.{sound-test}
 use Rattle.machine.specs.declared.Reply.{Reply}
 use Rattle.machine.specs.Replies.{callRefusal, reply, Next}
@@ -35,12 +34,6 @@ module _ (p : Plan) (v : Valid p) (ts : List Standing) (keys : List ℕ) (h : Ke
   pub keys-low : (u : ℕ) → u < 64 → getD keys u 0 < 8193
   keys-low u l =
       on-le (getD keys u 0 < 8193) (p .tasks) u (λ m. omega (arith, h .rest u l m)) (λ m. seat-high p v ts keys h u m)
-
-  -- a seat is at least its place
-  pub places-low : (u : ℕ) → u < 64 → standing ts u .resource < 16 → standing ts u .place < 64 → standing ts u .place ≤ getD keys u 0
-  places-low u l a b =
-      on-le (standing ts u .place ≤ getD keys u 0) (p .tasks) u (λ m. omega (arith, h .rest u l m))
-      (λ m. omega (arith, h .at u m, key-in (standing ts u) (processorOf p u) _ _ _ a b (refl, refl, refl)))
 
 -- ── the tables made of a plan that passed every check and of a state ──
 pub record Made (f : List ℕ) (s : State) (h b k t : List ℕ) : Type 0 where

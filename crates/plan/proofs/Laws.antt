@@ -10,7 +10,7 @@ use lib.ListN.{length, getD, drop, length-drop, length-take, List·getD-eq-defau
 use lib.Seq.{getD-drop}
 use Rattle.folds.specs.Below.{sumBelow}
 use Rattle.folds.specs.Bytes.{number}
-use Rattle.folds.proofs.Tests.{and-parts, is-not-true, code-zero, code-next, all-at}
+use Rattle.folds.proofs.Tests.{and-parts, is-not-true, code-zero, code-next, first-zero, then-zero, all-at}
 use Rattle.folds.proofs.Figures.{sum-at}
 use Rattle.folds.proofs.Arrays.{by-eq}
 use Rattle.folds.proofs.RowLaws.{Bytes}
@@ -100,21 +100,15 @@ pub record Whole (f : List ℕ) : Type 0 where
   pub sections : sectionRowsOk (countsOf f .sections) (countsOf f .tasks) (countsOf f .resources) (drop (sectionsAt (countsOf f)) f) ≡ true
   pub sums : sumsOk (countsOf f .tasks) (countsOf f .sections) (tasksOf f) (sectionsOf f) ≡ true
 
-header-zero : (k r : ℕ) → cond (eqb k 0) r k ≡ 0 → k ≡ 0
-header-zero k r e = by-eq (λ (b : Bool). cond b r k ≡ 0 → k ≡ 0) k 0 (λ q h. q) (λ d h. h) e
-
-header-next : (k r : ℕ) → cond (eqb k 0) r k ≡ 0 → r ≡ 0
-header-next k r e = by-eq (λ (b : Bool). cond b r k ≡ 0 → r ≡ 0) k 0 (λ q h. h) (λ d h. absurd (d h)) e
-
 pub header-clear : (f : List ℕ) → refusal f ≡ 0 → headerCode f ≡ 0
 unfolding refusal
-header-clear f e = header-zero (headerCode f) (rowsCode f) e
+header-clear f e = first-zero (headerCode f) (rowsCode f) e
 
 pub whole-facts : (f : List ℕ) → refusal f ≡ 0 → Whole f
 unfolding refusal partsCode restCode sectionCode
 whole-facts f e =
-    let h : headerCode f ≡ 0 = header-zero (headerCode f) _ e in
-    let r1 = header-next (headerCode f) _ e in
+    let h : headerCode f ≡ 0 = first-zero (headerCode f) _ e in
+    let r1 = then-zero (headerCode f) _ e in
     let r2 = code-next (taskRowsOk (countsOf f .tasks) (countsOf f .processors) (drop tasksAt f)) _ 4 r1 in
     let r3 = code-next (uniqueOk (countsOf f .tasks) (tasksOf f)) _ 5 r2 in
     let r4 = code-next (lengthRowsOk (countsOf f .resources) (drop (resourcesAt (countsOf f)) f)) _ 6 r3 in
@@ -208,8 +202,8 @@ unfolding nameRefusal
 name-answered f q e =
     let r : ℕ = countsOf f .resources in
     record {
-      none = header-zero (refusal f) (cond (ltb q r) 0 12) e;
-      below = ltb-true q r (code-zero (ltb q r) 0 11 (header-next (refusal f) (cond (ltb q r) 0 12) e));
+      none = first-zero (refusal f) (cond (ltb q r) 0 12) e;
+      below = ltb-true q r (code-zero (ltb q r) 0 11 (then-zero (refusal f) (cond (ltb q r) 0 12) e));
     }
 
 -- the plan of a file has the counts in its header

@@ -261,7 +261,7 @@ fn lines_ok(lines: [Line; 16], holds: &[u16], budgets: &[u16], seats: &[u8]) -> 
 
 // Whether a state is sound, by the tables of its plan.
 pub fn passes(state: State, holds: &[u16], budgets: &[u16], keys: &[u16], seats: &[u8]) -> bool
-    requires { ⌜ (length (now holds) ≡ 1024) × (length (now budgets) ≡ 128) × (length (now keys) ≡ 64) × (length (now seats) ≡ 8193) × ((x : ℕ) → x < 8193 → getD (now seats) x 0 < 65) × ((u : ℕ) → u < 64 → getD (now keys) u 0 < 8193) × ((u : ℕ) → u < 64 → standing (state .tasks) u .resource < 16 → standing (state .tasks) u .place < 64 → standing (state .tasks) u .place ≤ getD (now keys) u 0) ⌝ }
+    requires { ⌜ (length (now holds) ≡ 1024) × (length (now budgets) ≡ 128) × (length (now keys) ≡ 64) × (length (now seats) ≡ 8193) × ((x : ℕ) → x < 8193 → getD (now seats) x 0 < 65) × ((u : ℕ) → u < 64 → getD (now keys) u 0 < 8193) ⌝ }
     ensures { λ r. ⌜ r ≡ stateTest (now (holds .entry)) (now (budgets .entry)) (now (keys .entry)) (now (seats .entry)) state ⌝ }
 {
     let tasks = state.tasks;

@@ -6,7 +6,7 @@ use mathlib.Core.Path.{_≡_}
 use borrow.Author.Tests.{ltb-true}
 use lib.Dec.{eqb, ltb}
 use lib.ListN.{length, getD}
-use Rattle.folds.proofs.Tests.{code-zero, code-next}
+use Rattle.folds.proofs.Tests.{code-zero, code-next, first-zero, then-zero}
 use Rattle.folds.proofs.Arrays.{by-eq}
 use Rattle.plan.specs.Reading.{refusal}
 use Rattle.plan.specs.Plan.{Plan, planOf, Checked}
@@ -22,13 +22,6 @@ use Rattle.state.specs.Sound.{sound}
 use Rattle.machine.specs.Replies.{callRefusal, reply}
 use Rattle.machine.specs.Promise.{callOf}
 use Rattle.wording.specs.Naming.{Nameable, Names}
-
--- a code that stands before another one, both 0
-first-zero : (c k : ℕ) → cond (eqb c 0) k c ≡ 0 → c ≡ 0
-first-zero c k = by-eq (λ (b : Bool). cond b k c ≡ 0 → c ≡ 0) c 0 (λ e z. e) (λ n z. z)
-
-then-zero : (c k : ℕ) → cond (eqb c 0) k c ≡ 0 → k ≡ 0
-then-zero c k = by-eq (λ (b : Bool). cond b k c ≡ 0 → k ≡ 0) c 0 (λ e z. z) (λ n z. absurd (n z))
 
 module _ (p : Plan) (m : Lines) (tag q : ℕ) where
   request-below : requestCode p m tag q ≡ 0 → q < p .resources

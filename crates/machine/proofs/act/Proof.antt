@@ -1,7 +1,7 @@
 -- The tables of the state are made of it, and the test by them is that of soundness.
 use borrow.Author.Needs.{needs}
 use Rattle.plan.proofs.Laws.{valid-plan}
-use Rattle.machine.proofs.Acting.{keys-low, places-low, Made, passed, not-passed, unsound-reply, sound-reply}
+use Rattle.machine.proofs.Acting.{keys-low, Made, passed, not-passed, unsound-reply, sound-reply}
 use Rattle.machine.proofs.act.Statement.{statement}
 use Rattle.machine.proofs.act.Tie as tie
 use Rattle.machine.proofs.act.Reads as reads
@@ -66,7 +66,7 @@ passes-requires : tie.Need-passes-requires
 passes-requires c κs =
     let m = made (c .before .before .before) in
     let v = valid-plan _ (m .plan) in
-    (m .holds .long, m .budgets .long, m .keys .long, m .seats .long, m .seats .low, keys-low _ v _ _ (m .keys), places-low _ v _ _ (m .keys))
+    (m .holds .long, m .budgets .long, m .keys .long, m .seats .long, m .seats .low, keys-low _ v _ _ (m .keys))
 
 refuse-requires : tie.Need-refuse-requires
 refuse-requires c κs = search needs
