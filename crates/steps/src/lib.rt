@@ -272,7 +272,7 @@ fn step_lines(lines: [Line; 16], holds: &[u16], budgets: &[u16], seats: &[u8]) -
     ensures { λ r. ⌜ (r .lines ≡ steppedLines (now (holds .entry)) (now (budgets .entry)) (now (seats .entry)) lines) × (r .marks ≡ endedOf lines) × (r .cuts ≡ cutWord lines) × (r .grants ≡ grantWord lines (steppedLines (now (holds .entry)) (now (budgets .entry)) (now (seats .entry)) lines)) ⌝ }
 {
     let mut next = lines;
-    let mut marks = [0u8; 129];
+    let mut lost = [0u8; 129];
     let mut cuts = 0u16;
     let mut grants = 0u16;
     let mut q = 0;
@@ -285,16 +285,16 @@ fn step_lines(lines: [Line; 16], holds: &[u16], budgets: &[u16], seats: &[u8]) -
         cuts += bit(on, q);
         grants += bit(on & (0 < after.queued), q);
         if on {
-            marks[q * 8 + folds::wide(queue[0])] = 1;
+            lost[q * 8 + folds::wide(queue[0])] = 1;
         } else {
             // 128 is no queue: both arms store once, so that the table is one of stores by key.
-            marks[128] = 0;
+            lost[128] = 0;
         }
         q += 1;
     }
     Stepped {
         lines: next,
-        marks,
+        marks: lost,
         cuts,
         grants,
     }

@@ -20,15 +20,15 @@ use Rattle.steps.proofs.step_lines.Statement.{statement}
 use Rattle.steps.proofs.step_lines.Tie as tie
 
 abbrev Inv-loop : tie.InvT-loop
-Inv-loop holds budgets seats next₀ marks₀ cuts₀ grants₀ q₀ next marks cuts grants q =
+Inv-loop holds budgets seats next₀ lost₀ cuts₀ grants₀ q₀ next lost cuts grants q =
     (q ≤ 16)
     × (next ≡ eachBelow noLine (λ r l. stepped holds budgets seats r l) q next₀)
-    × (marks ≡ endedBelow next₀ q)
+    × (lost ≡ endedBelow next₀ q)
     × (cuts ≡ wordBelow q (λ i. ends (getD next₀ i noLine)))
     × (grants ≡ wordBelow q (newly holds budgets seats next₀))
 
 abbrev μ-loop : tie.MeasureT-loop
-μ-loop holds budgets seats next₀ marks₀ cuts₀ grants₀ q₀ next marks cuts grants q = 16 - q
+μ-loop holds budgets seats next₀ lost₀ cuts₀ grants₀ q₀ next lost cuts grants q = 16 - q
 
 loop-holds : tie.Need-loop-holds Inv-loop μ-loop
 unfolding eachBelow stampedBelow wordBelow
@@ -74,8 +74,8 @@ add-grants c =
     let b = grant-bit _ _ _ _ (l .q) (l .inv .1) (c .before .before .before .before .ends .ensures) (c .before .before .before .step .ensures) (c .bit2 .ensures) in
     record { fits = word-fits _ 16 _ (l .inv .4) b (omega arith) }
 
-mul-marks : tie.Need-mul-marks Inv-loop μ-loop
-mul-marks c = omega arith
+mul-lost : tie.Need-mul-lost Inv-loop μ-loop
+mul-lost c = omega arith
 
 array-read-wide : tie.Need-array-read-wide Inv-loop μ-loop
 array-read-wide c = omega arith
@@ -83,11 +83,11 @@ array-read-wide c = omega arith
 wide-requires : tie.Need-wide-requires Inv-loop μ-loop
 wide-requires c κs = tt
 
-add-marks : tie.Need-add-marks Inv-loop μ-loop
-add-marks c = omega arith
+add-lost : tie.Need-add-lost Inv-loop μ-loop
+add-lost c = omega arith
 
-array-write-marks : tie.Need-array-write-marks Inv-loop μ-loop
-array-write-marks c =
+array-write-lost : tie.Need-array-write-lost Inv-loop μ-loop
+array-write-lost c =
     let l = c .before .before .before .before .before .before .before .before .before .before .loop in
     let p = c .before .before .before .before .before .before .before .before .before .before .before .before .before .before .pre in
     let e = kept-queued _ _ _ _ (l .q) (l .inv .1) (c .before .before .before .before .before .before .ends .ensures) (c .before .if1 .taken) in
@@ -96,8 +96,8 @@ array-write-marks c =
     let k = ap (λ (x : Line). slot x 0) (line-kept _ _ _ _ (l .q) (l .inv .1)) in
     omega (arith, c .wide .ensures .0, k, r .placed 0 (r .some))
 
-array-write-marks-2 : tie.Need-array-write-marks-2 Inv-loop μ-loop
-array-write-marks-2 c = omega arith
+array-write-lost-2 : tie.Need-array-write-lost-2 Inv-loop μ-loop
+array-write-lost-2 c = omega arith
 
 add-q : tie.Need-add-q Inv-loop μ-loop
 add-q c = omega arith
@@ -146,12 +146,12 @@ step-lines-spec =
     add-cuts
     bit-requires-2
     add-grants
-    mul-marks
+    mul-lost
     array-read-wide
     wide-requires
-    add-marks
-    array-write-marks
-    array-write-marks-2
+    add-lost
+    array-write-lost
+    array-write-lost-2
     add-q
     loop-less
     loop-again
