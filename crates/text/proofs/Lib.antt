@@ -1,1 +1,3 @@
 pub mod TextLaws
+pub mod Turns
+pub mod Lines

@@ -8,9 +8,13 @@ use native.Mathlib.Nat.{zero-add, suc-add, add-zero, not-suc-le-zero, eq-or-lt-o
 use native.Mathlib.Omega.{arith}
 use borrow.Author.Tests.{ltb-true, ltb-false, lt-ltb}
 use lib.Dec.{ltb}
+use lib.IntN.{ℤ, pos, negsuc}
 use lib.ListN.{length, getD, take, drop, length-append, length-drop, take-append-drop, drop-of-length-le, List·getD-append}
 use lib.Seq.{length-take-le, take-all, take-append-seam, drop-append-add, drop-drop, drop-nil, getD-at}
-use Rattle.text.specs.Text.{quoted, placesTo, digits, decimal, valueFrom, valueOf, Put}
+use mir.Syntax.{w64}
+use mir.Val.{SFits, toZ, ofZ}
+use mir.Facts.{toZ-ofZ}
+use Rattle.text.specs.Text.{quoted, placesTo, digits, decimal, signed, textBelow, valueFrom, valueOf, Put}
 
 -- what a buffer holds up to where a text ends, and from there on; the place may lie behind the buffer's end too
 front : (at : ℕ) (l a : List ℕ) → take (at + length a) (take at l ++ (a ++ drop (at + length a) l)) ≡ take at l ++ a
@@ -51,6 +55,19 @@ pub put-length : {l m a : List ℕ} {at e : ℕ} → Put l m at a e → at + len
 put-length {l} {m} {a} {at} p h =
     ap length (p .held) ∙ length-append (take at l) (a ++ drop (at + length a) l)
     ∙ omega (arith, length-append a (drop (at + length a) l), length-take-le at l (omega arith), length-drop (at + length a) l)
+
+-- the texts of the numbers below one more, and of none
+pub below-more : (n : ℕ) (text : ℕ → List ℕ) → textBelow (suc n) text ≡ textBelow n text ++ text n
+unfolding textBelow
+below-more n text = refl
+
+pub below-none : (text : ℕ → List ℕ) → textBelow 0 text ≡ []
+unfolding textBelow
+below-none text = refl
+
+-- the text of an integer, as the machine has it
+pub put-held : {l m : List ℕ} {at e : ℕ} (text : ℤ → List ℕ) (z : ℤ) → SFits w64 z → Put l m at (text (toZ w64 (ofZ w64 z))) e → Put l m at (text z) e
+put-held text z s p = rw (toZ-ofZ s) at p
 
 -- the number of digits, by what n is
 by-places : (R : ℕ → Type 0) (k n : ℕ) → (n < 10 → R 1) → (10 ≤ n → R (suc (placesTo k (n / 10)))) → R (placesTo (suc k) n)
@@ -160,3 +177,15 @@ decimal-largest = refl
 pub value-65535 : valueOf (quoted "65535") ≡ 65535
 unfolding valueFrom
 value-65535 = refl
+
+pub signed-below-zero : signed (negsuc 3) ≡ quoted "-4"
+unfolding placesTo digits
+signed-below-zero = refl
+
+pub signed-lowest : signed (negsuc 9223372036854775807) ≡ quoted "-9223372036854775808"
+unfolding placesTo digits
+signed-lowest = refl
+
+pub signed-above : signed (pos 17) ≡ quoted "17"
+unfolding placesTo digits
+signed-above = refl

@@ -6,6 +6,7 @@ use mathlib.Core.Bool.{cond}
 use mathlib.Core.List.{List, [], _∷_, _++_}
 use mathlib.Core.Path.{_≡_}
 use lib.Dec.{ltb}
+use lib.IntN.{ℤ, pos, negsuc}
 use lib.ListN.{length, take, drop}
 
 -- the codes of the first n characters of a quoted text
@@ -30,6 +31,16 @@ digits (suc k) n = digits k (n / 10) ++ ((48 + n % 10) ∷ [])
 -- a number of 64 bits in decimal, with no zero before it: such a number has at most 20 digits
 abbrev pub decimal : ℕ → List ℕ
 decimal n = digits (placesTo 19 n) n
+
+-- a whole number in decimal, with a minus before one below zero: `negsuc n` is -(n + 1)
+abbrev pub signed : ℤ → List ℕ
+signed (pos n) = decimal n
+signed (negsuc n) = quoted "-" ++ decimal (suc n)
+
+-- the texts of the numbers below n, one after the other
+unfoldable pub textBelow : ℕ → (ℕ → List ℕ) → List ℕ
+textBelow zero text = []
+textBelow (suc n) text = textBelow n text ++ text n
 
 -- the number that a text of digits says, read from left to right after `so` has been read; `decimal` is held to it by the laws
 -- `decimal-value`, `decimal-digit` and `decimal-first`

@@ -1,24 +1,13 @@
 -- What a lent buffer holds once lines have been put into it.
 use Prim.Native.Nat.{ℕ, _+_, _≤_, _<_}
-use mathlib.Core.Bool.{cond}
 use mathlib.Core.List.{List, [], _∷_, _++_}
 use mathlib.Core.Logic.{_⊎_}
 use mathlib.Core.Path.{_≡_}
-use lib.Dec.{leb}
 use lib.ListN.{length, take, drop}
 use Rattle.state.specs.declared.State.{State}
 use Rattle.machine.specs.Promise.{callOf, AfterBytes}
-use Rattle.transcript.specs.declared.Line.{Line}
 use Rattle.transcript.specs.declared.Batch.{Batch}
 use Rattle.transcript.specs.Calls.{callLine}
-
--- a line for a buffer of n bytes: its length, or 10, buffer too short
-unfoldable pub lineFor : List ℕ → ℕ → Line
-lineFor text n = cond (leb (length text) n) (record { refusal = 0; length = length text }) (record { refusal = 10; length = 0 })
-
--- the line at the front of the buffer, and what lies behind as it was; the whole buffer as it was where it is too short
-unfoldable pub lineIn : List ℕ → List ℕ → List ℕ
-lineIn text l = cond (leb (length text) (length l)) (text ++ drop (length text) l) l
 
 -- the state beside the line of a call: as it was where the buffer is too short
 abbrev pub StateBeside : List ℕ → ℕ → (before after : State) → (State → Type 0) → Type 0

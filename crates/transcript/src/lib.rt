@@ -1,6 +1,7 @@
 // What a call does, as a line of text in a lent buffer: document 01, "The printing program".
 use rows::Counts;
 use state::State;
+use text::Line;
 ghost use mathlib.Core.Path.{_≡_};
 ghost use Prim.Native.Nat.{_+_, _≤_};
 ghost use lib.ListN.{length};
@@ -9,14 +10,9 @@ ghost use Rattle.machine.specs.Promise.{callOf, AfterBytes};
 ghost use Rattle.wording.specs.Lines.{refusedLine, planLine};
 ghost use Rattle.transcript.specs.Calls.{callLine};
 ghost use Rattle.transcript.specs.Output.{endLine};
-ghost use Rattle.transcript.specs.Buffers.{lineFor, lineIn, StateBeside, Told};
+ghost use Rattle.text.specs.Buffers.{lineFor, lineIn};
+ghost use Rattle.transcript.specs.Buffers.{StateBeside, Told};
 ghost use Rattle.transcript.specs.Inner.{Stepped};
-
-// A line in a buffer: its length, or the refusal 10 where the buffer is too short for it.
-pub struct Line {
-    pub refusal: u8,
-    pub length: usize,
-}
 
 // A line, and the state after its call.
 pub struct CallLine {
@@ -66,20 +62,6 @@ fn put_call(
     Step { end, state: next }
 }
 
-// Puts a line at the front of a lent buffer, where it is long enough.
-fn hand_over(line: &[u8], out: &mut [u8]) -> Line
-    ensures { λ r. ⌜ (r ≡ lineFor (now (line .entry)) (length (now (out .entry)))) × (now (out .exit) ≡ lineIn (now (line .entry)) (now (out .entry))) ⌝ }
-{
-    if out.len() < line.len() {
-        return Line {
-            refusal: 10,
-            length: 0,
-        };
-    }
-    let length = text::put(out, 0, line);
-    Line { refusal: 0, length }
-}
-
 // The line of a refusal.
 pub fn refused_line(number: u8, out: &mut [u8]) -> Line
     ensures { λ r. ⌜ r ≡ lineFor (refusedLine number) (length (now (out .entry))) ⌝ }
@@ -87,7 +69,7 @@ pub fn refused_line(number: u8, out: &mut [u8]) -> Line
 {
     let mut line = [0u8; 96];
     let end = wording::put_refused(&mut line, 0, number);
-    hand_over(&line[0..end], out)
+    text::hand_over(&line[0..end], out)
 }
 
 // What the output ends with, where so many bytes stand behind the last call that was made: nothing, or the refusal 22.
@@ -111,7 +93,7 @@ pub fn plan_line(counts: Counts, out: &mut [u8]) -> Line
 {
     let mut line = [0u8; 96];
     let end = wording::put_plan(&mut line, 0, counts);
-    hand_over(&line[0..end], out)
+    text::hand_over(&line[0..end], out)
 }
 
 // Makes a call of three bytes on a state: its line, and the next state. Where the buffer is too short for the line, nothing is done.
@@ -144,7 +126,7 @@ pub fn call_line(
         resource,
     );
     let end = step.end;
-    let line = hand_over(&buf[0..end], out);
+    let line = text::hand_over(&buf[0..end], out);
     if line.refusal != 0 {
         return CallLine { line, state };
     }

@@ -1,7 +1,8 @@
 -- Document 01, "The printing program": the lines that it prints.
 use Prim.Native.Nat.{ℕ}
 use mathlib.Core.List.{List, _++_}
-use Rattle.text.specs.Text.{quoted, decimal}
+use lib.IntN.{ℤ}
+use Rattle.text.specs.Text.{quoted, decimal, signed}
 use Rattle.rows.specs.declared.Counts.{Counts}
 use Rattle.plan.specs.Reading.{namePart}
 use Rattle.protocol.specs.declared.Answer.{Answer}
@@ -10,6 +11,14 @@ use Rattle.protocol.specs.declared.Answer.the-variants.{Granted, Waits, Next, F
 -- a space and a number
 abbrev pub field : ℕ → List ℕ
 field n = quoted " " ++ decimal n
+
+-- a space and a number that may be below zero
+abbrev pub signedField : ℤ → List ℕ
+signedField z = quoted " " ++ signed z
+
+-- a space and the name of a resource
+abbrev pub nameField : List ℕ → ℕ → List ℕ
+nameField f q = quoted " " ++ namePart f q
 
 -- "A refused plan prints its number in one line and nothing more, as in "refused 5"", and so does a refused call
 abbrev pub refusedLine : ℕ → List ℕ
@@ -26,7 +35,7 @@ tickLine cuts grants = quoted "tick" ++ field cuts ++ field grants ++ quoted "\n
 
 -- "tag and name"
 abbrev pub named : List ℕ → ℕ → ℕ → List ℕ
-named f tag q = field tag ++ quoted " " ++ namePart f q
+named f tag q = field tag ++ nameField f q
 
 -- what is printed for each answer to a call with this tag and resource: "tag and name; tag, name, ahead, limit; .. number; tag,
 -- name, then "free" or "to" and a tag"

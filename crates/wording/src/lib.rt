@@ -6,7 +6,7 @@ ghost use Prim.Native.Nat.{_+_, _≤_};
 ghost use lib.ListN.{length};
 ghost use Rattle.protocol.specs.declared.Answer.the-variants.{Granted, Waits, Next, Free};
 ghost use Rattle.text.specs.Text.{Put};
-ghost use Rattle.wording.specs.Lines.{field, refusedLine, planLine, tickLine, named, answerLine};
+ghost use Rattle.wording.specs.Lines.{field, signedField, nameField, refusedLine, planLine, tickLine, named, answerLine};
 ghost use Rattle.wording.specs.Naming.{Nameable, Names};
 
 // A space and a number.
@@ -17,6 +17,26 @@ pub fn put_field(buf: &mut [u8], at: usize, n: u64) -> usize
 {
     let a = text::put(buf, at, b" ");
     text::put_decimal(buf, a, n)
+}
+
+// A space and a number that may be below zero.
+pub fn put_signed_field(buf: &mut [u8], at: usize, z: i64) -> usize
+    requires { ⌜ at + 22 ≤ length (now buf) ⌝ }
+    ensures { λ r. ⌜ Put (now (buf .entry)) (now (buf .exit)) at (signedField z) r ⌝ }
+    ensures { λ r. ⌜ r ≤ at + 22 ⌝ }
+{
+    let a = text::put(buf, at, b" ");
+    text::put_signed(buf, a, z)
+}
+
+// A space and the name of a resource.
+pub fn put_name(buf: &mut [u8], at: usize, file: &[u8], resource: u8) -> usize
+    requires { ⌜ (Nameable (now file) resource) × (at + 13 ≤ length (now buf)) ⌝ }
+    ensures { λ r. ⌜ Put (now (buf .entry)) (now (buf .exit)) at (nameField (now (file .entry)) resource) r ⌝ }
+    ensures { λ r. ⌜ r ≤ at + 13 ⌝ }
+{
+    let a = text::put(buf, at, b" ");
+    text::put(buf, a, plan::checked::name(file, resource))
 }
 
 // "refused N".
@@ -63,8 +83,7 @@ pub fn put_named(buf: &mut [u8], at: usize, file: &[u8], tag: u8, resource: u8) 
     ensures { λ r. ⌜ r ≤ at + 34 ⌝ }
 {
     let a = put_field(buf, at, tag as u64);
-    let b = text::put(buf, a, b" ");
-    text::put(buf, b, plan::checked::name(file, resource))
+    put_name(buf, a, file, resource)
 }
 
 // "granted", tag and name.

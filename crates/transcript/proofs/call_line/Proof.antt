@@ -2,7 +2,8 @@
 use borrow.Author.Needs.{needs}
 use Rattle.machine.specs.Promise.{callOf, AfterBytes}
 use Rattle.transcript.specs.Calls.{callLine}
-use Rattle.transcript.proofs.Buffers.{front-part, state-kept, state-made}
+use Rattle.text.proofs.Lines.{front-part}
+use Rattle.transcript.proofs.Buffers.{state-kept, state-made}
 use Rattle.transcript.proofs.call_line.Statement.{statement}
 use Rattle.transcript.proofs.call_line.Tie as tie
 

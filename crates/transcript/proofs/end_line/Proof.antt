@@ -2,7 +2,7 @@
 use borrow.Author.Needs.{needs}
 use borrow.Author.Tests.{eq-eqb, ne-eqb}
 use Rattle.transcript.specs.Output.{endLine}
-use Rattle.transcript.proofs.Buffers.{no-line}
+use Rattle.text.proofs.Lines.{no-line}
 use Rattle.transcript.proofs.end_line.Statement.{statement}
 use Rattle.transcript.proofs.end_line.Tie as tie
 

@@ -1,4 +1,4 @@
--- The tag, a space and the name, which is no longer than its rule says.
+-- The tag, then the name.
 use native.Mathlib.Omega.{arith}
 use borrow.Author.Needs.{needs}
 use Rattle.text.proofs.TextLaws.{put-then}
@@ -8,35 +8,17 @@ use Rattle.wording.proofs.put_named.Tie as tie
 put-field-requires : tie.Need-put-field-requires
 put-field-requires c κs = search needs
 
-slice-aggregate-put : tie.Need-slice-aggregate-put
-slice-aggregate-put c = search needs
-
-put-requires : tie.Need-put-requires
-put-requires c κs = search needs
-
-name-requires : tie.Need-name-requires
-name-requires c κs = search needs
-
-put-requires-2 : tie.Need-put-requires-2
-put-requires-2 c κs = search needs
+put-name-requires : tie.Need-put-name-requires
+put-name-requires c κs = search needs
 
 same-length : tie.Need-same-length
 same-length c = search needs
 
 returns : tie.Need-returns
 returns c = (
-  put-then (put-then (c .before .before .before .before .before .before .before .before .before .before .before .before .put-field .ensures .0) (c .before .before .before .before .before .before .before .put .ensures)) (rw (c .before .before .before .name .ensures .0) at (c .before .before .put2 .ensures)),
-  omega (arith, c .before .before .before .before .before .before .before .before .before .before .before .before .put-field .ensures .1, c .before .before .before .before .before .before .before .put .ensures .ends, c .before .before .before .name .ensures .1, c .before .before .put2 .ensures .ends),
+  put-then (c .before .before .before .before .before .before .put-field .ensures .0) (c .before .before .put-name .ensures .0),
+  omega (arith, c .before .before .before .before .before .before .put-field .ensures .1, c .before .before .put-name .ensures .1),
 )
 
 pub put-named-spec : {M : Type 1} → statement M
-put-named-spec =
-    tie.close
-    (tie.spec
-    put-field-requires
-    slice-aggregate-put
-    put-requires
-    name-requires
-    put-requires-2
-    same-length
-    returns)
+put-named-spec = tie.close (tie.spec put-field-requires put-name-requires same-length returns)

@@ -1,9 +1,9 @@
 -- The buffer is too short, or takes the whole line.
 use native.Mathlib.Omega.{arith}
 use borrow.Author.Needs.{needs}
-use Rattle.transcript.proofs.Buffers.{short-line, long-line}
-use Rattle.transcript.proofs.hand_over.Statement.{statement}
-use Rattle.transcript.proofs.hand_over.Tie as tie
+use Rattle.text.proofs.Lines.{short-line, long-line}
+use Rattle.text.proofs.hand_over.Statement.{statement}
+use Rattle.text.proofs.hand_over.Tie as tie
 
 returns : tie.Need-returns
 returns c =

@@ -1,0 +1,49 @@
+-- Texts at the front of a lent buffer: one that is too short for them, and one that is long enough.
+use Prim.Native.Nat.{ℕ, _-_, _<_, _≤_}
+use mathlib.Core.Bool.{Bool, true, false, cond}
+use mathlib.Core.List.{List, [], _++_}
+use mathlib.Core.Path.{_≡_, refl, sym, ap, _∙_}
+use native.Mathlib.Nat.{zero-add}
+use native.Mathlib.Omega.{arith}
+use borrow.Author.Tests.{leb-true, le-leb, lt-leb}
+use lib.Dec.{leb}
+use lib.ListN.{length, take, drop}
+use Rattle.text.specs.declared.Line.{Line}
+use Rattle.text.specs.Text.{Put}
+use Rattle.text.specs.Buffers.{lineFor, lineIn}
+use Rattle.text.proofs.TextLaws.{put-front}
+
+-- the part that a line put at the front takes
+pub front-part : {l m text : List ℕ} {e : ℕ} → Put l m 0 text e → take (e - 0) (drop 0 m) ≡ text
+front-part {m = m} {e = e} p = ap (λ (k : ℕ). take k m) (let z : e - 0 ≡ e = omega arith in z) ∙ put-front p
+
+module _ (text l : List ℕ) where
+  pub short-line : length l < length text → (record { refusal = 10; length = 0 } ≡ lineFor text (length l)) × (l ≡ lineIn text l)
+  unfolding lineFor lineIn
+  short-line h = (rw (lt-leb _ _ h), rw (lt-leb _ _ h))
+
+  pub long-line : {m : List ℕ} {e : ℕ} → length text ≤ length l → Put l m 0 text e → (record { refusal = 0; length = e } ≡ lineFor text (length l)) × (m ≡ lineIn text l)
+  unfolding lineFor lineIn
+  long-line h p = (rw (le-leb _ _ h, p .ends, zero-add), rw (le-leb _ _ h, ← zero-add (length text)) (p .held))
+
+  pub fitting : length text ≤ length l → lineFor text (length l) .refusal ≡ 0
+  unfolding lineFor
+  fitting h = rw (le-leb _ _ h)
+
+  pub too-short : length l < length text → lineFor text (length l) .refusal ≡ 10
+  unfolding lineFor
+  too-short h = rw (lt-leb _ _ h)
+
+-- a line is no longer than the buffer that it is for
+pub line-fits : (text : List ℕ) (n : ℕ) {r : Line} → r ≡ lineFor text n → r .length ≤ n
+unfolding lineFor
+line-fits text n e = rw e (go (leb (length text) n) refl)
+  where
+    go : (b : Bool) → leb (length text) n ≡ b → (cond {A = Line} b (record { refusal = 0; length = length text }) (record { refusal = 10; length = 0 })) .length ≤ n
+    go true e = leb-true _ _ e
+    go false e = omega arith
+
+-- no line fits every buffer, and leaves it as it was
+pub no-line : {text : List ℕ} (l : List ℕ) → text ≡ [] → (record { refusal = 0; length = 0 } ≡ lineFor text (length l)) × (l ≡ lineIn text l)
+unfolding lineFor lineIn
+no-line l e = rw (e, le-leb 0 (length l) (omega arith)) (refl, refl)

@@ -1,0 +1,15 @@
+-- What a lent buffer holds once a text has been handed over to it.
+use Prim.Native.Nat.{ℕ}
+use mathlib.Core.Bool.{cond}
+use mathlib.Core.List.{List, _++_}
+use lib.Dec.{leb}
+use lib.ListN.{length, drop}
+use Rattle.text.specs.declared.Line.{Line}
+
+-- a text for a buffer of n bytes: its length, or 10, buffer too short
+unfoldable pub lineFor : List ℕ → ℕ → Line
+lineFor text n = cond (leb (length text) n) (record { refusal = 0; length = length text }) (record { refusal = 10; length = 0 })
+
+-- the text at the front of the buffer, and what lies behind as it was; the whole buffer as it was where it is too short
+unfoldable pub lineIn : List ℕ → List ℕ → List ℕ
+lineIn text l = cond (leb (length text) (length l)) (text ++ drop (length text) l) l
