@@ -4,7 +4,7 @@ use mathlib.Core.Bool.{Bool, true, false, cond, _&&_, not, true≢false}
 use mathlib.Core.Path.{_≡_, refl, sym, _∙_}
 use native.Mathlib.Omega.{arith}
 use native.Mathlib.Nat.{mul-le-mul, suc-mul, mul-suc, div-zero, div-lt-iff-lt-mul, le-of-suc-le-suc, le-antisymm}
-use borrow.Author.Tests.{ltb-true, lt-ltb, leb-true, eqb-true, eq-eqb, ne-eqb}
+use borrow.Author.Tests.{ltb-true, lt-ltb, le-ltb, leb-true, eqb-true, eq-eqb, ne-eqb}
 use lib.Dec.{eqb, ltb}
 use lib.Signed.{mag}
 use Rattle.folds.specs.Below.{anyBelow, sumBelow, maxBelow}
@@ -106,6 +106,15 @@ module _ (p : Plan) where
       uses-out i q _ u
       (λ s l t r. sym (any-count (p .sections) (globalBy p i)) ∙ any-at (p .sections) s (globalBy p i) l (rw (eq-eqb (p .section s .task) i t, r) g))
 
+  -- a task asks where it has a global section
+  pub asks-not : (i : ℕ) {n : ℕ} → n ≡ globalCount p i → n ≡ 0 → asks p i ≡ false
+  unfolding asks
+  asks-not i e z = le-ltb 0 (globalCount p i) (omega arith)
+
+  pub asks-some : (i : ℕ) {n : ℕ} → n ≡ globalCount p i → (n ≡ 0 → ⊥) → asks p i ≡ true
+  unfolding asks
+  asks-some i e d = lt-ltb 0 (globalCount p i) (omega (arith, d))
+
 -- laws of a valid one
 module _ (p : Plan) (v : Valid p) where
   -- who uses q has a section on it, so a longest one
@@ -160,6 +169,16 @@ module _ (p : Plan) (v : Valid p) where
       go true true d = (refl, refl)
       go true false d = absurd (d refl)
       go false u d = absurd (d refl)
+
+  -- a task holds for no time at all exactly where it has no section on q, or q is local
+  pub hold-zero : (i q : ℕ) → eqb (holdAt p i q) 0 ≡ not (global p q && uses p i q)
+  unfolding holdAt
+  hold-zero i q = go (global p q) (uses p i q) refl
+    where
+      go : (g u : Bool) → uses p i q ≡ u → eqb (cond (g && u) (holdTime p i q) 0) 0 ≡ not (g && u)
+      go true true e = ne-eqb (holdTime p i q) 0 (λ z. omega (arith, hold-low i q e))
+      go true false e = refl
+      go false u e = refl
 
   pub interference-high : (i q : ℕ) → interference p i q ≤ 64000
   unfolding interference

@@ -5,7 +5,7 @@ use lib.Dec.{eqb, leb}
 use Rattle.folds.specs.Below.{maxBelow, sumBelow, countBelow}
 use Rattle.plan.specs.Plan.{Plan}
 use Rattle.equations.specs.Sharing.{processorOf, priorityOf, sectionOn, globalBy, uses, global, lower}
-use Rattle.equations.specs.HoldTimes.{holdTime, userOn, budget, waitTime}
+use Rattle.equations.specs.HoldTimes.{holdTime, fellow, budget, waitTime}
 
 -- a / b rounded up, for b ≥ 1
 abbrev pub ceilDiv : ℕ → ℕ → ℕ
@@ -49,7 +49,7 @@ module _ (p : Plan) where
 
   -- "sum of the hold times on q of k's other tasks using q"
   unfoldable pub fellowHolds : ℕ → ℕ → ℕ
-  fellowHolds i q = sumBelow (p .tasks) (λ j. cond (userOn p (processorOf p i) q j && not (eqb j i)) (holdTime p j q) 0)
+  fellowHolds i q = sumBelow (p .tasks) (λ j. cond (fellow p i q j) (holdTime p j q) 0)
 
   -- Equation 6 as printed: "(i's sections on q) × ceil(2 × sum of the hold times on q of k's other tasks using q, divided by k's
   -- budget on q) × wait time of k on q"

@@ -31,6 +31,10 @@ module _ (p : Plan) where
   abbrev pub userOn : ℕ → ℕ → ℕ → Bool
   userOn k q i = eqb (processorOf p i) k && uses p i q
 
+  -- j is a fellow of task i on q: "k's other tasks using q"
+  abbrev pub fellow : ℕ → ℕ → ℕ → Bool
+  fellow i q j = userOn (processorOf p i) q j && not (eqb j i)
+
   -- Equation 1 and Rule 4: "the greatest hold time of its tasks on q; 0 if none uses q or q is local"
   unfoldable pub budget : ℕ → ℕ → ℕ
   budget k q = cond (global p q) (maxBelow (p .tasks) (λ i. cond (userOn k q i) (holdTime i q) 0)) 0

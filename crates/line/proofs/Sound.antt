@@ -41,7 +41,7 @@ but-le f k (suc n) =
     let h = but-le f k n in
     by-eq (λ (d : Bool). sumBelow n (but f k) + cond d 0 (f n) ≤ sumBelow n f + f n) n k (λ e. omega arith) (λ e. omega arith)
 
-but-lt : (f : ℕ → ℕ) (k n : ℕ) → k < n → f k + sumBelow n (but f k) ≤ sumBelow n f
+pub but-lt : (f : ℕ → ℕ) (k n : ℕ) → k < n → f k + sumBelow n (but f k) ≤ sumBelow n f
 unfolding sumBelow
 but-lt f k zero lt = omega arith
 but-lt f k (suc n) lt =

@@ -309,3 +309,24 @@ valid-plan f h =
         let part : List ℕ = drop (sectionsAt c) f in
         let t = section-facts (c .tasks) (c .resources) (sectionAt part s) (all-at (c .sections) s _ (w .sections) l) in
         record { task = t .task; resource = t .resource; low = t .low; high = t .high }
+
+-- and its tags are unique
+pub tags-differ : (f : List ℕ) → Checked f → (i j : ℕ) → i < planOf f .tasks → j < planOf f .tasks → planOf f .task i .tag ≡ planOf f .task j .tag → i ≡ j
+unfolding planOf uniqueOk tagNew
+tags-differ f h i j l m e =
+    let up : i ≤ j = ltb-false j i (is-not-true _ (λ b. earlier i j l (ltb-true j i b) e)) in
+    let down : j ≤ i = ltb-false i j (is-not-true _ (λ b. earlier j i m (ltb-true i j b) (sym e))) in
+    omega arith
+  where
+    -- no earlier task has the tag, by the check of unique rows
+    earlier : (i j : ℕ) → i < countsOf f .tasks → j < i → taskAt (drop tasksAt f) i .tag ≡ taskAt (drop tasksAt f) j .tag → ⊥
+    earlier i j l m e =
+        let c : Counts = countsOf f in
+        let w = whole-facts f (h .none) in
+        let rows : List TaskRow = tasksOf f in
+        let tag : TaskRow → ℕ = λ v. v .tag in
+        let at = ap tag (task-read (c .tasks) (drop tasksAt f) i l (w .header .ranges .tasks)) in
+        let before = ap tag (task-read (c .tasks) (drop tasksAt f) j (omega arith) (w .header .ranges .tasks)) in
+        let new : tagNew rows i ≡ true = and-parts (tagNew rows i) (priorityNew rows i) (all-at (c .tasks) i _ (w .unique) l) .0 in
+        let off = not-true _ (all-at i j (λ k. not (eqb (taskOf rows i .tag) (taskOf rows k .tag))) new m) in
+        eqb-false (taskOf rows i .tag) (taskOf rows j .tag) off (at ∙ e ∙ sym before)

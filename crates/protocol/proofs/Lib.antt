@@ -1,3 +1,5 @@
 pub mod SoundLines
 pub mod Bounds
 pub mod Promise
+pub mod Longest
+pub mod Reached

@@ -44,7 +44,7 @@ code-new b c k = by-eq (λ (d : Bool). cond d (cond b (suc k) 0) c ≡ 0 → (c 
     out false z = refl
 
 -- what holds of each line holds of the lines with one changed
-change-each : (R : ℕ → Line → Type 0) (s : Lines) (q : ℕ) (f : Line → Line) → R q (f (s q)) → ((r : ℕ) → R r (s r))
+pub change-each : (R : ℕ → Line → Type 0) (s : Lines) (q : ℕ) (f : Line → Line) → R q (f (s q)) → ((r : ℕ) → R r (s r))
     → (r : ℕ) → R r (change s q f r)
 change-each R s q f x w r = by-eq (λ (d : Bool). R r (cond d (f (s r)) (s r))) r q (λ e. rw e x) (λ n. w r)
 
