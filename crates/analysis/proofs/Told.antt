@@ -18,6 +18,7 @@ use Rattle.equations.specs.HoldTimes.{holdAt}
 use Rattle.equations.specs.Blocking.{globalCount}
 use Rattle.equations.specs.Requirement.{asks, met, admitted}
 use Rattle.equations.specs.Questions.{taskNumber, sharingCode, useCode, processorCode, requirementCode}
+use Rattle.equations.proofs.Laws.{asks-not, asks-some}
 use Rattle.holds.specs.Holds.{Cells}
 use Rattle.requirements.specs.declared.Requirement.{Requirement}
 use Rattle.requirements.specs.Figures.{requirementOf}
@@ -163,16 +164,7 @@ requirement-told k r e = (e, ap requirementTold e ∙ go)
         (λ (b : Bool). requirementTold (cond b (requirements.Found r) (requirements.Refused k)) ≡ record { number = k; values = cond b (requirementValues r) [] })
         k 0 (λ q. rw q) (λ d. refl)
 
--- a task asks where it has a global section
 module _ (p : Plan) where
-  asks-not : (i : ℕ) {n : ℕ} → n ≡ globalCount p i → n ≡ 0 → asks p i ≡ false
-  unfolding asks
-  asks-not i e z = le-ltb 0 (globalCount p i) (omega arith)
-
-  asks-some : (i : ℕ) {n : ℕ} → n ≡ globalCount p i → (n ≡ 0 → ⊥) → asks p i ≡ true
-  unfolding asks
-  asks-some i e d = lt-ltb 0 (globalCount p i) (omega (arith, d))
-
   -- 11, 17 or neither
   pub no-task-asked : (tag : ℕ) → p .tasks ≤ taskNumber p tag → 11 ≡ requirementCode p tag
   unfolding requirementCode
@@ -180,19 +172,19 @@ module _ (p : Plan) where
 
   pub not-asked : (tag : ℕ) {i n : ℕ} → i ≡ taskNumber p tag → i < p .tasks → n ≡ globalCount p i → n ≡ 0 → 17 ≡ requirementCode p tag
   unfolding requirementCode
-  not-asked tag {i} t l e z = rw (← t, lt-ltb i (p .tasks) l, asks-not i e z)
+  not-asked tag {i} t l e z = rw (← t, lt-ltb i (p .tasks) l, asks-not p i e z)
 
   pub task-asked : (tag : ℕ) {i n : ℕ} → i ≡ taskNumber p tag → i < p .tasks → n ≡ globalCount p i → (n ≡ 0 → ⊥) → 0 ≡ requirementCode p tag
   unfolding requirementCode
-  task-asked tag {i} t l e d = rw (← t, lt-ltb i (p .tasks) l, asks-some i e d)
+  task-asked tag {i} t l e d = rw (← t, lt-ltb i (p .tasks) l, asks-some p i e d)
 
   -- a task that does not ask passes; one that asks where its requirement is met
   pub passes-idle : (i : ℕ) {n : ℕ} → n ≡ globalCount p i → n ≡ 0 → true ≡ (not (asks p i) || met p i)
-  passes-idle i e z = rw (asks-not i e z)
+  passes-idle i e z = rw (asks-not p i e z)
 
   pub passes-met : (i : ℕ) {n : ℕ} {r : Requirement} → n ≡ globalCount p i → (n ≡ 0 → ⊥) → r ≡ requirementOf p i → r .met ≡ (not (asks p i) || met p i)
   unfolding requirementOf
-  passes-met i e d h = rw (asks-some i e d, h)
+  passes-met i e d h = rw (asks-some p i e d, h)
 
 -- admission, refused and decided, and both things that its contract says
 module _ (f : List ℕ) where

@@ -11,6 +11,7 @@ use Rattle.plan.specs.Plan.{planOf}
 use Rattle.equations.specs.HoldTimes.{holdTime, holdAt}
 use Rattle.equations.specs.Requirement.{admitted}
 use Rattle.equations.specs.Questions.{taskNumber, useCode, processorCode, requirementCode}
+use Rattle.protocol.specs.Longest.{longestWait}
 use Rattle.requirements.specs.declared.Requirement.{Requirement}
 use Rattle.requirements.specs.Figures.{requirementOf}
 use Rattle.analysis.specs.declared.Figure.{Figure}
@@ -41,6 +42,10 @@ holdCode f tag q = afterReading f (useCode (planOf f) tag q)
 -- and the figure where none is refused
 abbrev pub holdFigure : List ℕ → ℕ → ℕ → ℕ
 holdFigure f tag q = holdTime (planOf f) (taskNumber (planOf f) tag) q
+
+-- the longest wait of the task with a tag for a resource: "Refusals as for a hold time"; and this is its figure
+abbrev pub longestFigure : List ℕ → ℕ → ℕ → ℕ
+longestFigure f tag q = longestWait (planOf f) (taskNumber (planOf f) tag) q
 
 -- the budget and the wait time of a processor on a resource
 unfoldable pub shareCode : List ℕ → ℕ → ℕ → ℕ

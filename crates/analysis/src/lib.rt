@@ -1,22 +1,24 @@
-// The questions about a plan file: hold time, budget, wait time, requirement and admission. Each takes any bytes and refuses by
+// The questions about a plan file: hold time, longest wait, budget, wait time, requirement and admission. Each takes any bytes and refuses by
 // number what it does not accept.
 use requirements::Requirement;
 ghost use mathlib.Core.Path.{_≡_};
 ghost use mathlib.Core.Bool.{cond, not, _||_};
 ghost use mathlib.Core.List.{[], _∷_};
 ghost use Prim.Native.Nat.{_<_};
+ghost use lib.ListN.{replicate};
 ghost use Rattle.plan.specs.Reading.{refusal, answered};
 ghost use Rattle.plan.specs.Plan.{planOf, Checked};
-ghost use Rattle.equations.specs.HoldTimes.{holdTime, holdAt, budget, waitTime};
+ghost use Rattle.equations.specs.HoldTimes.{holdAt, budget, waitTime};
 ghost use Rattle.equations.specs.Blocking.{globalCount, ceiling};
 ghost use Rattle.equations.specs.Requirement.{asks, met, admitted};
-ghost use Rattle.equations.specs.Questions.{taskNumber, sharingCode, useCode, processorCode, requirementCode};
+ghost use Rattle.equations.specs.Questions.{useCode, processorCode, requirementCode};
 ghost use Rattle.tables.specs.Tables.{Column, Globals, Tasks};
 ghost use Rattle.holds.specs.Holds.{Cells, Shares};
 ghost use Rattle.requirements.specs.Figures.{requirementOf};
-ghost use Rattle.analysis.specs.Answers.{figure, figureTold, holdCode, holdFigure, shareCode, requirementNumber, requirementFigures, requirementGiven, requirementValues, requirementTold, signedAnswered, admissionAnswer, admissionTold, holdTimes};
+ghost use Rattle.analysis.specs.Inner.{Found};
+ghost use Rattle.analysis.specs.Answers.{figure, figureTold, holdCode, holdFigure, longestFigure, shareCode, requirementNumber, requirementFigures, requirementGiven, requirementValues, requirementTold, signedAnswered, admissionAnswer, admissionTold, holdTimes};
 
-// A hold time, a budget or a wait time, or why none is given.
+// A hold time, a longest wait, a budget or a wait time, or why none is given.
 pub enum Figure {
     Given(u32),
     Refused(u8),
@@ -40,41 +42,49 @@ pub struct HoldTimes {
     pub refusal: u8,
 }
 
+// A task that was asked about, or why it has no figure.
+struct User {
+    code: u8,
+    task: usize,
+}
+
 // A processor's budget on a resource, and its wait time.
 struct BudgetAndWait {
     budget: u16,
     wait: u32,
 }
 
-// 13 and 14, or the hold time of resource q by task i.
-fn hold_of(file: &[u8], i: usize, q: u8) -> Figure
-    requires { ⌜ (Checked (now file)) × (i < planOf (now file) .tasks) × (q < planOf (now file) .resources) ⌝ }
-    ensures { λ r. ⌜ r ≡ figure (sharingCode (planOf (now (file .entry))) i q) (holdTime (planOf (now (file .entry))) i q) ⌝ }
-{
-    let mut holds = [0u16; 1024];
-    let mut budgets = [0u16; 128];
-    holds::hold_table(file, &mut holds, &mut budgets);
-    let hold = holds[i * 16 + folds::wide(q)];
-    if hold == 0 {
-        return Figure::Refused(holds::sharing_code(file, i, q));
-    }
-    Figure::Given(hold as u32)
-}
-
-// 11 and 12, then that.
-fn hold_question(file: &[u8], tag: u16, q: u8) -> Figure
-    requires { ⌜ Checked (now file) ⌝ }
-    ensures { λ r. ⌜ r ≡ figure (useCode (planOf (now (file .entry))) tag q) (holdTime (planOf (now (file .entry))) (taskNumber (planOf (now (file .entry))) tag) q) ⌝ }
+// 11 to 14, of a checked file, and the task with this tag; where none of them is given, the two tables hold the plan's figures.
+fn user_in(file: &[u8], tag: u16, q: u8, holds: &mut [u16], budgets: &mut [u16]) -> User
+    requires { ⌜ (Checked (now file)) × (now holds ≡ replicate 1024 0) × (now budgets ≡ replicate 128 0) ⌝ }
+    ensures { λ r. ⌜ Found (now (file .entry)) tag q (useCode (planOf (now (file .entry))) tag q) (now (holds .exit)) (now (budgets .exit)) r ⌝ }
 {
     let counts = plan::checked::counts(file);
-    let i = tables::task_number(file, tag);
-    if folds::wide(counts.tasks) <= i {
-        return Figure::Refused(11);
+    let task = tables::task_number(file, tag);
+    if folds::wide(counts.tasks) <= task {
+        return User { code: 11, task };
     }
     if counts.resources <= q {
-        return Figure::Refused(12);
+        return User { code: 12, task };
     }
-    hold_of(file, i, q)
+    holds::hold_table(file, holds, budgets);
+    if holds[task * 16 + folds::wide(q)] == 0 {
+        let code = holds::sharing_code(file, task, q);
+        return User { code, task };
+    }
+    User { code: 0, task }
+}
+
+// The same of any file: 1 to 9 first.
+fn user_of(file: &[u8], tag: u16, q: u8, holds: &mut [u16], budgets: &mut [u16]) -> User
+    requires { ⌜ (now holds ≡ replicate 1024 0) × (now budgets ≡ replicate 128 0) ⌝ }
+    ensures { λ r. ⌜ Found (now (file .entry)) tag q (holdCode (now (file .entry)) tag q) (now (holds .exit)) (now (budgets .exit)) r ⌝ }
+{
+    let code = plan::check(file);
+    if code != 0 {
+        return User { code, task: 0 };
+    }
+    user_in(file, tag, q, holds, budgets)
 }
 
 // The hold time of a resource by the task with this tag.
@@ -82,11 +92,28 @@ pub fn hold_time(file: &[u8], tag: u16, resource: u8) -> Figure
     ensures { λ r. ⌜ r ≡ figure (holdCode (now (file .entry)) tag resource) (holdFigure (now (file .entry)) tag resource) ⌝ }
     ensures { λ r. ⌜ figureTold r ≡ answered (holdCode (now (file .entry)) tag resource) (holdFigure (now (file .entry)) tag resource ∷ []) ⌝ }
 {
-    let code = plan::check(file);
-    if code != 0 {
-        return Figure::Refused(code);
+    let mut holds = [0u16; 1024];
+    let mut budgets = [0u16; 128];
+    let user = user_of(file, tag, resource, &mut holds, &mut budgets);
+    if user.code != 0 {
+        return Figure::Refused(user.code);
     }
-    hold_question(file, tag, resource)
+    Figure::Given(holds[user.task * 16 + folds::wide(resource)] as u32)
+}
+
+// The longest wait of the task with this tag for a resource: how long it can be kept waiting, whatever is called.
+pub fn longest_wait(file: &[u8], tag: u16, resource: u8) -> Figure
+    ensures { λ r. ⌜ r ≡ figure (holdCode (now (file .entry)) tag resource) (longestFigure (now (file .entry)) tag resource) ⌝ }
+    ensures { λ r. ⌜ figureTold r ≡ answered (holdCode (now (file .entry)) tag resource) (longestFigure (now (file .entry)) tag resource ∷ []) ⌝ }
+{
+    let mut holds = [0u16; 1024];
+    let mut budgets = [0u16; 128];
+    let user = user_of(file, tag, resource, &mut holds, &mut budgets);
+    if user.code != 0 {
+        return Figure::Refused(user.code);
+    }
+    let found = waits::longest_of(file, &holds, &budgets, user.task, folds::wide(resource));
+    Figure::Given(found.wait)
 }
 
 // Budget and wait time of processor k on resource q.

@@ -1,7 +1,7 @@
 -- The theorem of the table: the definitions compute what document 01 says.
 use mathlib.Core.Bool.{true}
 use mathlib.Core.Path.{_≡_, refl}
-use Rattle.folds.specs.Below.{anyBelow, countBelow, sumBelow, maxBelow, findBelow}
+use Rattle.folds.specs.Below.{anyBelow, countBelow, listBelow, sumBelow, maxBelow, findBelow}
 use Rattle.folds.specs.Words.{wordBelow}
 use Rattle.folds.specs.Signed.{greatestTo}
 use Rattle.equations.specs.Sharing.{uses, usedOn, global}
@@ -10,8 +10,9 @@ use Rattle.equations.specs.Blocking.{globalCount, countOn, ceiling, longestLoca
 use Rattle.equations.specs.Requirement.{demand, left, tolerance, slack, met}
 use Rattle.equations.specs.Questions.{taskNumber, useCode, sharingCode}
 use Rattle.protocol.specs.Machine.{busy, requestCode, releaseCode, step, answer}
-use Rattle.examples.specs.Table.{allHold, table, c1, c2, c3, c4, c5, c6, listing}
+use Rattle.protocol.specs.Longest.{fellows, longestWait}
+use Rattle.examples.specs.Table.{allHold, table, c1, c2, c3, c4, c5, c6, longest, listing}
 
 pub examples-hold : allHold table ≡ true
-unfolding allHold c1 c2 c3 c4 c5 c6 listing anyBelow countBelow sumBelow maxBelow findBelow wordBelow greatestTo uses usedOn global longestOn longestOff interference holdTime holdAt budget waitTime globalCount countOn ceiling longestLocal blocking1 longestGlobal blocking2 fellowHolds waitingOn waitingSide demand left tolerance slack met taskNumber useCode sharingCode busy requestCode releaseCode step answer
+unfolding allHold c1 c2 c3 c4 c5 c6 longest listing anyBelow countBelow listBelow sumBelow maxBelow findBelow wordBelow greatestTo uses usedOn global longestOn longestOff interference holdTime holdAt budget waitTime globalCount countOn ceiling longestLocal blocking1 longestGlobal blocking2 fellowHolds waitingOn waitingSide demand left tolerance slack met taskNumber useCode sharingCode busy requestCode releaseCode step answer fellows longestWait
 examples-hold = refl

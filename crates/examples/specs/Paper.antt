@@ -82,6 +82,11 @@ equal =
     planWith 2 1 (taskRow 0 1 2 50 5 ∷ taskRow 0 2 1 50 5 ∷ taskRow 1 3 1 50 5 ∷ [])
     (sectionRow 0 0 3 ∷ sectionRow 1 0 3 ∷ sectionRow 2 0 2 ∷ [])
 
+-- calls on it of which the second task waits as long as any task there can: the task of the other processor holds, the first task
+-- asks, the second asks behind it; when the first is granted, the other processor asks again. Up to the tick before the last
+abbrev pub toLast : List Call
+toLast = Request 3 0 ∷ Request 1 0 ∷ Request 2 0 ∷ Tick ∷ Tick ∷ Request 3 0 ∷ Tick ∷ Tick ∷ Tick ∷ Tick ∷ []
+
 -- the listing's plan: "2 processors, tasks of tag 10 (processor 0) and 20 (processor 1), resource "bus", sections of 2 and 3 ticks"
 abbrev pub bus : Plan
 bus = planWith 2 1 (taskRow 0 10 1 50 5 ∷ taskRow 1 20 1 50 5 ∷ []) (sectionRow 0 0 2 ∷ sectionRow 1 0 3 ∷ [])

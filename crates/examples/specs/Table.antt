@@ -1,4 +1,5 @@
--- The table of examples that document 01 wants proved of the definitions: C1 to C6 and the listing's seven calls.
+-- The table of examples that document 01 wants proved of the definitions: C1 to C6 and the listing's seven calls; and that the
+-- longest wait is reached.
 use Prim.Native.Nat.{ℕ, _*_}
 use mathlib.Core.Bool.{Bool, true, false, _&&_, cond}
 use mathlib.Core.List.{List, [], _∷_, _++_}
@@ -14,8 +15,9 @@ use Rattle.protocol.specs.declared.Call.the-variants.{Request, Release, Tick}
 use Rattle.protocol.specs.declared.Answer.{Answer}
 use Rattle.protocol.specs.declared.Answer.the-variants.{Granted, Waits, Next, Free, Ticked, Refused}
 use Rattle.protocol.specs.Machine.{Lines, fresh, step, answer, answerTold, run}
+use Rattle.protocol.specs.Longest.{longestWait}
 use Rattle.plan.specs.Plan.{Plan}
-use Rattle.examples.specs.Paper.{paper, toThree, toEleven, equal, bus, seven}
+use Rattle.examples.specs.Paper.{paper, toThree, toEleven, equal, toLast, bus, seven}
 
 -- a row: what the definitions give, and what document 01 says, both as integers
 pub record Row : Type 0 where
@@ -139,6 +141,21 @@ c6 rest =
     ∷ isTest (met (paper 61) 5) false
     ∷ rest
 
+-- The longest wait is reached. The paper's third task of P2 has two fellows on R1, with hold times 3 and 4, and P2's wait time is 10:
+-- 3 + 4 + 3 × 10. It is told just that where both are ahead of it. In the plan of C5 the second task is told 3 + 2 × 2, and is
+-- granted by the tick that fills it, not before
+unfoldable pub longest : List Row → List Row
+longest rest =
+    isNumber (longestWait (paper 61) 7 0) 37
+    ∷ areAnswers (answersFrom (paper 61) fresh (Request 2 0 ∷ Request 11 0 ∷ Request 12 0 ∷ Request 13 0 ∷ []))
+    (Granted ∷ Waits 0 10 ∷ Waits 1 23 ∷ Waits 2 37 ∷ [])
+    ∷ isNumber (longestWait equal 1 0) 7
+    ∷ areAnswers (answersFrom equal fresh (toLast ++ (Tick ∷ [])))
+    (Granted ∷ Waits 0 2 ∷ Waits 1 7 ∷ Ticked 0 0 ∷ Ticked 1 1 ∷ Waits 0 3 ∷ Ticked 0 0 ∷ Ticked 0 0 ∷ Ticked 1 1 ∷ Ticked 0 0 ∷ Ticked 1 1 ∷ [])
+    ∷ isTest (Rules.holds 1 (run equal toLast 0)) false
+    ∷ isTest (Rules.holds 1 (run equal (toLast ++ (Tick ∷ [])) 0)) true
+    ∷ rest
+
 -- the listing: "granted 20 bus", "waits 10 bus 0 3", "tick 0 0" twice, "tick 1 1", "refused 16", "released 10 bus free"
 unfoldable pub listing : List Row → List Row
 listing rest =
@@ -148,4 +165,4 @@ listing rest =
 
 -- the whole table
 abbrev pub table : List Row
-table = c1 (c2 (c3 (c4 (c5 (c6 (listing []))))))
+table = c1 (c2 (c3 (c4 (c5 (c6 (longest (listing [])))))))

@@ -1,4 +1,4 @@
--- The states that the operations return show the lines of the rules, whatever the calls; and demand 3.
+-- The states that the operations return show the lines of the rules, whatever the calls; demand 3, and the longest wait.
 use Prim.Native.Nat.{ℕ, _/_, _<_}
 use mathlib.Core.Bool.{Bool, true}
 use mathlib.Core.List.{List, [], _∷_, _++_}
@@ -8,17 +8,20 @@ use lib.ListN.{length, getD}
 use Rattle.folds.proofs.Arrays.{by-eq}
 use Rattle.plan.specs.Reading.{refusal}
 use Rattle.plan.specs.Plan.{Plan, planOf, Checked, Valid}
-use Rattle.plan.proofs.Laws.{valid-plan}
+use Rattle.plan.proofs.Laws.{valid-plan, tags-differ}
 use Rattle.protocol.specs.declared.Call.{Call}
+use Rattle.protocol.specs.declared.Call.the-variants.{Request}
 use Rattle.protocol.specs.Machine.{Lines, fresh, callCode, step, answer, run}
 use Rattle.protocol.proofs.Promise.{after-last, all-served}
+use Rattle.protocol.proofs.Longest.{waits-asked, never-more, never-longer}
+use Rattle.protocol.proofs.Reached.{each-reached}
 use Rattle.state.specs.declared.State.{State}
 use Rattle.state.specs.Shows.{freshState, shows}
 use Rattle.state.specs.Sound.{sound}
 use Rattle.state.proofs.FreshLaws.{fresh-sound, fresh-shows}
 use Rattle.state.proofs.One.{Shaped, one-state}
 use Rattle.machine.specs.Replies.{callRefusal, reply, Next}
-use Rattle.machine.specs.Promise.{Returned, started, called, Promise, Demand3, callsBelow, callsOf}
+use Rattle.machine.specs.Promise.{Returned, started, called, Promise, Demand3, LongestWait, callsBelow, callsOf}
 use Rattle.machine.proofs.Answered.{plan-refused}
 use Rattle.machine.proofs.Acting.{sound-answer}
 
@@ -78,6 +81,19 @@ demand-3 f k calls =
       waiting = all-served (planOf f) (valid-plan f k) calls;
       answers = λ before since c e s r. returned-answers f k before s c r;
       states = λ before since e s r. returned-shows f k before s r;
+    }
+
+-- the promise of the longest wait
+pub longest-wait : LongestWait
+longest-wait f k =
+    let p : Plan = planOf f in
+    let v : Valid p = valid-plan f k in
+    record {
+      told = λ calls s r tag q a m e.
+          let x = sym (returned-answers f k calls s (Request tag q) r) ∙ e in
+          (waits-asked p v (run p calls) tag q a m x, never-more p v calls tag q a m x .1);
+      kept = never-longer p v;
+      reached = each-reached p v (tags-differ f k);
     }
 
 -- what is known of the state once all calls in the bytes l were made

@@ -1,15 +1,19 @@
--- Demand 3, whole: one claim about a whole list of calls, from a fresh machine. Document 01, "The machine", last paragraph.
-use Prim.Native.Nat.{ℕ, zero, suc, _+_, _*_, _/_}
+-- Demand 3, whole: one claim about a whole list of calls, from a fresh machine. Document 01, "The machine", last paragraph. Beside
+-- it the promise of the longest wait.
+use Prim.Native.Nat.{ℕ, zero, suc, _+_, _*_, _/_, _≤_}
 use mathlib.Core.Bool.{true, cond, _&&_}
 use mathlib.Core.List.{List, [], _∷_, _++_}
 use mathlib.Core.Path.{_≡_}
 use lib.Dec.{eqb}
 use lib.ListN.{length, getD}
 use Rattle.plan.specs.Plan.{planOf, Checked}
+use Rattle.equations.specs.Questions.{taskNumber, useCode}
 use Rattle.protocol.specs.declared.Call.{Call}
 use Rattle.protocol.specs.declared.Call.the-variants.{Request, Release, Tick}
+use Rattle.protocol.specs.declared.Answer.the-variants.{Waits}
 use Rattle.protocol.specs.Machine.{answer, run}
 use Rattle.protocol.specs.Waiting.{Served}
+use Rattle.protocol.specs.Longest.{longestWait, NeverLonger, EachReached}
 use Rattle.state.specs.declared.State.{State}
 use Rattle.state.specs.Shows.{freshState, shows}
 use Rattle.state.specs.Sound.{sound}
@@ -37,6 +41,21 @@ pub record Promise (f : List ℕ) (calls : List Call) : Type 0 where
 -- Demand 3: for every plan file that is accepted and every list of calls
 abbrev pub Demand3 : Type 0
 Demand3 = (f : List ℕ) → Checked f → (calls : List Call) → Promise f calls
+
+-- The promise of the longest wait, which is asked of a plan file before any call is made
+pub record LongestKept (f : List ℕ) : Type 0 where
+  -- no request, on the state that any list of calls returned, is told more; and it is one of which the question is not refused
+  pub told : (calls : List Call) (s : State) → Returned f calls s
+      → (tag q ahead most : ℕ) → reply f s (Request tag q) ≡ Waits ahead most
+      → (useCode (planOf f) tag q ≡ 0) × (most ≤ longestWait (planOf f) (taskNumber (planOf f) tag) q)
+  -- so nobody who waits is kept longer
+  pub kept : (calls : List Call) → NeverLonger (planOf f) calls
+  -- and some list of calls leads to it, for each task and each global resource that it uses: no smaller figure would do
+  pub reached : EachReached (planOf f)
+
+-- for every plan file that is accepted
+abbrev pub LongestWait : Type 0
+LongestWait = (f : List ℕ) → Checked f → LongestKept f
 
 -- ── a list of calls as bytes ──
 

@@ -1,24 +1,62 @@
--- The number of the reading, then the answer of the checked plan.
-use mathlib.Core.Path.{sym, _∙_}
+-- The figure stands in the table, at the place of the task and the resource.
+use mathlib.Core.Path.{_≡_, sym, ap, _∙_}
+use native.Mathlib.Omega.{arith}
 use borrow.Author.Needs.{needs}
-use Rattle.analysis.specs.Answers.{holdCode}
-use Rattle.analysis.proofs.Told.{checked-file, reading-fails, reading-figure, figure-refused, figure-told}
+use Rattle.analysis.specs.Inner.{Uses}
+use Rattle.analysis.proofs.Told.{figure-given, figure-refused, figure-told}
+use Rattle.analysis.proofs.Users.{user-task, user-resource, user-hold, user-hold-high}
 use Rattle.analysis.proofs.hold_time.Statement.{statement}
 use Rattle.analysis.proofs.hold_time.Tie as tie
 
-check-requires : tie.Need-check-requires
-check-requires c κs = search needs
+slice-aggregate-user-of : tie.Need-slice-aggregate-user-of
+slice-aggregate-user-of c = search needs
+
+slice-aggregate-user-of-2 : tie.Need-slice-aggregate-user-of-2
+slice-aggregate-user-of-2 c = search needs
+
+user-of-requires : tie.Need-user-of-requires
+user-of-requires c κs = search needs
 
 returns : tie.Need-returns
-unfolding holdCode
-returns c = figure-told _ _ (figure-refused _ (reading-fails _ _ (c .before .check .ensures) (c .if1 .taken)) (c .if1 .taken))
+returns c = figure-told _ _ (figure-refused _ (c .before .before .before .before .user-of .ensures .code) (c .if1 .taken))
 
-hold-question-requires : tie.Need-hold-question-requires
-hold-question-requires c κs = checked-file _ (sym (c .before .check .ensures) ∙ c .if1 .left) (λ i. c .before .before .shared-slice-known .given i .fits)
+mul-t12 : tie.Need-mul-t12
+mul-t12 c = omega (arith, user-task (c .before .before .before .before .before .user-of .ensures .user (c .before .if1 .left)))
+
+wide-requires : tie.Need-wide-requires
+wide-requires c κs = search needs
+
+add-t14 : tie.Need-add-t14
+add-t14 c = omega (arith, user-task (c .before .before .before .before .before .before .user-of .ensures .user (c .before .before .if1 .left)))
+
+mul-t15 : tie.Need-mul-t15
+mul-t15 c = omega (arith, user-task (c .before .before .before .before .before .before .user-of .ensures .user (c .before .before .if1 .left)))
+
+array-read-t18 : tie.Need-array-read-t18
+array-read-t18 c =
+    let u = c .before .before .before .before .before .before .user-of .ensures .user (c .before .before .if1 .left) in
+    omega (arith, user-task u, user-resource u, c .wide .ensures .0)
+
+cast-t19 : tie.Need-cast-t19
+cast-t19 c = rw (c .wide .ensures .0) (omega (arith, user-hold-high (c .before .before .before .before .before .before .user-of .ensures .user (c .before .before .if1 .left))))
 
 returns-2 : tie.Need-returns-2
-unfolding holdCode
-returns-2 c = figure-told _ _ (reading-figure _ _ _ (c .before .before .check .ensures) (c .before .if1 .left) (c .hold-question .ensures))
+returns-2 c =
+    let f = c .before .before .before .before .before .before .user-of .ensures in
+    figure-told _ _ (figure-given (sym (c .before .before .if1 .left) ∙ f .code) (rw (c .wide .ensures .0) (user-hold (f .user (c .before .before .if1 .left)))))
 
 pub hold-time-spec : {M : Type 1} → statement M
-hold-time-spec = tie.close (tie.spec check-requires returns hold-question-requires returns-2)
+hold-time-spec =
+    tie.close
+    (tie.spec
+    slice-aggregate-user-of
+    slice-aggregate-user-of-2
+    user-of-requires
+    returns
+    mul-t12
+    wide-requires
+    add-t14
+    mul-t15
+    array-read-t18
+    cast-t19
+    returns-2)

@@ -1,0 +1,116 @@
+-- The task found and the counts decide 11 and 12; the table's figure tells whether the task shares the resource.
+use Prim.Native.Nat.{ℕ, _<_}
+use mathlib.Core.Path.{_≡_, sym, _∙_}
+use native.Mathlib.Omega.{arith}
+use borrow.Author.Needs.{needs}
+use lib.ListN.{getD}
+use Rattle.plan.specs.Plan.{Valid, planOf}
+use Rattle.plan.proofs.Laws.{valid-plan}
+use Rattle.equations.specs.HoldTimes.{holdAt}
+use Rattle.holds.specs.Holds.{cell}
+use Rattle.holds.proofs.Rows.{cell-at}
+use Rattle.analysis.proofs.Told.{no-task, no-resource-used}
+use Rattle.analysis.proofs.Users.{user-refused, user-unshared, user-found}
+use Rattle.analysis.proofs.user_in.Statement.{statement}
+use Rattle.analysis.proofs.user_in.Tie as tie
+
+abbrev start : tie.After-slice-known5 → tie.Start
+start c = c .before .before .before .before .before .before .before .before .before .before .before .before .before .before .before .before .before .before
+
+abbrev found : tie.After-slice-known5 → ℕ
+found c = c .before .before .before .before .before .before .before .before .before .before .before .before .before .task-number .result
+
+valid : (c : tie.After-slice-known5) → Valid (planOf (start c .args .file .now))
+valid c = valid-plan _ (start c .pre .0)
+
+below : (c : tie.After-slice-known5) → found c < planOf (start c .args .file .now) .tasks
+below c = omega arith
+
+resource : (c : tie.After-slice-known5) → start c .args .q < planOf (start c .args .file .now) .resources
+resource c = omega arith
+
+-- the table's figure is the plan's
+hold : (c : tie.After-slice-known5) → getD (c .before .before .before .before .before .before .hold-table .last .1 .0) (cell (found c) (c .before .wide2 .result)) 0 ≡ holdAt (planOf (start c .args .file .now)) (found c) (start c .args .q)
+hold c =
+    cell-at _ _ (c .before .before .before .before .before .before .hold-table .ensures .0) (c .before .wide2 .ensures .0) (omega (arith, valid c .tasks, below c)) (omega (arith, valid c .resources, resource c))
+
+counts-requires : tie.Need-counts-requires
+counts-requires c κs = search needs
+
+task-number-requires : tie.Need-task-number-requires
+task-number-requires c κs = search needs
+
+wide-requires : tie.Need-wide-requires
+wide-requires c κs = search needs
+
+returns : tie.Need-returns
+returns c = user-refused (no-task _ _ _ (omega arith)) (λ e. omega arith)
+
+returns-2 : tie.Need-returns-2
+returns-2 c = user-refused (no-resource-used _ _ _ (omega arith) (omega arith)) (λ e. omega arith)
+
+hold-table-requires : tie.Need-hold-table-requires
+hold-table-requires c κs = search needs
+
+mul-if3 : tie.Need-mul-if3
+mul-if3 c = search needs
+
+wide-requires-2 : tie.Need-wide-requires-2
+wide-requires-2 c κs = search needs
+
+add-if3 : tie.Need-add-if3
+add-if3 c = search needs
+
+mul-if3-2 : tie.Need-mul-if3-2
+mul-if3-2 c = search needs
+
+slice-read-if3 : tie.Need-slice-read-if3
+slice-read-if3 c = omega (arith, c .before .before .before .before .before .before .hold-table .ensures .0 .long, valid c .tasks, valid c .resources, below c, resource c, c .before .wide2 .ensures .0)
+
+sharing-code-requires : tie.Need-sharing-code-requires
+sharing-code-requires c κs = (start (c .before) .pre .0, below (c .before), sym (hold (c .before)) ∙ c .if3 .taken)
+
+same-length : tie.Need-same-length
+same-length c = search needs
+
+same-length-2 : tie.Need-same-length-2
+same-length-2 c = search needs
+
+returns-3 : tie.Need-returns-3
+returns-3 c =
+    let a = c .before .before in
+    user-unshared _ (start a .pre .0) _ _ _ (a .before .before .before .before .before .before .before .before .before .before .before .before .before .task-number .ensures) (below a) (resource a) (c .sharing-code .ensures .0) (c .sharing-code .ensures .1)
+
+same-length-3 : tie.Need-same-length-3
+same-length-3 c = search needs
+
+same-length-4 : tie.Need-same-length-4
+same-length-4 c = search needs
+
+returns-4 : tie.Need-returns-4
+returns-4 c =
+    let a = c .before in
+    user-found _ (start a .pre .0) _ _ _ (a .before .before .before .before .before .before .before .before .before .before .before .before .before .task-number .ensures) (below a) (resource a) (λ z. c .if3 .left (hold a ∙ z)) (a .before .before .before .before .before .before .hold-table .ensures .0) (a .before .before .before .before .before .before .hold-table .ensures .1)
+
+pub user-in-spec : {M : Type 1} → statement M
+user-in-spec =
+    tie.close
+    (tie.spec
+    counts-requires
+    task-number-requires
+    wide-requires
+    returns
+    returns-2
+    hold-table-requires
+    mul-if3
+    wide-requires-2
+    add-if3
+    mul-if3-2
+    slice-read-if3
+    sharing-code-requires
+    same-length
+    same-length-2
+    returns-3
+    same-length-3
+    same-length-4
+    returns-4)

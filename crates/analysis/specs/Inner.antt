@@ -1,0 +1,27 @@
+-- What the private functions of this crate give. None of this is a rule of document 01.
+use Prim.Native.Nat.{ℕ, _<_}
+use mathlib.Core.Bool.{true}
+use mathlib.Core.List.{List}
+use mathlib.Core.Path.{_≡_}
+use Rattle.plan.specs.Plan.{planOf, Checked}
+use Rattle.equations.specs.Sharing.{uses, global}
+use Rattle.equations.specs.HoldTimes.{holdAt}
+use Rattle.equations.specs.Questions.{taskNumber}
+use Rattle.holds.specs.Holds.{Cells, Shares}
+use Rattle.analysis.specs.declared.User.{User}
+
+-- task i of a checked plan uses q, which is global; the tables are those of the plan
+pub record Uses (f : List ℕ) (tag q : ℕ) (holds budgets : List ℕ) (i : ℕ) : Type 0 where
+  pub plan : Checked f
+  pub task : i ≡ taskNumber (planOf f) tag
+  pub below : i < planOf f .tasks
+  pub resource : q < planOf f .resources
+  pub used : uses (planOf f) i q ≡ true
+  pub shared : global (planOf f) q ≡ true
+  pub hold-times : Cells (holdAt (planOf f)) holds
+  pub shares : Shares (planOf f) budgets
+
+-- the number k of a question about a task and a resource; where that is 0, who is asked about
+pub record Found (f : List ℕ) (tag q k : ℕ) (holds budgets : List ℕ) (r : User) : Type 0 where
+  pub code : r .code ≡ k
+  pub user : r .code ≡ 0 → Uses f tag q holds budgets (r .task)

@@ -1,0 +1,80 @@
+-- The fellows of a task, told by the table of hold times: who is of its processor and holds the resource for some time.
+use Prim.Native.Nat.{ℕ, _+_, _*_, _≤_, _<_}
+use mathlib.Core.Bool.{Bool, true, false, cond, _&&_, not}
+use mathlib.Core.Path.{_≡_, refl, sym, ap, _∙_}
+use native.Mathlib.Omega.{arith}
+use native.Mathlib.Nat.{mul-le-mul}
+use lib.Dec.{eqb}
+use lib.ListN.{length}
+use mir.Val.{boolByte}
+use Rattle.folds.specs.Below.{countBelow, sumBelow}
+use Rattle.folds.proofs.Tests.{byte-count, byte-le}
+use Rattle.folds.proofs.Figures.{count-step, sum-step}
+use Rattle.folds.proofs.Ranges.{cond-bound}
+use Rattle.plan.specs.Plan.{Plan, Valid}
+use Rattle.equations.specs.Sharing.{processorOf, uses, global}
+use Rattle.equations.specs.HoldTimes.{holdTime, holdAt, fellow, waitTime}
+use Rattle.equations.specs.Blocking.{fellowHolds}
+use Rattle.equations.proofs.Laws.{hold-high, hold-zero, fellow-high}
+use Rattle.protocol.specs.Longest.{fellows, longestWait}
+use Rattle.protocol.proofs.Longest.{fellow-hold, fellows-count, longest-figures}
+
+not-not : (b : Bool) → not (not b) ≡ b
+not-not true = refl
+not-not false = refl
+
+-- the fellows below j, counted and with their hold times added up
+pub record Counted (p : Plan) (i q j count sum : ℕ) : Type 0 where
+  pub few : count ≤ j
+  pub low : sum ≤ j * 65535
+  pub counted : count ≡ countBelow j (fellow p i q)
+  pub added : sum ≡ sumBelow j (λ x. cond (fellow p i q x) (holdTime p x q) 0)
+
+pub counted-none : (p : Plan) (i q : ℕ) → Counted p i q 0 0 0
+unfolding countBelow sumBelow
+counted-none p i q = record { few = omega arith; low = omega arith; counted = refl; added = refl }
+
+module _ (p : Plan) (v : Valid p) (i q : ℕ) (g : global p q ≡ true) where
+  -- the test that is made of task j
+  fellow-test : (j : ℕ) → ((eqb (processorOf p j) (processorOf p i) && not (eqb (holdAt p j q) 0)) && not (eqb j i)) ≡ fellow p i q j
+  fellow-test j = rw (hold-zero p v j q, g, not-not) refl
+
+  hold-most : (j : ℕ) → holdAt p j q ≤ 65000
+  unfolding holdAt
+  hold-most j = cond-bound (global p q && uses p j q) (holdTime p j q) 65000 (λ _. hold-high p v j q)
+
+  -- one more task, of processor m and with this hold time
+  pub counted-more : {j count sum : ℕ} (hold m k t : ℕ) → Counted p i q j count sum → hold ≡ holdAt p j q
+      → m ≡ processorOf p j → k ≡ processorOf p i
+      → t ≡ cond ((eqb m k && not (eqb hold 0)) && not (eqb j i)) hold 0
+      → Counted p i q (j + 1) (count + boolByte ((eqb m k && not (eqb hold 0)) && not (eqb j i))) (sum + t)
+  counted-more {j} {count} {sum} hold m k t w eh em ek et =
+      let on : Bool = (eqb m k && not (eqb hold 0)) && not (eqb j i) in
+      let e : on ≡ fellow p i q j = rw (eh, em, ek) (fellow-test j) in
+      let s : t ≡ cond (fellow p i q j) (holdTime p j q) 0 = et ∙ ap (λ (b : Bool). cond b hold 0) e ∙ rw eh (fellow-hold p i q j g) in
+      record {
+        few = omega (arith, w .few, byte-le on);
+        low = omega (arith, w .low, cond-bound on hold 65535 (λ _. omega (arith, eh, hold-most j)), et);
+        counted = count-step j (fellow p i q) (w .counted) (byte-count on ∙ ap (λ (b : Bool). cond b 1 0) e);
+        added = sum-step j (λ x. cond (fellow p i q x) (holdTime p x q) 0) (w .added) s;
+      }
+
+  -- all tasks
+  pub counted-all : {n count sum : ℕ} → n ≡ p .tasks → Counted p i q n count sum
+      → (count ≡ length (fellows p i q)) × (sum ≡ fellowHolds p i q) × (count ≤ 64) × (sum ≤ 4160000)
+  unfolding fellowHolds
+  counted-all {n} {count} {sum} e w =
+      let c : count ≡ countBelow (p .tasks) (fellow p i q) = w .counted ∙ ap (λ (m : ℕ). countBelow m (fellow p i q)) e in
+      let s : sum ≡ fellowHolds p i q = w .added ∙ ap (λ (m : ℕ). sumBelow m (λ x. cond (fellow p i q x) (holdTime p x q) 0)) e in
+      (c ∙ sym (fellows-count p i q), s, omega (arith, w .few, e, v .tasks), omega (arith, s, fellow-high p v i q))
+
+  -- the longest wait from these, and that it and its parts fit 32 bits
+  pub longest-made : (count holds wait : ℕ) → count ≡ length (fellows p i q) → holds ≡ fellowHolds p i q → wait ≡ waitTime p (processorOf p i) q
+      → holds + (count + 1) * wait ≡ longestWait p i q
+  longest-made count holds wait ec eh ew = rw (ec, eh, ew) (sym (longest-figures p i q g))
+
+  pub longest-fits : (count holds wait : ℕ) → count ≤ 64 → holds ≤ 4160000 → wait ≤ 524280
+      → ((count + 1) * wait < 4294967296) × (holds + (count + 1) * wait < 4294967296)
+  longest-fits count holds wait lc lh lw =
+      let m : (count + 1) * wait ≤ 65 * 524280 = mul-le-mul {n₁ = count + 1} {n₂ = 65} (omega arith) lw in
+      (omega (arith, m), omega (arith, m))

@@ -1,0 +1,123 @@
+-- The invariant: the fellows below j are counted, and their hold times added up.
+use Prim.Native.Nat.{_+_, _*_, _≤_, _-_}
+use mathlib.Core.Bool.{_&&_, not}
+use mathlib.Core.Path.{_≡_, sym, ap, _∙_}
+use native.Mathlib.Omega.{arith}
+use borrow.Author.Needs.{needs}
+use lib.Dec.{eqb}
+use lib.ListN.{getD}
+use Rattle.folds.proofs.Tests.{byte-le}
+use Rattle.rows.specs.declared.TaskRow.{TaskRow}
+use Rattle.plan.specs.Plan.{planOf}
+use Rattle.plan.proofs.Laws.{valid-plan}
+use Rattle.equations.specs.Sharing.{processorOf}
+use Rattle.waits.proofs.Counting.{Counted, counted-none, counted-more, counted-all}
+use Rattle.waits.proofs.fellows_of.Statement.{statement}
+use Rattle.waits.proofs.fellows_of.Tie as tie
+
+abbrev Inv-loop : tie.InvT-loop
+Inv-loop file holds i q n k count₀ sum₀ j₀ count sum j =
+    (j ≤ n) × (n ≡ planOf file .tasks) × (n ≤ 64) × (k ≡ processorOf (planOf file) i) × Counted (planOf file) i q j count sum
+
+abbrev μ-loop : tie.MeasureT-loop
+μ-loop file holds i q n k count₀ sum₀ j₀ count sum j = n - j
+
+counts-requires : tie.Need-counts-requires Inv-loop μ-loop
+counts-requires c κs = c .before .before .pre .0
+
+wide-requires : tie.Need-wide-requires Inv-loop μ-loop
+wide-requires c κs = tt
+
+task-requires : tie.Need-task-requires Inv-loop μ-loop
+task-requires c κs = (c .before .before .before .before .pre .0, c .before .before .before .before .pre .2)
+
+loop-holds : tie.Need-loop-holds Inv-loop μ-loop
+loop-holds c =
+    let a = c .before .before .before .before .before in
+    let e = c .before .wide .ensures .0 ∙ c .before .before .counts .ensures .1 in
+    (omega arith, e, omega (arith, e, valid-plan _ (a .pre .0) .tasks), ap (λ (r : TaskRow). r .processor) (c .task .ensures), counted-none _ _ _)
+
+task-requires-2 : tie.Need-task-requires-2 Inv-loop μ-loop
+task-requires-2 c κs = (c .before .before .before .before .before .before .before .pre .0, omega arith)
+
+mul-hold : tie.Need-mul-hold Inv-loop μ-loop
+mul-hold c = omega arith
+
+add-hold : tie.Need-add-hold Inv-loop μ-loop
+add-hold c = omega (arith, c .before .before .before .before .before .before .before .before .pre .3)
+
+mul-hold-2 : tie.Need-mul-hold-2 Inv-loop μ-loop
+mul-hold-2 c = omega (arith, c .before .before .before .before .before .before .before .before .pre .3)
+
+shared-slice-read-hold : tie.Need-shared-slice-read-hold Inv-loop μ-loop
+shared-slice-read-hold c = omega (arith, c .before .before .before .before .before .before .before .before .before .pre .1 .long, c .before .before .before .before .before .before .before .before .before .pre .3)
+
+cast-count : tie.Need-cast-count Inv-loop μ-loop
+cast-count c = search needs
+
+add-count : tie.Need-add-count Inv-loop μ-loop
+add-count c =
+    let l = c .before .before .before .before .loop in
+    let a = c .before .before .before .before .before .before .before .before .before .before .args in
+    let hold = getD (a .holds .now) (l .j * 16 + a .q) 0 in
+    let on = (eqb (c .before .before .task2 .result .processor) (c .before .before .before .before .before .task .result .processor) && not (eqb hold 0)) && not (eqb (l .j) (a .i)) in
+    omega (arith, l .inv .4 .few, byte-le on)
+
+chosen-requires : tie.Need-chosen-requires Inv-loop μ-loop
+chosen-requires c κs = tt
+
+cast-sum : tie.Need-cast-sum Inv-loop μ-loop
+cast-sum c = search needs
+
+add-sum : tie.Need-add-sum Inv-loop μ-loop
+add-sum c = search needs
+
+add-j : tie.Need-add-j Inv-loop μ-loop
+add-j c = omega arith
+
+loop-less : tie.Need-loop-less Inv-loop μ-loop
+loop-less c = omega arith
+
+loop-again : tie.Need-loop-again Inv-loop μ-loop
+loop-again c =
+    let l = c .before .before .before .before .before .loop in
+    let a = c .before .before .before .before .before .before .before .before .before .before .before in (
+      omega arith,
+      l .inv .1,
+      l .inv .2,
+      l .inv .3,
+      counted-more (planOf (a .args .file .now)) (valid-plan _ (a .pre .0)) (a .args .i) (a .args .q) (a .pre .4)
+          (getD (a .args .holds .now) (l .j * 16 + a .args .q) 0) (c .before .before .before .task2 .result .processor) (c .before .before .before .before .before .before .task .result .processor) (c .chosen .result) (l .inv .4)
+          (a .pre .1 .at (l .j) (a .args .q) (omega arith) (a .pre .3)) (ap (λ (r : TaskRow). r .processor) (c .before .before .before .task2 .ensures)) (l .inv .3) (c .chosen .ensures),
+    )
+
+returns : tie.Need-returns Inv-loop μ-loop
+returns c =
+    let l = c .before .loop in
+    let a = c .before .before .before .before .before .before .before in
+    counted-all (planOf (a .args .file .now)) (valid-plan _ (a .pre .0)) (a .args .i) (a .args .q) (a .pre .4) (let e : l .j ≡ planOf (a .args .file .now) .tasks = omega arith in e) (l .inv .4)
+
+pub fellows-of-spec : {M : Type 1} → statement M
+fellows-of-spec =
+    tie.close
+    (tie.spec
+    Inv-loop
+    μ-loop
+    counts-requires
+    wide-requires
+    task-requires
+    loop-holds
+    task-requires-2
+    mul-hold
+    add-hold
+    mul-hold-2
+    shared-slice-read-hold
+    cast-count
+    add-count
+    chosen-requires
+    cast-sum
+    add-sum
+    add-j
+    loop-less
+    loop-again
+    returns)

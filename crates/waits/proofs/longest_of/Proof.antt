@@ -1,0 +1,58 @@
+-- The limit's formula over the figures of the fellows.
+use mathlib.Core.Path.{_≡_, ap, _∙_}
+use borrow.Author.Needs.{needs}
+use Rattle.rows.specs.declared.TaskRow.{TaskRow}
+use Rattle.plan.specs.Plan.{planOf}
+use Rattle.plan.proofs.Laws.{valid-plan}
+use Rattle.equations.specs.HoldTimes.{waitTime}
+use Rattle.waits.proofs.Counting.{longest-made, longest-fits}
+use Rattle.waits.proofs.longest_of.Statement.{statement}
+use Rattle.waits.proofs.longest_of.Tie as tie
+
+task-requires : tie.Need-task-requires
+task-requires c κs = search needs
+
+wait-in-requires : tie.Need-wait-in-requires
+wait-in-requires c κs = search needs
+
+fellows-of-requires : tie.Need-fellows-of-requires
+fellows-of-requires c κs = search needs
+
+cast-t10 : tie.Need-cast-t10
+cast-t10 c = search needs
+
+add-t11 : tie.Need-add-t11
+add-t11 c = search needs
+
+mul-t12 : tie.Need-mul-t12
+mul-t12 c =
+    let a = c .before .before .before .before .before .before in
+    record { fits = longest-fits (planOf (a .args .file .now)) (valid-plan _ (a .pre .0)) (a .args .i) (a .args .q) (a .pre .5) (c .fellows-of .result .count) (c .fellows-of .result .holds) (c .before .wait-in .result) (c .fellows-of .ensures .2) (c .fellows-of .ensures .3) (c .before .wait-in .ensures .1) .0 }
+
+add-t13 : tie.Need-add-t13
+add-t13 c =
+    let a = c .before .before .before .before .before .before .before in
+    record { fits = longest-fits (planOf (a .args .file .now)) (valid-plan _ (a .pre .0)) (a .args .i) (a .args .q) (a .pre .5) (c .before .fellows-of .result .count) (c .before .fellows-of .result .holds) (c .before .before .wait-in .result) (c .before .fellows-of .ensures .2) (c .before .fellows-of .ensures .3) (c .before .before .wait-in .ensures .1) .1 }
+
+returns : tie.Need-returns
+returns c =
+    let a = c .before .before .before .before .before .before .before in
+    let p = planOf (a .args .file .now) in (
+      c .before .fellows-of .ensures .0,
+      longest-made p (valid-plan _ (a .pre .0)) (a .args .i) (a .args .q) (a .pre .5) (c .before .fellows-of .result .count) (c .before .fellows-of .result .holds) (c .before .before .wait-in .result)
+          (c .before .fellows-of .ensures .0) (c .before .fellows-of .ensures .1)
+          (c .before .before .wait-in .ensures .0 ∙ ap (λ (r : TaskRow). waitTime p (r .processor) (a .args .q)) (c .before .before .before .task .ensures)),
+    )
+
+pub longest-of-spec : {M : Type 1} → statement M
+longest-of-spec =
+    tie.close
+    (tie.spec
+    task-requires
+    wait-in-requires
+    fellows-of-requires
+    cast-t10
+    add-t11
+    mul-t12
+    add-t13
+    returns)
