@@ -5,7 +5,6 @@ use libc::STDOUT_FILENO;
 use plan::ReadAnswer;
 use state::State;
 ghost use Prim.Native.Nat.{_-_, _≤_};
-ghost use mathlib.Core.Path.{_≡_};
 ghost use lib.ListN.{length};
 
 // What came of some calls: how many of their bytes were made, whether all lines could be written, and the state.
@@ -13,23 +12,6 @@ struct Served {
     used: usize,
     written: bool,
     state: State,
-}
-
-// Reads the plan to the front of the buffer: as many bytes as its header says, or as many as there are. The whole buffer is as long
-// as the longest plan that a header can tell of.
-fn read_plan(buf: &mut [u8]) -> usize
-    requires { ⌜ length (now buf) ≡ 65536 ⌝ }
-    ensures { λ r. ⌜ r ≤ 65536 ⌝ }
-{
-    let head = io::read_full(STDIN_FILENO, &mut buf[0..16]);
-    if head < 16 {
-        return head;
-    }
-    let end = plan::plan_length(buf);
-    if end <= 16 {
-        return end;
-    }
-    16 + io::read_full(STDIN_FILENO, &mut buf[16..end])
 }
 
 // "refused N".
@@ -126,9 +108,9 @@ fn serve_all(file: &[u8]) {
 }
 
 fn main() {
-    let mut input = io::large_buffer();
-    let end = read_plan(&mut input);
-    let file = &input[0..end];
+    let mut buf = io::large_buffer();
+    let end = input::read_plan(&mut buf);
+    let file = &buf[0..end];
     let found = plan::read(file);
     let answer = found.answer;
     let ReadAnswer::Accepted(counts) = answer else {

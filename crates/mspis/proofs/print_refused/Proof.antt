@@ -1,10 +1,7 @@
 -- The line fits into its buffer.
-use mathlib.Core.Path.{ap}
 use native.Mathlib.Omega.{arith}
 use borrow.Author.Needs.{needs}
-use Rattle.transcript.specs.declared.Line.{Line}
-use Rattle.wording.specs.Lines.{refusedLine}
-use Rattle.transcript.proofs.Buffers.{line-fits}
+use Rattle.text.proofs.Lines.{line-fits}
 use Rattle.mspis.proofs.print_refused.Statement.{statement}
 use Rattle.mspis.proofs.print_refused.Tie as tie
 
@@ -21,7 +18,7 @@ part-write-all-start : tie.Need-part-write-all-start
 part-write-all-start c = search needs
 
 part-write-all-end : tie.Need-part-write-all-end
-part-write-all-end c = omega (arith, ap (λ (x : Line). x .length) (c .before .before .refused-line .ensures .0), line-fits (refusedLine (c .before .before .before .before .args .number)) 96)
+part-write-all-end c = omega (arith, line-fits _ _ (c .before .before .refused-line .ensures .0))
 
 write-all-requires : tie.Need-write-all-requires
 write-all-requires c κs = search needs
