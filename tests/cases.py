@@ -6,6 +6,7 @@ import analysis_cases
 import machine_cases
 import plan_cases
 import print_cases
+import sheet_cases
 import state_cases
 
 
@@ -18,6 +19,7 @@ def record(kind, label, body):
 
 def main():
     cases = plan_cases.cases() + analysis_cases.cases() + machine_cases.cases() + state_cases.cases() + print_cases.cases()
+    cases += sheet_cases.cases()
     labels = [label for _, label, _, _ in cases]
     repeated = sorted({label for label in labels if labels.count(label) > 1})
     if repeated:

@@ -1,4 +1,4 @@
-"""The machine in document 01's words: a second look at the results in machine_cases.py.
+"""The analysis and the machine in document 01's words: a second look at the results in machine_cases.py and sheet_cases.py.
 
 A line is what is kept of one resource: the turns, each a processor with its tasks in line, the hold left and the budget left.
 """
@@ -11,6 +11,10 @@ class Line:
     turns: list = field(default_factory=list)
     hold: int = 0
     budget: int = 0
+
+
+def ceiling(a, b):
+    return -(-a // b)
 
 
 class Machine:
@@ -33,11 +37,23 @@ class Machine:
         return len({self.processor(s.task) for s in self.plan.sections if s.resource == q}) > 1
 
     @cache
-    def hold_time(self, i, q):
+    def higher(self, i):
         own = self.plan.tasks[i]
-        higher = [j for j, t in enumerate(self.plan.tasks) if t.processor == own.processor and t.priority > own.priority]
-        others = [r for r in range(len(self.plan.names)) if r != q and self.is_global(r)]
-        return self.longest(i, q) + sum(max((self.longest(j, r) for r in others), default=0) for j in higher)
+        return [j for j, t in enumerate(self.plan.tasks) if t.processor == own.processor and t.priority > own.priority]
+
+    @cache
+    def lower(self, i):
+        return [j for j in range(len(self.plan.tasks)) if i in self.higher(j)]
+
+    @cache
+    def shared(self):
+        """The global resources."""
+        return [q for q in range(len(self.plan.names)) if self.is_global(q)]
+
+    @cache
+    def hold_time(self, i, q):
+        others = [r for r in self.shared() if r != q]
+        return self.longest(i, q) + sum(max((self.longest(j, r) for r in others), default=0) for j in self.higher(i))
 
     @cache
     def budget(self, k, q):
@@ -46,6 +62,56 @@ class Machine:
 
     def wait_time(self, k, q):
         return sum(self.budget(j, q) for j in range(self.plan.processors) if j != k)
+
+    def limit(self, i, q, ahead):
+        """What task i is told with these tasks of its processor ahead."""
+        return sum(self.hold_time(j, q) for j in ahead) + (len(ahead) + 1) * self.wait_time(self.processor(i), q)
+
+    def fellows(self, i, q):
+        """The other tasks of its processor that declare q."""
+        return [j for j in range(len(self.plan.tasks)) if j != i and self.processor(j) == self.processor(i) and self.longest(j, q)]
+
+    def longest_wait(self, i, q):
+        return self.limit(i, q, self.fellows(i, q))
+
+    @cache
+    def count(self, i, q):
+        return len([s for s in self.plan.sections if (s.task, s.resource) == (i, q)])
+
+    @cache
+    def global_count(self, i):
+        return sum(self.count(i, q) for q in self.shared())
+
+    def blocking1(self, i):
+        lengths = [0]
+        for q in set(range(len(self.plan.names))) - set(self.shared()):
+            users = [t.priority for j, t in enumerate(self.plan.tasks) if self.longest(j, q)]
+            if users and max(users) >= self.plan.tasks[i].priority:
+                lengths += [self.longest(j, q) for j in self.lower(i)]
+        return (self.global_count(i) + 1) * max(lengths)
+
+    def blocking2(self, i):
+        most = self.global_count(i) + 1
+        longest = {j: max((self.longest(j, q) for q in self.shared()), default=0) for j in self.lower(i)}
+        return sum(min(most, self.global_count(j)) * longest[j] for j in self.lower(i))
+
+    def side(self, i):
+        k, found = self.processor(i), 0
+        for q in self.shared():
+            if self.longest(i, q):
+                holds = sum(self.hold_time(j, q) for j in self.fellows(i, q))
+                found += self.count(i, q) * ceiling(2 * holds, self.budget(k, q)) * self.wait_time(k, q)
+        return found
+
+    def tolerance(self, i):
+        own, higher = self.plan.tasks[i], [self.plan.tasks[j] for j in self.higher(i)]
+        return max(t - own.execution - sum(ceiling(t, j.period) * j.execution for j in higher) for t in range(1, own.period + 1))
+
+    def requirement(self, i):
+        """B1, B2, tolerance, slack, waiting side and whether it is met."""
+        blocking1, blocking2, tolerance, side = self.blocking1(i), self.blocking2(i), self.tolerance(i), self.side(i)
+        slack = tolerance - blocking1 - blocking2
+        return blocking1, blocking2, tolerance, slack, side, side <= slack
 
     # ---- the lines ----
 
@@ -103,8 +169,7 @@ class Machine:
         if free:
             self.begin(q)
             return "granted"
-        limit = sum(self.hold_time(j, q) for j in ahead) + (len(ahead) + 1) * self.wait_time(self.processor(i), q)
-        return f"waits {len(ahead)} {limit}"
+        return f"waits {len(ahead)} {self.limit(i, q, ahead)}"
 
     def release(self, i, q):
         if self.holder(q) != i:
@@ -187,3 +252,23 @@ def loaded(plan, image):
         if not in_bounds(machine, machine.lines[q], q):
             return None
     return machine
+
+
+# ---- the sheet ----
+
+
+def sheet(plan):
+    """The lines of a plan's datasheet."""
+    m, names = Machine(plan), [name.decode("ascii") for name in plan.names]
+    tags = [t.tag for t in plan.tasks]
+    lines = [f"plan {plan.processors} {len(tags)} {len(names)} {len(plan.sections)}"]
+    lines += [f"resource {name} {'global' if m.is_global(q) else 'local'}" for q, name in enumerate(names)]
+    for k in range(plan.processors):
+        lines += [f"budget {k} {names[q]} {m.budget(k, q)} {m.wait_time(k, q)}" for q in m.shared() if m.budget(k, q)]
+    for i, tag in enumerate(tags):
+        lines += [f"hold {tag} {names[q]} {m.hold_time(i, q)} {len(m.fellows(i, q))} {m.longest_wait(i, q)}"
+                  for q in m.shared() if m.longest(i, q)]
+    found = {i: m.requirement(i) for i in range(len(tags)) if m.global_count(i)}
+    for i, (*figures, met) in found.items():
+        lines.append(" ".join(["requirement", *map(str, [tags[i], *figures]), "met" if met else "unmet"]))
+    return lines + ["admitted yes" if all(met for *_, met in found.values()) else "admitted no"]

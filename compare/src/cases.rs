@@ -8,16 +8,18 @@ use peer::calls::{PLAIN, TUNED};
 use std::path::Path;
 
 /// The kinds, and how many cases of each are made.
-const KINDS: [(u8, &str, usize); 13] = [
+const KINDS: [(u8, &str, usize); 15] = [
     (b'R', "readings", 20_000),
     (b'N', "names", 4_000),
     (b'W', "writings", 6_000),
     (b'H', "hold times", 8_000),
+    (b'G', "longest waits", 8_000),
     (b'B', "budgets", 6_000),
     (b'T', "wait times", 6_000),
     (b'Q', "requirements", 6_000),
     (b'A', "admissions", 3_000),
     (b'L', "all hold times", 3_000),
+    (b'D', "sheets", 4_000),
     (b'M', "lists", 3_000),
     (b'P', "lists with their lines", 3_000),
     (b'S', "calls on a state", 20_000),
@@ -42,7 +44,7 @@ fn batch((kind, what, start): (u8, &str, usize), proved: &Path) -> Found {
         .map(|(number, case)| record(kind, *number, case));
     let records: Vec<_> = records.collect();
     let output = run(proved, &records.concat(), usize::MAX);
-    let mut lines = output.split_inclusive(|&b| b == b'\n');
+    let mut lines = by_case(&output);
     let machine = if (start / BATCH).is_multiple_of(BY_PLAIN) {
         PLAIN
     } else {
@@ -65,6 +67,11 @@ fn batch((kind, what, start): (u8, &str, usize), proved: &Path) -> Found {
     found
 }
 
+/// What is printed for each case: a line that begins with its number, and with some those of a sheet, which begin with a word.
+fn by_case(output: &[u8]) -> impl Iterator<Item = &[u8]> {
+    output.chunk_by(|&end, &start| !(end == b'\n' && start.is_ascii_digit()))
+}
+
 /// The answers of a line, behind its label: one, or those of a list, each with a state behind it or not.
 fn put_answers(met: &mut Met, line: &str) {
     let answers = line.trim_end().split_once(": ");
@@ -82,7 +89,7 @@ fn watch_line((number, case): (usize, &[u8]), record: &[u8], line: &[u8], found:
             at: String::new(),
             input: record.to_vec(),
             proved: error,
-            peer: "the document's limit".to_string(),
+            peer: "the document's limits".to_string(),
         }),
     }
 }

@@ -4,7 +4,7 @@ use compare::damage::maybe_broken;
 use compare::lists::{Habits, Maker, GREEDY};
 use compare::plans::{self, Size};
 use compare::random::Random;
-use peer::cases::{state_bytes, ROOM};
+use peer::cases::{state_bytes, ROOM, SHEET_ROOM};
 use peer::{Plan, MAX_RESOURCES, MAX_SECTIONS, MAX_TASKS};
 
 /// A record: its length, the kind, the label with its length before it, and the case.
@@ -25,6 +25,7 @@ pub fn case(kind: u8, number: usize) -> Vec<u8> {
         b'V' => watched(random),
         b'P' => printing(random),
         b'S' => calling(random),
+        b'D' => sheet(random),
         _ => asking(kind, random),
     }
 }
@@ -53,14 +54,19 @@ fn who(plan: &Plan, random: &mut Random) -> (u16, u8) {
     (tag, resource)
 }
 
-/// A question about a plan. Only smaller plans are asked about requirements, whose tolerance takes a look at each instant.
+/// Only smaller plans are asked about requirements, whose tolerance takes a look at each instant.
+fn smaller(random: &mut Random) -> Size {
+    match random.below(8) {
+        0..=4 => Size::mixed(random),
+        5..=6 => Size::tiny(random),
+        _ => Size::crowded(random),
+    }
+}
+
+/// A question about a plan.
 fn asking(kind: u8, random: &mut Random) -> Vec<u8> {
     let size = match kind {
-        b'Q' | b'A' => match random.below(8) {
-            0..=4 => Size::mixed(random),
-            5..=6 => Size::tiny(random),
-            _ => Size::crowded(random),
-        },
+        b'Q' | b'A' => smaller(random),
         _ => Size::some(random),
     };
     let good = plans::some(size, random);
@@ -71,12 +77,27 @@ fn asking(kind: u8, random: &mut Random) -> Vec<u8> {
     let [low, high] = tag.to_le_bytes();
     let question = match kind {
         b'N' => vec![resource],
-        b'H' => vec![low, high, resource],
+        b'H' | b'G' => vec![low, high, resource],
         b'B' | b'T' => vec![processor, resource],
         b'Q' => vec![low, high],
         _ => vec![],
     };
     [question, file].concat()
+}
+
+/// A sheet and the room for it, which now and then is about as long as the sheet.
+fn sheet(random: &mut Random) -> Vec<u8> {
+    let file = maybe_broken(plans::unhurried(smaller(random), random), 8, random);
+    let length = peer::sheet::sheet(&file).len();
+    let room = match random.below(8) {
+        0 => random.below(length),
+        1 => length - 1,
+        2 => length,
+        3 => length + 1,
+        4 => u32::MAX as usize,
+        _ => SHEET_ROOM,
+    };
+    [&(room as u32).to_le_bytes()[..], &file].concat()
 }
 
 fn after_length(file: &[u8], rest: &[u8]) -> Vec<u8> {

@@ -4,6 +4,7 @@ mod cases;
 mod given;
 mod met;
 mod programs;
+mod sheets;
 mod watch;
 mod work;
 
@@ -41,9 +42,10 @@ fn main() -> ExitCode {
         return ExitCode::FAILURE;
     };
     let mut differences = programs::compare(times);
+    differences.extend(sheets::compare(times));
     differences.extend(cases::compare(times));
     if differences.is_empty() {
-        println!("Nothing differs, and no wait was longer than was told.");
+        println!("Nothing differs, no wait was longer than was told, and none was told longer than the longest.");
         return ExitCode::SUCCESS;
     }
     tell(&differences);

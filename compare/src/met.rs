@@ -66,6 +66,10 @@ impl Met {
             "  {} granted, {} waits, {} passed on, {} freed, {} ticks, {} of them with a cut.",
             self.granted, self.waits, self.passed_on, self.freed, self.ticks, self.cuts
         );
+        self.tell_refused();
+    }
+
+    pub fn tell_refused(&self) {
         let refused = self
             .refused
             .iter()

@@ -251,6 +251,22 @@ pub fn some(size: Size, random: &mut Random) -> Vec<u8> {
     file(&plan, &names)
 }
 
+/// The most that a period is stretched to, so that a look at each instant of it does not take long.
+const STRETCHED: u16 = 6_000;
+
+/// The file of some plan. Every other one has longer periods, so that more requirements are met.
+pub fn unhurried(size: Size, random: &mut Random) -> Vec<u8> {
+    let (mut plan, names) = rows(size, random);
+    if random.once_in(2) {
+        let times = random.within(2, 40) as u16;
+        for task in &mut plan.tasks[..size.tasks] {
+            let longer = task.period.saturating_mul(times).min(STRETCHED);
+            task.period = task.period.max(longer);
+        }
+    }
+    file(&plan, &names)
+}
+
 #[cfg(test)]
 mod tests {
     use super::*;
@@ -271,6 +287,7 @@ mod tests {
             let mut random = Random::of(b'B', number);
             let size = Size::some(&mut random);
             assert!(peer::read(&some(size, &mut random)).is_ok());
+            assert!(peer::read(&unhurried(size, &mut random)).is_ok());
         }
     }
 }

@@ -51,7 +51,7 @@ fn input(random: &mut Random) -> Vec<u8> {
 }
 
 /// Mostly all at once; short inputs now and then byte by byte.
-fn piece(length: usize, random: &mut Random) -> usize {
+pub fn piece(length: usize, random: &mut Random) -> usize {
     match random.below(24) {
         0 if length < 200 => 1,
         0..=1 if length < 2_000 => random.within(2, 40),

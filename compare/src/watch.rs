@@ -1,7 +1,7 @@
 //! The promise, watched in what the case program shows of each state: how many ticks a task waits, and how many a processor is
-//! queued and not head, against the limit that was told and the wait time.
+//! queued and not head, against the limit that was told and the wait time; and the limits themselves against the longest wait.
 
-use peer::analysis::wait_time;
+use peer::analysis::{longest_wait, wait_time};
 use peer::{Plan, MAX_PROCESSORS, MAX_RESOURCES, MAX_TASKS};
 
 /// The processors queued for a resource in order, each with its tasks in line in order.
@@ -115,10 +115,40 @@ impl Waits {
     }
 }
 
+/// The limits that were told: how many, how many of them were the longest wait of their task, how many of these with tasks ahead,
+/// and the limit and the longest wait of the closest.
+#[derive(Clone, Copy, Debug, Default, PartialEq, Eq)]
+pub struct Limits {
+    against: Waits,
+    behind: usize,
+}
+
+impl Limits {
+    fn put(&mut self, ahead: u32, limit: u32, longest: u32) {
+        self.against.began += 1;
+        self.against.end(limit, longest);
+        self.behind += usize::from(limit == longest && ahead > 0);
+    }
+
+    fn add(&mut self, other: &Limits) {
+        self.against.add(&other.against);
+        self.behind += other.behind;
+    }
+
+    fn tell(&self) {
+        let (limit, longest) = self.against.closest;
+        println!(
+            "  {} limits told: the closest {limit} of {longest} ticks, the longest wait, {} exactly that, {} of them with tasks ahead.",
+            self.against.began, self.against.at_limit, self.behind
+        );
+    }
+}
+
 #[derive(Clone, Copy, Debug, Default, PartialEq, Eq)]
 pub struct Watched {
     tasks: Waits,
     processors: Waits,
+    limits: Limits,
     /// How often a head was sent to the tail, and how often its next task was granted.
     sent_back: usize,
     kept: usize,
@@ -128,6 +158,7 @@ impl Watched {
     pub fn add(&mut self, other: &Watched) {
         self.tasks.add(&other.tasks);
         self.processors.add(&other.processors);
+        self.limits.add(&other.limits);
         self.sent_back += other.sent_back;
         self.kept += other.kept;
     }
@@ -136,6 +167,7 @@ impl Watched {
         println!("The promise, in the states the proved program shows:");
         self.tasks.tell("tasks", "the grant");
         self.processors.tell("processors", "the head");
+        self.limits.tell();
         println!(
             "  {} times the head was sent to the tail, {} times it kept the resource for its next task.",
             self.sent_back, self.kept
@@ -150,8 +182,9 @@ struct Wait {
     ticks: u32,
 }
 
-/// A plan's rows and wait times, the last state shown, and who waits in it.
-struct Watch {
+/// A plan file, its rows and wait times, the last state shown, and who waits in it.
+struct Watch<'a> {
+    file: &'a [u8],
     plan: Plan,
     wait_times: [[u32; MAX_PROCESSORS]; MAX_RESOURCES],
     before: Shown,
@@ -164,10 +197,11 @@ fn place(queue: &Queue, processor: usize) -> Option<usize> {
     queue.iter().position(|&(k, _)| k == processor)
 }
 
-impl Watch {
-    fn new(file: &[u8]) -> Watch {
+impl<'a> Watch<'a> {
+    fn new(file: &'a [u8]) -> Self {
         let time = |k: usize, q: usize| wait_time(file, k as u8, q as u8).unwrap_or(0);
         Watch {
+            file,
             plan: peer::read(file).unwrap_or_default(),
             wait_times: std::array::from_fn(|q| std::array::from_fn(|k| time(k, q))),
             before: Shown::default(),
@@ -259,19 +293,35 @@ impl Watch {
         }
     }
 
+    /// Sees that no more is told than the longest wait, with every other user of the processor ahead.
+    fn look_at_limit(&mut self, tag: u8, resource: u8, told: [u32; 2]) -> Result<(), String> {
+        let [ahead, limit] = told;
+        let longest = longest_wait(self.file, tag.into(), resource).map_err(|number| {
+            format!("task of tag {tag} waits for {resource}, refused {number}")
+        })?;
+        if limit > longest {
+            return Err(format!(
+                "task of tag {tag} is told {limit} ticks for {resource}, with a longest wait of {longest}"
+            ));
+        }
+        self.watched.limits.put(ahead, limit, longest);
+        Ok(())
+    }
+
     /// Begins the wait of the task that asked, where the answer is such.
     fn begin(&mut self, [_, tag, resource]: [u8; 3], answer: &str) -> Result<(), String> {
         let Some(told) = answer.strip_prefix("waits ") else {
             return Ok(());
         };
-        let limit = told
+        let told = told
             .split_once(' ')
-            .and_then(|(_, limit)| limit.parse().ok());
+            .and_then(|(ahead, limit)| Some([ahead.parse().ok()?, limit.parse().ok()?]));
         let tasks = &self.plan.tasks[..self.plan.counts.tasks.into()];
         let row = tasks.iter().position(|t| t.tag == tag.into());
-        let (Some(limit), Some(row)) = (limit, row) else {
+        let (Some(told @ [_, limit]), Some(row)) = (told, row) else {
             return Err(format!("task of tag {tag}: {answer}"));
         };
+        self.look_at_limit(tag, resource, told)?;
         if self.tasks[row].is_some() {
             return Err(format!(
                 "task {row} is to wait for {resource} and waits already"
@@ -350,6 +400,23 @@ mod tests {
         let watched = list(&case, &line).unwrap();
         assert_eq!(watched.tasks.closest, (7, 7));
         assert_eq!(watched.processors.closest, (3, 3));
+    }
+
+    /// Of the three that wait the first has its fellow behind it; the one that is cut and asks again has none.
+    #[test]
+    fn the_longest_wait_is_told() {
+        let (case, line) = at_the_limit();
+        let limits = list(&case, &line).unwrap().limits;
+        assert_eq!(limits.against.closest, (7, 7));
+        assert_eq!((limits.against.began, limits.against.at_limit), (3, 2));
+        assert_eq!(limits.behind, 1);
+    }
+
+    #[test]
+    fn a_limit_above_the_longest_wait_is_seen() {
+        let (case, line) = at_the_limit();
+        let error = list(&case, &line.replace("waits 1 7", "waits 1 8")).unwrap_err();
+        assert!(error.contains("told 8 ticks"), "{error}");
     }
 
     #[test]

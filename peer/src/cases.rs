@@ -1,11 +1,12 @@
 //! The cases of the proved code's case program: the line it is to print for each, by the peer.
 //!
 //! A record is a kind, a label with its length before it, and the case. What a case holds stands at the function of its kind.
+//! Where a case prints a sheet, its line is followed by those of the sheet.
 
 use crate::calls::{Call, Machine, OnFile};
 use crate::machine::{Answer, Line, Standing, State};
 use crate::program::{Lines, Running};
-use crate::{analysis, name, read, write, Counts, Plan, Refusal, Section, Task};
+use crate::{analysis, name, read, sheet, write, Counts, Plan, Refusal, Section, Task};
 use crate::{MAX_FILE, MAX_TASKS};
 
 /// What a buffer holds before something is written to it.
@@ -13,6 +14,8 @@ const UNTOUCHED: u8 = 170;
 /// The most room a write case has.
 pub const ROOM: usize = 2048;
 const _: () = assert!(MAX_FILE <= ROOM);
+/// The most room a sheet has.
+pub const SHEET_ROOM: usize = 128 * 1024;
 
 /// Takes a record apart from the front. Past its end a byte is 0 and a part is empty.
 struct Bytes<'a>(&'a [u8]);
@@ -31,6 +34,11 @@ impl<'a> Bytes<'a> {
     fn word(&mut self) -> u16 {
         u16::from_le_bytes([self.byte(), self.byte()])
     }
+
+    /// Four bytes.
+    fn long(&mut self) -> usize {
+        usize::from(self.word()) + (usize::from(self.word()) << 16)
+    }
 }
 
 fn told(answer: Result<String, u8>) -> String {
@@ -39,7 +47,7 @@ fn told(answer: Result<String, u8>) -> String {
 
 /// Four bytes of length, and the file, with zeros behind where it is shorter.
 fn reading(mut case: Bytes) -> String {
-    let length = usize::from(case.word()) + (usize::from(case.word()) << 16);
+    let length = case.long();
     let mut file = case.0.to_vec();
     file.resize(length, 0);
     let shown = |plan: Plan| {
@@ -119,17 +127,19 @@ fn writing(mut case: Bytes) -> String {
             let again = if again { " again" } else { "" };
             format!("written {length} {same}{again}")
         }
-        Err(refusal) => {
-            let un = if untouched(&buffer) { "un" } else { "" };
-            format!("refused {} {un}changed", refusal.number())
-        }
+        Err(refusal) => not_written(refusal, &buffer),
     }
 }
 
+fn not_written(refusal: Refusal, buffer: &[u8]) -> String {
+    let un = if untouched(buffer) { "un" } else { "" };
+    format!("refused {} {un}changed", refusal.number())
+}
+
 /// A tag in two bytes, a resource, and the file.
-fn holding(mut case: Bytes) -> String {
+fn using(mut case: Bytes, what: &str, ask: fn(&[u8], u16, u8) -> Result<u32, u8>) -> String {
     let (tag, resource) = (case.word(), case.byte());
-    told(analysis::hold_time(case.0, tag, resource).map(|n| format!("hold {n}")))
+    told(ask(case.0, tag, resource).map(|n| format!("{what} {n}")))
 }
 
 /// A processor, a resource, and the file.
@@ -162,6 +172,21 @@ fn all_holds(case: Bytes) -> String {
         let held = times.iter().filter(|&&hold| hold != 0);
         held.fold("holds".to_string(), |line, hold| format!("{line} {hold}"))
     }))
+}
+
+/// The room in four bytes, and the file. The sheet stands on lines of its own, without its end.
+fn sheet_in(mut case: Bytes) -> String {
+    let room = case.long().min(SHEET_ROOM);
+    let mut buffer = vec![UNTOUCHED; SHEET_ROOM];
+    match sheet::write(case.0, &mut buffer[..room]) {
+        Ok(length) => {
+            let (sheet, behind) = buffer.split_at(length);
+            let right = if untouched(behind) { "right" } else { "wrong" };
+            let lines = String::from_utf8_lossy(&sheet[..length - 1]);
+            format!("sheet {length} {right}\n{lines}")
+        }
+        Err(refusal) => not_written(refusal, &buffer),
+    }
 }
 
 fn answered(answer: Answer) -> Result<String, u8> {
@@ -318,7 +343,7 @@ fn calling(mut case: Bytes, machine: &Machine) -> String {
     format!("{} {un}changed{after}", told(answer))
 }
 
-/// The line for a record, its calls made by this machine; none for a kind that is not known.
+/// The line for a record, its calls made by this machine, or its lines where it prints a sheet; none for a kind that is not known.
 pub fn line(record: &[u8], machine: &Machine) -> Option<String> {
     let mut case = Bytes(record);
     let kind = case.byte();
@@ -328,12 +353,14 @@ pub fn line(record: &[u8], machine: &Machine) -> Option<String> {
         b'R' => reading(case),
         b'N' => naming(case),
         b'W' => writing(case),
-        b'H' => holding(case),
+        b'H' => using(case, "hold", analysis::hold_time),
+        b'G' => using(case, "longest", analysis::longest_wait),
         b'B' => sharing(case, "budget", analysis::budget),
         b'T' => sharing(case, "wait", analysis::wait_time),
         b'Q' => requiring(case),
         b'A' => admitting(case),
         b'L' => all_holds(case),
+        b'D' => sheet_in(case),
         b'M' => listing(case, machine, false),
         b'V' => listing(case, machine, true),
         b'S' => calling(case, machine),

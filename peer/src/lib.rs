@@ -1,4 +1,4 @@
-//! The plan file of document 01, read and written by plain Rust.
+//! The plan file of document 01, read and written by plain Rust; its analysis, its machine, and what two programs print.
 //!
 //! An independent implementation: it was written from the document, not from the proved code.
 
@@ -12,6 +12,7 @@ pub mod machine;
 pub mod plain;
 pub mod program;
 mod read;
+pub mod sheet;
 mod write;
 
 pub use read::{name, read};

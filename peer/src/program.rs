@@ -13,7 +13,7 @@ const PIECE: usize = 64 * 1024;
 const CALL: usize = 3;
 
 /// The input, read in pieces, with what was read of it and not taken yet.
-struct Source<'a, R> {
+pub(crate) struct Source<'a, R> {
     input: &'a mut R,
     piece: Vec<u8>,
     start: usize,
@@ -21,7 +21,7 @@ struct Source<'a, R> {
 }
 
 impl<'a, R: Read> Source<'a, R> {
-    fn new(input: &'a mut R) -> Self {
+    pub(crate) fn new(input: &'a mut R) -> Self {
         Source {
             input,
             piece: vec![0; PIECE],
@@ -58,7 +58,7 @@ impl<'a, R: Read> Source<'a, R> {
     }
 
     /// The plan at the front, as long as it says, or all there is where that is less.
-    fn take_plan(&mut self) -> io::Result<Vec<u8>> {
+    pub(crate) fn take_plan(&mut self) -> io::Result<Vec<u8>> {
         self.wait_for(HEADER)?;
         let stated = match self.left().first_chunk::<HEADER>() {
             Some(header) => usize::from(u16::from_le_bytes([header[14], header[15]])),
@@ -77,12 +77,18 @@ impl<'a, R: Read> Source<'a, R> {
 pub(crate) struct Lines(pub Vec<u8>);
 
 impl Lines {
-    fn text(&mut self, text: &[u8]) {
+    pub(crate) fn text(&mut self, text: &[u8]) {
         self.0.extend_from_slice(text);
     }
 
+    /// A space and the name.
+    pub(crate) fn name(&mut self, name: &[u8]) {
+        self.text(b" ");
+        self.text(name);
+    }
+
     /// A space and the digits.
-    fn number(&mut self, number: u32) {
+    pub(crate) fn number(&mut self, number: u32) {
         let mut digits = [b' '; 11];
         let mut at = digits.len();
         let mut left = number;
@@ -97,7 +103,30 @@ impl Lines {
         self.text(&digits[at - 1..]);
     }
 
-    fn plan(&mut self, c: Counts) {
+    /// A mark and the digits of a number that may be too long for the above.
+    pub(crate) fn long(&mut self, mark: &[u8], number: u64) {
+        self.text(mark);
+        let mut digits = [0; 20];
+        let mut at = digits.len();
+        let mut left = number;
+        loop {
+            at -= 1;
+            digits[at] = b'0' + (left % 10) as u8;
+            left /= 10;
+            if left == 0 {
+                break;
+            }
+        }
+        self.text(&digits[at..]);
+    }
+
+    /// A space, a minus where the number is below zero, and the digits.
+    pub(crate) fn signed(&mut self, number: i64) {
+        let mark: &[u8] = if number < 0 { b" -" } else { b" " };
+        self.long(mark, number.unsigned_abs());
+    }
+
+    pub(crate) fn plan(&mut self, c: Counts) {
         self.text(b"plan");
         self.number(c.processors.into());
         self.number(c.tasks.into());
@@ -106,7 +135,7 @@ impl Lines {
         self.text(b"\n");
     }
 
-    fn refused(&mut self, number: u8) {
+    pub(crate) fn refused(&mut self, number: u8) {
         self.text(b"refused");
         self.number(number.into());
         self.text(b"\n");
@@ -116,8 +145,7 @@ impl Lines {
     fn said(&mut self, what: &[u8], call: Call, name: &[u8]) {
         self.text(what);
         self.number(call.tag.into());
-        self.text(b" ");
-        self.text(name);
+        self.name(name);
     }
 
     fn answer(&mut self, call: Call, names: &[&[u8]], answer: Answer) {
@@ -157,15 +185,15 @@ impl Lines {
 }
 
 /// The name of each resource of a checked plan, as the part of the file that holds it.
-fn names<'a>(file: &'a [u8], plan: &Plan) -> Vec<&'a [u8]> {
+pub(crate) fn names<'a>(file: &'a [u8], plan: &Plan) -> Vec<&'a [u8]> {
     let mut rest = &file[Offsets::of(plan.counts).names..];
-    let mut names = Vec::new();
-    for &length in &plan.lengths[..plan.counts.resources.into()] {
+    let lengths = plan.lengths[..plan.counts.resources.into()].iter();
+    let names = lengths.map(|&length| {
         let (name, behind) = rest.split_at(length.into());
-        names.push(name);
         rest = behind;
-    }
-    names
+        name
+    });
+    names.collect()
 }
 
 /// The operations on a plan file, and the state that the last call left.

@@ -1,10 +1,12 @@
 // Questions about a plan: what is asked stands at the front of the case, the file behind it.
 use crate::given;
 use crate::print;
+use crate::same;
 use analysis::AdmissionAnswer;
 use analysis::Figure;
 use analysis::RequirementAnswer;
 use requirements::Requirement;
+use text::Line;
 
 fn figure(answer: Figure, name: &[u8]) {
     match answer {
@@ -25,6 +27,16 @@ pub fn hold(case: &[u8]) {
     let tag = given::word(case, 0);
     let resource = given::byte(case, 2);
     figure(analysis::hold_time(file(case, 3), tag, resource), b"hold");
+}
+
+// The longest wait of a task for a resource: the tag in two bytes, the resource.
+pub fn longest(case: &[u8]) {
+    let tag = given::word(case, 0);
+    let resource = given::byte(case, 2);
+    figure(
+        analysis::longest_wait(file(case, 3), tag, resource),
+        b"longest",
+    );
 }
 
 // The budget of a processor on a resource, and its wait time.
@@ -91,5 +103,27 @@ pub fn holds(case: &[u8]) {
             print::number(time as u64);
         }
         x += 1;
+    }
+}
+
+// Makes a sheet in the front of the buffer, of which the case says in four bytes how much is lent.
+fn make(case: &[u8], buf: &mut [u8]) -> Line {
+    let room = given::at_most(given::length(case), buf.len());
+    sheet::sheet(file(case, 4), &mut buf[0..room])
+}
+
+// The sheet of a plan on lines of its own, behind its length and whether what lies behind it in the buffer is as it was.
+pub fn sheet(case: &[u8]) {
+    let mut buf = [170u8; 131072];
+    let made = make(case, &mut buf);
+    if made.refusal == 0 {
+        print::text(b"sheet");
+        print::number(made.length as u64);
+        let behind = given::part(&buf, made.length, 131072);
+        print::which(same::untouched(behind), b" right\n", b" wrong\n");
+        print::text(given::without_end(&buf, made.length));
+    } else {
+        print::refused(made.refusal);
+        print::which(same::untouched(&buf), b" unchanged", b" changed");
     }
 }

@@ -1,10 +1,7 @@
 // The lines that are printed.
+use crate::given;
 use libc::STDOUT_FILENO;
 use plan::ReadAnswer;
-ghost use mathlib.Core.Path.{_≡_};
-ghost use mathlib.Core.Bool.{true};
-ghost use lib.IntN.{pos};
-ghost use lib.Signed.{ltZ};
 
 pub fn text(s: &[u8]) {
     io::write_all(STDOUT_FILENO, s);
@@ -19,20 +16,12 @@ pub fn number(n: u64) {
     digits(n);
 }
 
-// How far below zero z is.
-fn below_zero(z: i64) -> u64
-    requires { ⌜ ltZ z (pos 0) ≡ true ⌝ }
-{
-    (-(z + 1)) as u64 + 1
-}
-
+// With a minus where it is below zero.
 pub fn signed(z: i64) {
-    if z < 0 {
-        text(b" -");
-        digits(below_zero(z));
-    } else {
-        number(z as u64);
-    }
+    let mut buf = [0u8; 21];
+    let end = text::put_signed(&mut buf, 0, z);
+    text(b" ");
+    text(given::part(&buf, 0, end));
 }
 
 pub fn refused(k: u8) {

@@ -1,18 +1,19 @@
-//! The printing programs beside each other, on long lists of calls: the proved one and the peer's, in each of its modes.
+//! The printing programs beside each other, on long lists of calls: the proved one and the peer's, in each of its modes; and the
+//! datasheet programs.
 
 #![forbid(unsafe_code)]
 
-use bench::{lists, plans, quartiles};
+mod process;
+mod sheets;
+
+use bench::{lists, plans};
 use compare::lists::{Habits, Maker};
 use compare::plans::Size;
 use compare::random::Random;
-use std::fs::{self, File};
+use process::{medians, row, Input, Program, Sink, ROUNDS};
 use std::io;
-use std::path::{Path, PathBuf};
-use std::process::{Command, Stdio};
-use std::time::Instant;
+use std::process::ExitCode;
 
-const ROUNDS: usize = 5;
 const CALLS: usize = 1_000_000;
 /// As the comparison's lists, with queues that are neither full nor empty and calls of every kind.
 const MIX: Habits = Habits {
@@ -24,111 +25,21 @@ const MIX: Habits = Habits {
     run: 6,
 };
 
-#[derive(Clone, Copy)]
-enum Sink {
-    Nowhere,
-    /// A pipe that is read as fast as may be.
-    Reader,
-}
-
-struct Program {
-    path: PathBuf,
-    words: &'static [&'static str],
-}
-
 const PROGRAMS: usize = 4;
 /// The proved program, the peer, the peer where it looks at the plan once as the proved one does, and by its plain machine.
 type Programs = [Program; PROGRAMS];
 type Seconds = [f64; PROGRAMS];
 
-/// A plan and calls, in a file.
-struct Input {
-    path: PathBuf,
-}
-
-fn root() -> PathBuf {
-    Path::new(env!("CARGO_MANIFEST_DIR")).join("..")
-}
-
 fn programs() -> Programs {
-    let proved = std::env::var_os("MSPIS").map(PathBuf::from);
-    let proved = proved.unwrap_or(root().join("target/bin/mspis"));
-    let peer = root().join("peer/target/release/peer-mspis");
-    let by = |words| Program {
-        path: peer.clone(),
-        words,
-    };
-    let proved = Program {
-        path: proved,
-        words: &[],
-    };
+    let by = |words| Program::peer("peer-mspis", words);
+    let proved = Program::proved("MSPIS", "mspis");
     [proved, by(&[]), by(&["once"]), by(&["plain"])]
 }
 
-impl Input {
-    fn new(name: &str, plan: &[u8], calls: &[u8]) -> io::Result<Input> {
-        let folder = root().join("target/bench");
-        fs::create_dir_all(&folder)?;
-        let path = folder.join(name);
-        fs::write(&path, [plan, calls].concat())?;
-        Ok(Input { path })
-    }
-}
-
-impl Program {
-    fn command(&self, input: &Input) -> io::Result<Command> {
-        let mut command = Command::new(&self.path);
-        command.args(self.words).stdin(File::open(&input.path)?);
-        Ok(command)
-    }
-
-    fn lines(&self, input: &Input) -> io::Result<Vec<u8>> {
-        Ok(self
-            .command(input)?
-            .stderr(Stdio::inherit())
-            .output()?
-            .stdout)
-    }
-
-    /// Seconds from the start of the program to its end.
-    fn time(&self, input: &Input, sink: Sink) -> io::Result<f64> {
-        let mut command = self.command(input)?;
-        let start = Instant::now();
-        match sink {
-            Sink::Nowhere => {
-                command.stdout(Stdio::null()).status()?;
-            }
-            Sink::Reader => {
-                let mut child = command.stdout(Stdio::piped()).spawn()?;
-                if let Some(mut lines) = child.stdout.take() {
-                    io::copy(&mut lines, &mut io::sink())?;
-                }
-                child.wait()?;
-            }
-        }
-        Ok(start.elapsed().as_secs_f64())
-    }
-}
-
-/// An input that is measured: the lines of all programs are the same.
-fn checked(programs: &Programs, name: &str, plan: &[u8], calls: &[u8]) -> io::Result<Input> {
-    let input = Input::new(name, plan, calls)?;
-    let lines = programs[0].lines(&input)?;
-    for program in &programs[1..] {
-        assert!(program.lines(&input)? == lines, "the lines for {name}");
-    }
-    Ok(input)
-}
-
-/// The medians of rounds in turn, so that a change of the machine's pace meets all alike.
-fn medians(programs: &Programs, input: &Input, sink: Sink) -> io::Result<Seconds> {
-    let mut times = [(); PROGRAMS].map(|()| Vec::new());
-    for _ in 0..ROUNDS {
-        for (program, times) in programs.iter().zip(&mut times) {
-            times.push(program.time(input, sink)?);
-        }
-    }
-    Ok(times.map(|times| quartiles(times)[1]))
+/// A plan and calls, as one input.
+fn checked(programs: &Programs, name: &str, plan: &[u8], calls: &[u8]) -> io::Result<[Input; 1]> {
+    let input = process::checked(programs, name, &[plan, calls].concat())?;
+    Ok([input])
 }
 
 fn heading(first: &str) {
@@ -137,15 +48,6 @@ fn heading(first: &str) {
          | proved / peer | proved / peer once | proved / plain |"
     );
     println!("|---|---|---|---|---|---|---|---|");
-}
-
-/// What is said of each program's seconds, and the proved one's by those of the others.
-fn row(what: &str, seconds: Seconds, said: impl Fn(f64) -> String) {
-    let ratios = seconds[1..]
-        .iter()
-        .map(|s| format!("{:.2}", seconds[0] / s));
-    let columns: Vec<String> = seconds.map(said).into_iter().chain(ratios).collect();
-    println!("| {what} | {} |", columns.join(" | "));
 }
 
 fn pace(what: &str, calls: usize, seconds: Seconds) {
@@ -205,7 +107,8 @@ fn by_size(programs: &Programs) -> io::Result<()> {
     Ok(())
 }
 
-fn main() -> io::Result<()> {
+/// The printing programs.
+fn calls() -> io::Result<()> {
     let programs = programs();
     let (plan, calls) = mixed(64, CALLS);
     let seconds = at_length(&programs, &plan, &calls)?;
@@ -219,4 +122,27 @@ fn main() -> io::Result<()> {
     );
     heading("tasks, bytes");
     by_size(&programs)
+}
+
+fn both() -> io::Result<()> {
+    calls()?;
+    println!();
+    sheets::measure()
+}
+
+fn main() -> ExitCode {
+    let words: Vec<String> = std::env::args().skip(1).collect();
+    let measured = match words.iter().map(String::as_str).collect::<Vec<_>>()[..] {
+        [] => both(),
+        ["calls"] => calls(),
+        ["sheets"] => sheets::measure(),
+        _ => Err(io::Error::other("programs [calls | sheets]")),
+    };
+    match measured {
+        Ok(()) => ExitCode::SUCCESS,
+        Err(error) => {
+            eprintln!("{error}");
+            ExitCode::FAILURE
+        }
+    }
 }
