@@ -9,8 +9,10 @@ use Rattle.plan.specs.Plan.{planOf}
 use Rattle.equations.specs.Requirement.{admitted}
 use Rattle.analysis.specs.declared.AdmissionAnswer.{AdmissionAnswer}
 use Rattle.analysis.specs.declared.AdmissionAnswer.the-variants.{Decided, Refused}
-use Rattle.analysis.specs.Answers.{admissionAnswer}
-use Rattle.analysis_c.specs.Number.{admissionNumber}
+use Rattle.analysis.specs.declared.Figure.{Figure}
+use Rattle.analysis.specs.declared.Figure.the-variants as figures
+use Rattle.analysis.specs.Answers.{figure, holdCode, longestFigure, admissionAnswer}
+use Rattle.analysis_c.specs.Number.{longestNumber, admissionNumber}
 
 number-in : AdmissionAnswer → ℕ
 number-in (Decided b) = 256 * cond b 1 0
@@ -30,3 +32,22 @@ module _ (f : List ℕ) {a : AdmissionAnswer} (e : a ≡ admissionAnswer f) wher
   pub refused-number : (k : ℕ) → a ≡ Refused k → k ≡ admissionNumber f
   unfolding number-in
   refused-number k h = ap number-in (sym h ∙ e) ∙ all-cases f
+
+figure-in : Figure → ℕ
+figure-in (figures.Given v) = 256 * v
+figure-in (figures.Refused k) = k
+
+longest-cases : (f : List ℕ) (tag q : ℕ) → figure-in (figure (holdCode f tag q) (longestFigure f tag q)) ≡ longestNumber f tag q
+unfolding figure longestNumber figure-in
+longest-cases f tag q =
+    by-eq (λ (t : Bool). figure-in (cond t (figures.Given (longestFigure f tag q)) (figures.Refused (holdCode f tag q))) ≡ cond t (256 * longestFigure f tag q) (holdCode f tag q)) (holdCode f tag q) 0
+    (λ e. refl) (λ d. refl)
+
+module _ (f : List ℕ) (tag q : ℕ) {a : Figure} (e : a ≡ figure (holdCode f tag q) (longestFigure f tag q)) where
+  pub longest-given : (v : ℕ) → a ≡ figures.Given v → 256 * v ≡ longestNumber f tag q
+  unfolding figure-in
+  longest-given v h = ap figure-in (sym h ∙ e) ∙ longest-cases f tag q
+
+  pub longest-refused : (k : ℕ) → a ≡ figures.Refused k → k ≡ longestNumber f tag q
+  unfolding figure-in
+  longest-refused k h = ap figure-in (sym h ∙ e) ∙ longest-cases f tag q
