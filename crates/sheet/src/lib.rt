@@ -387,6 +387,7 @@ fn put_sheet(buf: &mut [u8], file: &[u8]) -> usize
 pub fn sheet(file: &[u8], out: &mut [u8]) -> Line
     ensures { λ r. ⌜ r ≡ lineFor (sheetText (now (file .entry))) (length (now (out .entry))) ⌝ }
     ensures { λ r. ⌜ now (out .exit) ≡ lineIn (sheetText (now (file .entry))) (now (out .entry)) ⌝ }
+    ensures { λ r. ⌜ r .length ≤ 131072 ⌝ }
 {
     let mut buf = [0u8; 131072];
     let end = put_sheet(&mut buf, file);

@@ -34,14 +34,23 @@ module _ (text l : List ℕ) where
   unfolding lineFor
   too-short h = rw (lt-leb _ _ h)
 
--- a line is no longer than the buffer that it is for
-pub line-fits : (text : List ℕ) (n : ℕ) {r : Line} → r ≡ lineFor text n → r .length ≤ n
-unfolding lineFor
-line-fits text n e = rw e (go (leb (length text) n) refl)
-  where
-    go : (b : Bool) → leb (length text) n ≡ b → (cond {A = Line} b (record { refusal = 0; length = length text }) (record { refusal = 10; length = 0 })) .length ≤ n
-    go true e = leb-true _ _ e
-    go false e = omega arith
+-- a line is no longer than the buffer that it is for, nor than its text
+module _ (text : List ℕ) (n : ℕ) {r : Line} (e : r ≡ lineFor text n) where
+  pub line-fits : r .length ≤ n
+  unfolding lineFor
+  line-fits = rw e (go (leb (length text) n) refl)
+    where
+      go : (b : Bool) → leb (length text) n ≡ b → (cond {A = Line} b (record { refusal = 0; length = length text }) (record { refusal = 10; length = 0 })) .length ≤ n
+      go true e = leb-true _ _ e
+      go false e = omega arith
+
+  pub line-short : r .length ≤ length text
+  unfolding lineFor
+  line-short = rw e (go (leb (length text) n))
+    where
+      go : (b : Bool) → (cond {A = Line} b (record { refusal = 0; length = length text }) (record { refusal = 10; length = 0 })) .length ≤ length text
+      go true = omega arith
+      go false = omega arith
 
 -- no line fits every buffer, and leaves it as it was
 pub no-line : {text : List ℕ} (l : List ℕ) → text ≡ [] → (record { refusal = 0; length = 0 } ≡ lineFor text (length l)) × (l ≡ lineIn text l)

@@ -1,6 +1,7 @@
 -- The sheet is put at the front of a buffer of its own, and handed over from there.
+use native.Mathlib.Omega.{arith}
 use borrow.Author.Needs.{needs}
-use Rattle.text.proofs.Lines.{front-part}
+use Rattle.text.proofs.Lines.{front-part, line-short}
 use Rattle.sheet.proofs.sheet.Statement.{statement}
 use Rattle.sheet.proofs.sheet.Tie as tie
 
@@ -26,7 +27,10 @@ same-length : tie.Need-same-length
 same-length c = search needs
 
 returns : tie.Need-returns
-returns c = rw (front-part (c .before .before .before .before .before .before .before .put-sheet .ensures .0)) at (c .before .before .hand-over .ensures)
+returns c =
+    let p = c .before .before .before .before .before .before .before .put-sheet .ensures in
+    let h = rw (front-part (p .0)) at (c .before .before .hand-over .ensures) in
+    (h .0, (h .1, omega (arith, line-short _ _ (h .0), p .0 .ends, p .1)))
 
 pub sheet-spec : {M : Type 1} → statement M
 sheet-spec =
