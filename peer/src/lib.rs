@@ -124,4 +124,6 @@ impl Offsets {
 }
 
 #[cfg(test)]
+mod samples;
+#[cfg(test)]
 mod tests;

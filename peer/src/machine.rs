@@ -689,49 +689,18 @@ pub fn run(file: &[u8], calls: &[u8], each: &mut dyn FnMut(&Answer, &State)) -> 
 mod tests {
     use super::*;
     use crate::analysis::{budget, hold_time, wait_time};
-    use crate::{write, Counts, Section, Task, MAX_FILE};
+    use crate::samples::{self, bus, refused_files, Numbers, SectionRow, LISTING};
+    use crate::Section;
     use Answer::*;
 
     /// Processor, tag, priority.
     type TaskRow = (u8, u16, u8);
-    /// Task, resource, length.
-    type SectionRow = (u8, u8, u16);
 
-    fn written(plan: &Plan, names: &[u8]) -> Vec<u8> {
-        let mut buffer = [0; MAX_FILE];
-        let length = write(plan, names, &mut buffer).unwrap();
-        buffer[..length].to_vec()
-    }
-
+    /// The machine asks for no period and no execution time.
     fn file(processors: u8, resources: u8, tasks: &[TaskRow], sections: &[SectionRow]) -> Vec<u8> {
-        let mut plan = Plan {
-            counts: Counts {
-                processors,
-                tasks: tasks.len() as u8,
-                resources,
-                sections: sections.len() as u16,
-            },
-            ..Plan::default()
-        };
-        for (to, &(processor, tag, priority)) in plan.tasks.iter_mut().zip(tasks) {
-            *to = Task {
-                processor,
-                tag,
-                priority,
-                period: u16::MAX,
-                execution: u16::MAX,
-            };
-        }
-        for (to, &(task, resource, length)) in plan.sections.iter_mut().zip(sections) {
-            *to = Section {
-                task,
-                resource,
-                length,
-            };
-        }
-        plan.lengths[..resources.into()].fill(1);
-        let names: Vec<u8> = (b'A'..).take(resources.into()).collect();
-        written(&plan, &names)
+        let longest = |&(k, tag, priority): &TaskRow| (k, tag, priority, u16::MAX, u16::MAX);
+        let tasks: Vec<_> = tasks.iter().map(longest).collect();
+        samples::file(processors, resources, &tasks, sections)
     }
 
     /// A file with a state that each call moves on.
@@ -795,21 +764,6 @@ mod tests {
         Waits { ahead, limit }
     }
 
-    /// The plan of document 01's listing.
-    fn bus() -> Vec<u8> {
-        let mut plan = read(&file(
-            2,
-            1,
-            &[(0, 10, 1), (1, 20, 1)],
-            &[(0, 0, 2), (1, 0, 3)],
-        ))
-        .unwrap();
-        plan.lengths[0] = 3;
-        written(&plan, b"bus")
-    }
-
-    const LISTING: &[u8] = b"Q\x14\0Q\x0a\0T\0\0T\0\0T\0\0R\x14\0R\x0a\0";
-
     fn answers(file: &[u8], calls: &[u8]) -> (Vec<Answer>, State) {
         let mut answers = Vec::new();
         let mut last = State::FRESH;
@@ -854,33 +808,9 @@ mod tests {
         assert_eq!(answers(b"", LISTING), refused);
     }
 
-    /// Figure 2: P1 is processor 0 with tags 1 to 5, P2 is processor 1 with tags 11 to 13; R1 is resource 0.
+    /// Figure 2, with the times of C6, for which the machine does not ask.
     fn figure2() -> Vec<u8> {
-        let tasks = [
-            (0, 1, 9),
-            (0, 2, 8),
-            (0, 3, 7),
-            (0, 4, 6),
-            (0, 5, 5),
-            (1, 11, 3),
-            (1, 12, 2),
-            (1, 13, 1),
-        ];
-        let sections = [
-            (0, 0, 2),
-            (0, 2, 3),
-            (1, 0, 3),
-            (2, 1, 5),
-            (3, 0, 5),
-            (3, 2, 2),
-            (4, 2, 2),
-            (5, 0, 3),
-            (5, 1, 2),
-            (6, 0, 2),
-            (6, 1, 1),
-            (7, 0, 4),
-        ];
-        file(2, 3, &tasks, &sections)
+        samples::figure2(61)
     }
 
     /// The paper's instants 1 to 3, before what happens at 3.
@@ -1208,23 +1138,9 @@ mod tests {
 
     #[test]
     fn refusals_of_the_file_come_first_and_then_19() {
-        // The first task row is at 16, the resource rows at 80, the section rows at 92, the names at 140.
-        let changes: [fn(&mut Vec<u8>); 9] = [
-            |f| f.clear(),
-            |f| f[0] = 2,
-            |f| f[1] = 9,
-            |f| f[6] += 1,
-            |f| f[16] = 2,
-            |f| f[25] = 1,
-            |f| f[140] = 32,
-            |f| f[92] = 8,
-            |f| (f[22], f[23]) = (1, 0),
-        ];
         let mut unsound = State::FRESH;
         unsound.lines[15].hold_left = 1;
-        for (number, change) in (1..).zip(changes) {
-            let mut file = figure2();
-            change(&mut file);
+        for (number, file) in refused_files() {
             assert_eq!(start(&file), (number, State::FRESH));
             for state in [State::FRESH, unsound] {
                 let expected = (Refused(number), state);
@@ -1576,27 +1492,6 @@ mod tests {
         }
     }
 
-    /// Numbers that look random, the same in each run.
-    struct Numbers(u64);
-
-    impl Numbers {
-        fn below(&mut self, end: usize) -> usize {
-            self.0 = self
-                .0
-                .wrapping_mul(6364136223846793005)
-                .wrapping_add(1442695040888963407);
-            (self.0 >> 33) as usize % end
-        }
-
-        fn one_in(&mut self, n: usize) -> bool {
-            self.below(n) == 0
-        }
-
-        fn one_of<T: Copy>(&mut self, all: &[T]) -> Option<T> {
-            (!all.is_empty()).then(|| all[self.below(all.len())])
-        }
-    }
-
     /// A plan of up to the given counts of processors, tasks, resources and sections, with sections of up to `longest`.
     fn made(n: &mut Numbers, most: [usize; 4], longest: usize) -> Vec<u8> {
         let [processors, count, resources, sections] = most.map(|m| m - n.below(m / 2 + 1));
@@ -1605,13 +1500,7 @@ mod tests {
         let mut rows: Vec<TaskRow> = Vec::new();
         for _ in 0..count {
             let k = n.below(processors);
-            let tag = n.below(tags.len());
-            let priority = n.below(priorities[k].len());
-            rows.push((
-                k as u8,
-                tags.swap_remove(tag),
-                priorities[k].swap_remove(priority),
-            ));
+            rows.push((k as u8, n.take(&mut tags), n.take(&mut priorities[k])));
         }
         let section = |_| {
             let (task, resource) = (n.below(count), n.below(resources));

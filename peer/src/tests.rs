@@ -1,49 +1,17 @@
+use crate::samples::{plan, section, task, written};
 use crate::*;
-
-fn task(processor: u8, tag: u16, priority: u8, period: u16, execution: u16) -> Task {
-    Task {
-        processor,
-        tag,
-        priority,
-        period,
-        execution,
-    }
-}
-
-fn section(task: u8, resource: u8, length: u16) -> Section {
-    Section {
-        task,
-        resource,
-        length,
-    }
-}
 
 /// Two processors, one task on each, two resources, three sections.
 fn small() -> (Plan, &'static [u8]) {
-    let mut plan = Plan {
-        counts: Counts {
-            processors: 2,
-            tasks: 2,
-            resources: 2,
-            sections: 3,
-        },
-        ..Plan::default()
-    };
-    plan.tasks[0] = task(0, 10, 5, 20, 9);
-    plan.tasks[1] = task(1, 20, 5, 30, 3);
-    plan.lengths[0] = 3;
-    plan.lengths[1] = 4;
-    plan.sections[0] = section(0, 0, 2);
-    plan.sections[1] = section(1, 0, 3);
-    plan.sections[2] = section(0, 1, 7);
+    let tasks = [(0, 10, 5, 20, 9), (1, 20, 5, 30, 3)];
+    let mut plan = plan(2, 2, &tasks, &[(0, 0, 2), (1, 0, 3), (0, 1, 7)]);
+    (plan.lengths[0], plan.lengths[1]) = (3, 4);
     (plan, b"busdisk")
 }
 
 fn file() -> Vec<u8> {
     let (plan, names) = small();
-    let mut buffer = [0; MAX_FILE];
-    let length = write(&plan, names, &mut buffer).unwrap();
-    buffer[..length].to_vec()
+    written(&plan, names)
 }
 
 fn refused(change: impl FnOnce(&mut Vec<u8>)) -> u8 {
@@ -135,20 +103,14 @@ fn the_full_plan_fits() {
     let mut names = Vec::new();
     for i in 0..64u8 {
         let (processor, priority) = (i / 8, i % 8 + 1);
-        plan.tasks[usize::from(i)] = Task {
-            processor,
-            tag: i.into(),
-            priority,
-            period: 65535,
-            execution: 65535,
-        };
+        plan.tasks[usize::from(i)] = task((processor, i.into(), priority, 65535, 65535));
     }
     for r in 0..16u8 {
         plan.lengths[usize::from(r)] = 12;
         names.extend_from_slice(b"memory-bank");
         names.push(b'A' + r);
     }
-    plan.sections = [section(63, 15, 257); 255];
+    plan.sections = [section((63, 15, 257)); 255];
     let mut buffer = [0; MAX_FILE];
     assert_eq!(write(&plan, &names, &mut buffer), Ok(MAX_FILE));
     assert_eq!(read(&buffer), Ok(plan));

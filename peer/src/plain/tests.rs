@@ -1,26 +1,14 @@
 use super::*;
-use crate::analysis::tests::{file, made, Numbers};
 use crate::analysis::{budget, hold_time, wait_time};
-use crate::{write, MAX_FILE};
-
-/// The listing's plan.
-fn listing() -> Vec<u8> {
-    let tasks = [(0, 10, 1, 100, 50), (1, 20, 1, 100, 50)];
-    let mut plan = read(&file(2, 1, &tasks, &[(0, 0, 2), (1, 0, 3)])).unwrap();
-    plan.lengths[0] = 3;
-    let mut buffer = [0; MAX_FILE];
-    let length = write(&plan, b"bus", &mut buffer).unwrap();
-    buffer[..length].to_vec()
-}
+use crate::samples::{bus, file, made, Numbers, LISTING};
 
 #[test]
 fn the_listing() {
-    let file = listing();
+    let file = bus();
     let (refusal, mut state) = start(&file);
     assert_eq!((refusal, state), (0, State::FRESH));
     let mut answers = Vec::new();
-    let calls = b"Q\x14\0Q\x0a\0T\0\0T\0\0T\0\0R\x14\0R\x0a\0";
-    for triple in calls.chunks_exact(3) {
+    for triple in LISTING.chunks_exact(3) {
         let tag = triple[1].into();
         let (answer, next) = match triple[0] {
             b'Q' => request(&file, &state, tag, 0),
@@ -42,8 +30,8 @@ fn the_listing() {
     ];
     assert_eq!(answers, expected);
     assert_eq!(state, State::FRESH);
-    assert_eq!(run(&file, calls), state);
-    let five = run(&file, &calls[..15]);
+    assert_eq!(run(&file, LISTING), state);
+    let five = run(&file, &LISTING[..15]);
     assert_eq!(five.lines[0].queue, [0, 255, 255, 255, 255, 255, 255, 255]);
     assert_eq!((five.lines[0].hold_left, five.lines[0].budget_left), (2, 2));
     assert_eq!(
@@ -308,15 +296,15 @@ fn random_lists_agree_with_the_model() {
         let mut calls = Vec::new();
         for _ in 0..300 {
             // Now and then a tag or resource that the plan does not have.
-            let row = n.below(u64::from(plan.counts.tasks)) as usize;
+            let row = n.below(plan.counts.tasks.into());
             let mut tag = plan.tasks[row].tag;
-            let mut resource = n.below(u64::from(plan.counts.resources)) as u8;
+            let mut resource = n.below(plan.counts.resources.into()) as u8;
             match n.below(40) {
                 0 => tag = n.below(256) as u16,
                 1 => resource = n.below(256) as u8,
                 _ => (),
             }
-            let letter = b"QQQRRT"[n.below(6) as usize];
+            let letter = b"QQQRRT"[n.below(6)];
             if letter == b'R' && n.below(3) > 0 {
                 if let Some(holder) = model.holder(usize::from(resource) % 16) {
                     tag = plan.tasks[holder].tag;

@@ -1,40 +1,12 @@
 use super::*;
-use crate::analysis::tests::file;
 use crate::calls::{PLAIN, TUNED};
+use crate::samples::{bus, file, in_pieces, LISTING};
 
 const MODES: [Mode; 3] = [Mode::Each(TUNED), Mode::Once, Mode::Each(PLAIN)];
 
-/// The listing's plan: its priorities, C and T are free.
-fn listed() -> Vec<u8> {
-    [
-        &[1, 2, 2, 1, 2, 0, 16, 0, 32, 0, 36, 0, 44, 0, 47, 0][..],
-        &[0, 10, 1, 0, 50, 0, 9, 0],
-        &[1, 20, 1, 0, 60, 0, 9, 0],
-        &[0, 0, 3, 0],
-        &[0, 0, 2, 0],
-        &[1, 0, 3, 0],
-        b"bus",
-    ]
-    .concat()
-}
-
-/// Hands out so many bytes at a time.
-struct Slowly<'a>(&'a [u8], usize);
-
-impl Read for Slowly<'_> {
-    fn read(&mut self, to: &mut [u8]) -> io::Result<usize> {
-        let count = self.1.min(to.len());
-        self.0.read(&mut to[..count])
-    }
-}
-
 /// What is printed, which is the same in all modes and for all sizes of pieces.
 fn printed(input: &[u8]) -> String {
-    let by = |mode, size| {
-        let mut output = Vec::new();
-        run(&mut Slowly(input, size), &mut output, mode).unwrap();
-        String::from_utf8(output).unwrap()
-    };
+    let by = |mode, size| in_pieces(input, size, |input, output| run(input, output, mode));
     let whole = by(&MODES[0], usize::MAX);
     for mode in &MODES {
         for size in [1, 2, 7, 64, usize::MAX] {
@@ -52,14 +24,13 @@ fn after(plan: &[u8], calls: &[u8]) -> String {
 
 /// What the listing's plan prints after a change.
 fn changed(change: impl FnOnce(&mut Vec<u8>)) -> String {
-    let mut file = listed();
+    let mut file = bus();
     change(&mut file);
     printed(&file)
 }
 
 #[test]
 fn the_listing() {
-    let calls = b"Q\x14\0Q\x0a\0T\0\0T\0\0T\0\0R\x14\0R\x0a\0";
     let expected = "plan 2 2 1 2\n\
         granted 20 bus\n\
         waits 10 bus 0 3\n\
@@ -68,12 +39,12 @@ fn the_listing() {
         tick 1 1\n\
         refused 16\n\
         released 10 bus free\n";
-    assert_eq!(printed(&[&listed()[..], calls].concat()), expected);
+    assert_eq!(printed(&[&bus()[..], LISTING].concat()), expected);
 }
 
 #[test]
 fn a_release_to_another() {
-    let lines = after(&listed(), b"Q\x14\0Q\x0a\0R\x14\0");
+    let lines = after(&bus(), b"Q\x14\0Q\x0a\0R\x14\0");
     assert_eq!(
         lines,
         "granted 20 bus\nwaits 10 bus 0 3\nreleased 20 bus to 10\n"
@@ -94,7 +65,7 @@ fn each_refusal_of_a_plan_is_one_line() {
     assert_eq!(changed(|f| f[16 + 8 + 1] = 10), "refused 6\n");
     assert_eq!(changed(|f| *f.last_mut().unwrap() = 32), "refused 7\n");
     assert_eq!(changed(|f| f[16 + 16 + 4 + 2] = 0), "refused 8\n");
-    assert_eq!(changed(|f| f[16 + 16 + 4 + 2] = 10), "refused 9\n");
+    assert_eq!(changed(|f| f[16 + 16 + 4 + 2] = 6), "refused 9\n");
 }
 
 #[test]
@@ -127,7 +98,7 @@ fn each_refusal_of_a_call() {
 
 #[test]
 fn bytes_that_are_no_call() {
-    let lines = after(&listed(), b"q\x0a\0T\0\x01T\x01\0\0\0\0Q\x0a\0T\0\0");
+    let lines = after(&bus(), b"q\x0a\0T\0\x01T\x01\0\0\0\0Q\x0a\0T\0\0");
     assert_eq!(
         lines,
         "refused 21\nrefused 21\nrefused 21\nrefused 21\ngranted 10 bus\ntick 0 0\n"
@@ -136,9 +107,9 @@ fn bytes_that_are_no_call() {
 
 #[test]
 fn bytes_left_over() {
-    assert_eq!(after(&listed(), b""), "");
-    assert_eq!(after(&listed(), b"T"), "refused 22\n");
-    assert_eq!(after(&listed(), b"T\0\0xy"), "tick 0 0\nrefused 22\n");
+    assert_eq!(after(&bus(), b""), "");
+    assert_eq!(after(&bus(), b"T"), "refused 22\n");
+    assert_eq!(after(&bus(), b"T\0\0xy"), "tick 0 0\nrefused 22\n");
 }
 
 /// More than one piece is read and more than one is written, and pieces do not end at the end of a call.
@@ -146,7 +117,7 @@ fn bytes_left_over() {
 fn a_long_list() {
     let calls = b"Q\x0a\0R\x0a\0T\0\0".repeat(20_000);
     let lines = "granted 10 bus\nreleased 10 bus free\ntick 0 0\n".repeat(20_000);
-    let input = [&listed()[..], &calls, b"Q"].concat();
+    let input = [&bus()[..], &calls, b"Q"].concat();
     for mode in &MODES[..2] {
         let mut output = Vec::new();
         run(&mut &input[..], &mut output, mode).unwrap();

@@ -1,20 +1,6 @@
 use super::*;
-use crate::analysis::tests::{file, made, Numbers};
+use crate::samples::{bus, figure2, file, in_pieces, made, Numbers};
 use crate::{analysis, name};
-
-/// The plan of `examples/bus.sh`.
-fn bus() -> Vec<u8> {
-    [
-        &[1, 2, 2, 1, 2, 0, 16, 0, 32, 0, 36, 0, 44, 0, 47, 0][..],
-        &[0, 10, 1, 0, 50, 0, 5, 0],
-        &[1, 20, 1, 0, 50, 0, 5, 0],
-        &[0, 0, 3, 0],
-        &[0, 0, 2, 0],
-        &[1, 0, 3, 0],
-        b"bus",
-    ]
-    .concat()
-}
 
 const BUS: &str = "\
 plan 2 2 1 2
@@ -28,23 +14,9 @@ requirement 20 0 0 45 45 0 met
 admitted yes
 ";
 
-/// Hands out so many bytes at a time.
-struct Slowly<'a>(&'a [u8], usize);
-
-impl Read for Slowly<'_> {
-    fn read(&mut self, to: &mut [u8]) -> io::Result<usize> {
-        let count = self.1.min(to.len());
-        self.0.read(&mut to[..count])
-    }
-}
-
 /// What is printed, which is the same for all sizes of pieces.
 fn printed(input: &[u8]) -> String {
-    let by = |size| {
-        let mut output = Vec::new();
-        run(&mut Slowly(input, size), &mut output).unwrap();
-        String::from_utf8(output).unwrap()
-    };
+    let by = |size| in_pieces(input, size, |input, output| run(input, output));
     let whole = by(usize::MAX);
     for size in [1, 7, 64] {
         assert_eq!(by(size), whole, "pieces of {size}");
@@ -86,24 +58,6 @@ fn a_refused_plan_is_one_line() {
 /// with hold times 2, 3 and 10 and a wait time of 7, and on P2 all three with 3, 4 and 7 and one of 10.
 #[test]
 fn the_papers_example() {
-    let mut tasks: Vec<_> = (1..=5)
-        .map(|tag| (0, tag, 6 - tag as u8, 100, 10))
-        .collect();
-    tasks.extend([(1, 11, 3, 50, 6), (1, 12, 2, 61, 5), (1, 13, 1, 100, 10)]);
-    let sections = [
-        (0, 0, 2),
-        (0, 2, 3),
-        (1, 0, 3),
-        (2, 1, 5),
-        (3, 0, 5),
-        (3, 2, 2),
-        (4, 2, 2),
-        (5, 0, 3),
-        (5, 1, 2),
-        (6, 0, 2),
-        (6, 1, 1),
-        (7, 0, 4),
-    ];
     let expected = "\
 plan 2 8 3 12
 resource A global
@@ -131,7 +85,7 @@ requirement 12 0 4 44 40 40 met
 requirement 13 0 0 68 68 20 met
 admitted no
 ";
-    assert_eq!(printed(&file(2, 3, &tasks, &sections)), expected);
+    assert_eq!(printed(&figure2(61)), expected);
 }
 
 /// C7: C = T = 5, no higher task, one lower task with one global section of 4. Processor 2 has no task, and B is unused.
