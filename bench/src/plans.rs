@@ -3,6 +3,7 @@
 use compare::plans::file;
 use compare::random::Random;
 use peer::{Counts, Plan, Section, Task};
+use std::array::from_fn;
 
 /// Every count at its limit; names of 12 bytes that differ in the last one, so that telling them apart takes the longest.
 pub fn full() -> Vec<u8> {
@@ -77,68 +78,49 @@ pub fn small() -> Vec<u8> {
     file(&plan, b"bus")
 }
 
-/// 64 tasks on some processors, with periods near 65,535 and short sections on 16 resources, all global: admitted, so that no
-/// task's tolerance is left out.
-pub fn busy(processors: u8) -> Vec<u8> {
-    let mut plan = Plan {
+/// 64 tasks and 255 sections on 16 resources, all global: each task's first is on resource i % 16.
+fn sharing(processors: u8, task: impl Fn(u8) -> Task, length: fn(u16) -> u16) -> Vec<u8> {
+    let plan = Plan {
         counts: Counts {
             processors,
             tasks: 64,
             resources: 16,
             sections: 255,
         },
-        ..Plan::default()
-    };
-    for (i, task) in (0u8..).zip(&mut plan.tasks) {
-        *task = Task {
-            processor: i % processors,
-            tag: i.into(),
-            priority: 1 + i / processors,
-            period: 65_535 - u16::from(i),
-            execution: 20,
-        };
-    }
-    plan.lengths = [1; 16];
-    for (i, section) in (0u16..).zip(&mut plan.sections) {
-        *section = Section {
+        tasks: from_fn(|i| task(i as u8)),
+        lengths: [1; 16],
+        sections: from_fn(|i| Section {
             task: (i % 64) as u8,
             resource: ((i / 64 * 5 + i) % 16) as u8,
-            length: 1 + i % 2,
-        };
-    }
+            length: length(i as u16),
+        }),
+    };
     file(&plan, b"ABCDEFGHIJKLMNOP")
 }
 
-/// 64 tasks on 8 processors, 16 resources that all are global, 255 sections of nearly 1,000 ticks: each task's first is on
-/// resource i % 16, so that each resource has four users on four processors among the tasks' first sections.
-pub fn long() -> Vec<u8> {
-    let mut plan = Plan {
-        counts: Counts {
-            processors: 8,
-            tasks: 64,
-            resources: 16,
-            sections: 255,
-        },
-        ..Plan::default()
+/// Periods near 65,535 and short sections on some processors: admitted, so that no task's tolerance is left out.
+pub fn busy(processors: u8) -> Vec<u8> {
+    let task = |i: u8| Task {
+        processor: i % processors,
+        tag: i.into(),
+        priority: 1 + i / processors,
+        period: 65_535 - u16::from(i),
+        execution: 20,
     };
-    for (i, task) in (0u8..).zip(&mut plan.tasks) {
-        *task = Task {
-            processor: (i + i / 16) % 8,
-            tag: i.into(),
-            priority: 1 + i,
-            period: 65_535,
-            execution: 60_000,
-        };
-    }
-    plan.lengths = [1; 16];
-    for (i, section) in (0u16..).zip(&mut plan.sections) {
-        *section = Section {
-            task: (i % 64) as u8,
-            resource: ((i / 64 * 5 + i) % 16) as u8,
-            length: 1000 - i % 7,
-        };
-    }
-    file(&plan, b"ABCDEFGHIJKLMNOP")
+    sharing(processors, task, |i| 1 + i % 2)
+}
+
+/// 8 processors and sections of nearly 1,000 ticks: each resource has four users on four processors among the tasks' first
+/// sections.
+pub fn long() -> Vec<u8> {
+    let task = |i: u8| Task {
+        processor: (i + i / 16) % 8,
+        tag: i.into(),
+        priority: 1 + i,
+        period: 65_535,
+        execution: 60_000,
+    };
+    sharing(8, task, |i| 1000 - i % 7)
 }
 
 /// 63 tasks of processor 0 and one of processor 1, all on one resource.
