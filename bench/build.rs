@@ -7,7 +7,7 @@ fn main() {
         .parent()
         .expect("bench lies in the repository");
     let folder = root.join("target/staticlib");
-    for archive in ["plan_c", "analysis_c", "machine_c"] {
+    for archive in ["plan_c", "analysis_c", "machine_c", "sheet_c"] {
         let path = folder.join(format!("lib{archive}.a"));
         println!("cargo:rustc-link-arg-bin=bench={}", path.display());
         println!("cargo:rerun-if-changed={}", path.display());

@@ -6,6 +6,9 @@ mod same;
 mod time;
 
 use bench::{lists, plans};
+use compare::plans::Size;
+use compare::random::Random;
+use std::cell::RefCell;
 use time::Pace;
 
 const QUICK: Pace = Pace {
@@ -21,6 +24,7 @@ fn main() {
     let (full, small) = (plans::full(), plans::small());
     same::damaged_plans(&[&full, &small], 20_000);
     same::questions(2_000);
+    same::sheets(2_000);
     same::lists(600, 80);
     time::report(
         "reading the full plan",
@@ -37,6 +41,7 @@ fn main() {
         plain::read,
     );
     analysis();
+    sheets();
     machine();
 }
 
@@ -63,6 +68,28 @@ fn analysis() {
             proved::admission,
             plain::admission,
         );
+    }
+}
+
+/// Whole datasheets, in a lent buffer: of plans whose periods are short, so that what counts is the lines, and of plans whose periods
+/// are long, where it is the tolerances.
+fn sheets() {
+    let buffer = RefCell::new(vec![0; 131_072]);
+    let measure = |what: &str, pace, file: &[u8]| {
+        time::report(
+            what,
+            pace,
+            file,
+            |file| proved::sheet(file, &mut buffer.borrow_mut()),
+            |file| plain::sheet(file, &mut buffer.borrow_mut()),
+        );
+    };
+    let full = compare::plans::some(Size::full(64), &mut Random::of(b'D', 0));
+    measure("the datasheet of a full plan", QUICK, &full);
+    measure("the datasheet of the small plan", QUICK, &plans::small());
+    for processors in [8, 2] {
+        let what = format!("the datasheet of 64 tasks on {processors} processors, T near 65,535");
+        measure(&what, SLOW, &plans::busy(processors));
     }
 }
 

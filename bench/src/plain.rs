@@ -48,6 +48,14 @@ pub fn admission(file: &[u8]) -> u64 {
     }
 }
 
+#[inline(never)]
+pub fn sheet(file: &[u8], out: &mut [u8]) -> u64 {
+    match peer::sheet::write(file, out) {
+        Ok(length) => 256 * length as u64,
+        Err(refusal) => refusal.number().into(),
+    }
+}
+
 /// An answer: the refusal in the low byte, above it which answer it is, and its values.
 pub fn answer_number(answer: &Answer) -> u64 {
     match *answer {

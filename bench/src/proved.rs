@@ -1,11 +1,12 @@
-//! The proved code, from the archives of `crates/plan_c`, `crates/analysis_c` and `crates/machine_c`. Each function returns one
-//! number; those of the first two have the refusal in the low byte, and a figure above it.
+//! The proved code, from the archives of `crates/plan_c`, `crates/analysis_c`, `crates/machine_c` and `crates/sheet_c`. Each function
+//! returns one number; but for those of the machine it has the refusal in the low byte, and a figure above it.
 
 mod archive {
     extern "C" {
         pub fn plan_read(file: *const u8, length: usize) -> u64;
         pub fn hold_time_at(file: *const u8, length: usize, x: u16) -> u64;
         pub fn plan_admission(file: *const u8, length: usize) -> u64;
+        pub fn plan_sheet(file: *const u8, length: usize, out: *mut u8, room: usize) -> u64;
         pub fn machine_answer(
             file: *const u8,
             length: usize,
@@ -41,6 +42,12 @@ pub fn hold_at(file: &[u8], x: u16) -> u64 {
 pub fn admission(file: &[u8]) -> u64 {
     // SAFETY: as above.
     unsafe { archive::plan_admission(file.as_ptr(), file.len()) }
+}
+
+/// Puts the datasheet of a plan at the front of a buffer, and gives its length.
+pub fn sheet(file: &[u8], out: &mut [u8]) -> u64 {
+    // SAFETY: the function reads `length` bytes at `file`, writes at most `room` bytes at `out`, and nothing else.
+    unsafe { archive::plan_sheet(file.as_ptr(), file.len(), out.as_mut_ptr(), out.len()) }
 }
 
 /// Makes a list of calls on a fresh machine, then one more, and gives its answer.

@@ -46,6 +46,25 @@ pub fn questions(count: usize) {
     println!("{count} plans: the same {held} hold times and the same admission from both, {admitted} admitted");
 }
 
+/// The datasheets of `count` plans.
+pub fn sheets(count: usize) {
+    let mut random = Random(START);
+    let (mut one, mut other) = (vec![0; 131_072], vec![0; 131_072]);
+    let mut bytes = 0;
+    for i in 0..count {
+        let file = plans::some(&mut random);
+        let length = proved::sheet(&file, &mut one);
+        assert_eq!(
+            length,
+            plain::sheet(&file, &mut other),
+            "plan {i}: {file:?}"
+        );
+        assert!(one == other, "plan {i}: {file:?}");
+        bytes += length / 256;
+    }
+    println!("{count} plans: the same datasheet from both, {bytes} bytes in all");
+}
+
 /// `count` lists of calls on as many plans: the answer to each call, and all of the state after each list.
 pub fn lists(count: usize, length: usize) {
     let mut random = Random(START);
