@@ -6,9 +6,9 @@ use native.Mathlib.Omega.{arith}
 use native.Mathlib.Nat.{mul-le-mul}
 use lib.Dec.{eqb}
 use lib.ListN.{length}
-use mir.Val.{boolByte}
+use mir.Syntax.{w32}
+use mir.Val.{Fits}
 use Rattle.folds.specs.Below.{countBelow, sumBelow}
-use Rattle.folds.proofs.Tests.{byte-count, byte-le}
 use Rattle.folds.proofs.Figures.{count-step, sum-step}
 use Rattle.folds.proofs.Ranges.{cond-bound}
 use Rattle.plan.specs.Plan.{Plan, Valid}
@@ -44,18 +44,19 @@ module _ (p : Plan) (v : Valid p) (i q : ℕ) (g : global p q ≡ true) where
   hold-most j = cond-bound (global p q && uses p j q) (holdTime p j q) 65000 (λ _. hold-high p v j q)
 
   -- one more task, of processor m and with this hold time
-  pub counted-more : {j count sum : ℕ} (hold m k t : ℕ) → Counted p i q j count sum → hold ≡ holdAt p j q
+  pub counted-more : {j count sum : ℕ} (hold m k d t : ℕ) → Counted p i q j count sum → hold ≡ holdAt p j q
       → m ≡ processorOf p j → k ≡ processorOf p i
+      → d ≡ cond ((eqb m k && not (eqb hold 0)) && not (eqb j i)) 1 0
       → t ≡ cond ((eqb m k && not (eqb hold 0)) && not (eqb j i)) hold 0
-      → Counted p i q (j + 1) (count + boolByte ((eqb m k && not (eqb hold 0)) && not (eqb j i))) (sum + t)
-  counted-more {j} {count} {sum} hold m k t w eh em ek et =
+      → Counted p i q (j + 1) (count + d) (sum + t)
+  counted-more {j} {count} {sum} hold m k d t w eh em ek ed et =
       let on : Bool = (eqb m k && not (eqb hold 0)) && not (eqb j i) in
       let e : on ≡ fellow p i q j = rw (eh, em, ek) (fellow-test j) in
       let s : t ≡ cond (fellow p i q j) (holdTime p j q) 0 = et ∙ ap (λ (b : Bool). cond b hold 0) e ∙ rw eh (fellow-hold p i q j g) in
       record {
-        few = omega (arith, w .few, byte-le on);
+        few = omega (arith, w .few, ed, cond-bound on 1 1 (λ _. omega arith));
         low = omega (arith, w .low, cond-bound on hold 65535 (λ _. omega (arith, eh, hold-most j)), et);
-        counted = count-step j (fellow p i q) (w .counted) (byte-count on ∙ ap (λ (b : Bool). cond b 1 0) e);
+        counted = count-step j (fellow p i q) (w .counted) (ed ∙ ap (λ (b : Bool). cond b 1 0) e);
         added = sum-step j (λ x. cond (fellow p i q x) (holdTime p x q) 0) (w .added) s;
       }
 
@@ -68,13 +69,14 @@ module _ (p : Plan) (v : Valid p) (i q : ℕ) (g : global p q ≡ true) where
       let s : sum ≡ fellowHolds p i q = w .added ∙ ap (λ (m : ℕ). sumBelow m (λ x. cond (fellow p i q x) (holdTime p x q) 0)) e in
       (c ∙ sym (fellows-count p i q), s, omega (arith, w .few, e, v .tasks), omega (arith, s, fellow-high p v i q))
 
-  -- the longest wait from these, and that it and its parts fit 32 bits
+  -- the longest wait from these
   pub longest-made : (count holds wait : ℕ) → count ≡ length (fellows p i q) → holds ≡ fellowHolds p i q → wait ≡ waitTime p (processorOf p i) q
       → holds + (count + 1) * wait ≡ longestWait p i q
   longest-made count holds wait ec eh ew = rw (ec, eh, ew) (sym (longest-figures p i q g))
 
-  pub longest-fits : (count holds wait : ℕ) → count ≤ 64 → holds ≤ 4160000 → wait ≤ 524280
-      → ((count + 1) * wait < 4294967296) × (holds + (count + 1) * wait < 4294967296)
-  longest-fits count holds wait lc lh lw =
-      let m : (count + 1) * wait ≤ 65 * 524280 = mul-le-mul {n₁ = count + 1} {n₂ = 65} (omega arith) lw in
-      (omega (arith, m), omega (arith, m))
+-- what the formula adds and multiplies fits 32 bits
+pub product-fits : {m wait : ℕ} → m ≤ 65 → wait ≤ 524280 → Fits w32 (m * wait)
+product-fits {m} l h = record { fits = let x : m * _ ≤ 65 * 524280 = mul-le-mul l h in omega (arith, x) }
+
+pub sum-fits : {holds m wait : ℕ} → holds ≤ 4160000 → m ≤ 65 → wait ≤ 524280 → Fits w32 (holds + m * wait)
+sum-fits {m = m} k l h = record { fits = let x : m * _ ≤ 65 * 524280 = mul-le-mul l h in omega (arith, x) }

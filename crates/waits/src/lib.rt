@@ -1,7 +1,7 @@
 // The longest wait of a task for a resource, from a checked file and the tables of its hold times and budgets. Each function is for
 // the crates above, and says in its `requires` what it relies on.
 ghost use mathlib.Core.Path.{_≡_};
-ghost use mathlib.Core.Bool.{true};
+ghost use mathlib.Core.Bool.{true, cond};
 ghost use Prim.Native.Nat.{_<_, _≤_};
 ghost use lib.ListN.{length};
 ghost use Rattle.plan.specs.Plan.{planOf, Checked};
@@ -23,6 +23,13 @@ pub struct Longest {
     pub wait: u32,
 }
 
+// 1 for true.
+fn flag(b: bool) -> u8
+    ensures { λ r. ⌜ (r ≡ cond b 1 0) × (r ≤ 1) ⌝ }
+{
+    b as u8
+}
+
 // The fellows of task i on the global resource q.
 fn fellows_of(file: &[u8], holds: &[u16], i: usize, q: usize) -> Fellows
     requires { ⌜ (Checked (now file)) × (Cells (holdAt (planOf (now file))) (now holds)) × (i < planOf (now file) .tasks) × (q < 16) × (global (planOf (now file)) q ≡ true) ⌝ }
@@ -39,7 +46,7 @@ fn fellows_of(file: &[u8], holds: &[u16], i: usize, q: usize) -> Fellows
         let row = plan::checked::task(file, j);
         let hold = holds[j * 16 + q];
         let is_fellow = (row.processor == k) & (hold != 0) & !(j == i);
-        count += is_fellow as u8;
+        count += flag(is_fellow);
         sum += folds::chosen(is_fellow, hold, 0) as u32;
         j += 1;
     }

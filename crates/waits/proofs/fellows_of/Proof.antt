@@ -1,12 +1,9 @@
 -- The invariant: the fellows below j are counted, and their hold times added up.
-use Prim.Native.Nat.{_+_, _*_, _≤_, _-_}
-use mathlib.Core.Bool.{_&&_, not}
+use Prim.Native.Nat.{_+_, _*_, _≤_, _-_, _<_}
 use mathlib.Core.Path.{_≡_, sym, ap, _∙_}
 use native.Mathlib.Omega.{arith}
 use borrow.Author.Needs.{needs}
-use lib.Dec.{eqb}
 use lib.ListN.{getD}
-use Rattle.folds.proofs.Tests.{byte-le}
 use Rattle.rows.specs.declared.TaskRow.{TaskRow}
 use Rattle.plan.specs.Plan.{planOf}
 use Rattle.plan.proofs.Laws.{valid-plan}
@@ -52,16 +49,11 @@ mul-hold-2 c = omega (arith, c .before .before .before .before .before .before .
 shared-slice-read-hold : tie.Need-shared-slice-read-hold Inv-loop μ-loop
 shared-slice-read-hold c = omega (arith, c .before .before .before .before .before .before .before .before .before .pre .1 .long, c .before .before .before .before .before .before .before .before .before .pre .3)
 
-cast-count : tie.Need-cast-count Inv-loop μ-loop
-cast-count c = search needs
+flag-requires : tie.Need-flag-requires Inv-loop μ-loop
+flag-requires c κs = tt
 
 add-count : tie.Need-add-count Inv-loop μ-loop
-add-count c =
-    let l = c .before .before .before .before .loop in
-    let a = c .before .before .before .before .before .before .before .before .before .before .args in
-    let hold = getD (a .holds .now) (l .j * 16 + a .q) 0 in
-    let on = (eqb (c .before .before .task2 .result .processor) (c .before .before .before .before .before .task .result .processor) && not (eqb hold 0)) && not (eqb (l .j) (a .i)) in
-    omega (arith, l .inv .4 .few, byte-le on)
+add-count c = omega (arith, c .before .before .before .before .before .loop .inv .4 .few, c .flag .ensures .1)
 
 chosen-requires : tie.Need-chosen-requires Inv-loop μ-loop
 chosen-requires c κs = tt
@@ -80,15 +72,15 @@ loop-less c = omega arith
 
 loop-again : tie.Need-loop-again Inv-loop μ-loop
 loop-again c =
-    let l = c .before .before .before .before .before .loop in
-    let a = c .before .before .before .before .before .before .before .before .before .before .before in (
+    let l = c .before .before .before .before .before .before .loop in
+    let a = c .before .before .before .before .before .before .before .before .before .before .before .before in (
       omega arith,
       l .inv .1,
       l .inv .2,
       l .inv .3,
       counted-more (planOf (a .args .file .now)) (valid-plan _ (a .pre .0)) (a .args .i) (a .args .q) (a .pre .4)
-          (getD (a .args .holds .now) (l .j * 16 + a .args .q) 0) (c .before .before .before .task2 .result .processor) (c .before .before .before .before .before .before .task .result .processor) (c .chosen .result) (l .inv .4)
-          (a .pre .1 .at (l .j) (a .args .q) (omega arith) (a .pre .3)) (ap (λ (r : TaskRow). r .processor) (c .before .before .before .task2 .ensures)) (l .inv .3) (c .chosen .ensures),
+          (getD (a .args .holds .now) (l .j * 16 + a .args .q) 0) (c .before .before .before .before .task2 .result .processor) (c .before .before .before .before .before .before .before .task .result .processor) (c .before .flag .result) (c .chosen .result) (l .inv .4)
+          (a .pre .1 .at (l .j) (a .args .q) (omega arith) (a .pre .3)) (ap (λ (r : TaskRow). r .processor) (c .before .before .before .before .task2 .ensures)) (l .inv .3) (c .before .flag .ensures .0) (c .chosen .ensures),
     )
 
 returns : tie.Need-returns Inv-loop μ-loop
@@ -112,7 +104,7 @@ fellows-of-spec =
     add-hold
     mul-hold-2
     shared-slice-read-hold
-    cast-count
+    flag-requires
     add-count
     chosen-requires
     cast-sum

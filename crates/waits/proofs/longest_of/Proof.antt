@@ -1,11 +1,13 @@
 -- The limit's formula over the figures of the fellows.
+use Prim.Native.Nat.{_≤_}
 use mathlib.Core.Path.{_≡_, ap, _∙_}
+use native.Mathlib.Omega.{arith}
 use borrow.Author.Needs.{needs}
 use Rattle.rows.specs.declared.TaskRow.{TaskRow}
 use Rattle.plan.specs.Plan.{planOf}
 use Rattle.plan.proofs.Laws.{valid-plan}
 use Rattle.equations.specs.HoldTimes.{waitTime}
-use Rattle.waits.proofs.Counting.{longest-made, longest-fits}
+use Rattle.waits.proofs.Counting.{longest-made, product-fits, sum-fits}
 use Rattle.waits.proofs.longest_of.Statement.{statement}
 use Rattle.waits.proofs.longest_of.Tie as tie
 
@@ -25,14 +27,11 @@ add-t11 : tie.Need-add-t11
 add-t11 c = search needs
 
 mul-t12 : tie.Need-mul-t12
-mul-t12 c =
-    let a = c .before .before .before .before .before .before in
-    record { fits = longest-fits (planOf (a .args .file .now)) (valid-plan _ (a .pre .0)) (a .args .i) (a .args .q) (a .pre .5) (c .fellows-of .result .count) (c .fellows-of .result .holds) (c .before .wait-in .result) (c .fellows-of .ensures .2) (c .fellows-of .ensures .3) (c .before .wait-in .ensures .1) .0 }
+mul-t12 c = product-fits (let few : _ ≤ 65 = omega (arith, c .fellows-of .ensures .2) in few) (c .before .wait-in .ensures .1)
 
 add-t13 : tie.Need-add-t13
 add-t13 c =
-    let a = c .before .before .before .before .before .before .before in
-    record { fits = longest-fits (planOf (a .args .file .now)) (valid-plan _ (a .pre .0)) (a .args .i) (a .args .q) (a .pre .5) (c .before .fellows-of .result .count) (c .before .fellows-of .result .holds) (c .before .before .wait-in .result) (c .before .fellows-of .ensures .2) (c .before .fellows-of .ensures .3) (c .before .before .wait-in .ensures .1) .1 }
+    sum-fits (c .before .fellows-of .ensures .3) (let few : _ ≤ 65 = omega (arith, c .before .fellows-of .ensures .2) in few) (c .before .before .wait-in .ensures .1)
 
 returns : tie.Need-returns
 returns c =
