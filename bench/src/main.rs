@@ -15,6 +15,10 @@ const QUICK: Pace = Pace {
     rounds: 401,
     calls: 500,
 };
+const MEDIUM: Pace = Pace {
+    rounds: 201,
+    calls: 10,
+};
 const SLOW: Pace = Pace {
     rounds: 21,
     calls: 1,
@@ -85,7 +89,7 @@ fn sheets() {
         );
     };
     let full = compare::plans::some(Size::full(64), &mut Random::of(b'D', 0));
-    measure("the datasheet of a full plan", QUICK, &full);
+    measure("the datasheet of a full plan", MEDIUM, &full);
     measure("the datasheet of the small plan", QUICK, &plans::small());
     for processors in [8, 2] {
         let what = format!("the datasheet of 64 tasks on {processors} processors, T near 65,535");

@@ -383,8 +383,8 @@ fn put_sheet(buf: &mut [u8], file: &[u8]) -> usize
     put_plan_sheet(buf, file)
 }
 
-// The datasheet of a plan file, at the front of a lent buffer; the refusal 10 where that is too short for it.
-pub fn sheet(file: &[u8], out: &mut [u8]) -> Line
+// The sheet by way of a buffer of its own, for a lent one that may be too short for it.
+fn sheet_aside(file: &[u8], out: &mut [u8]) -> Line
     ensures { λ r. ⌜ r ≡ lineFor (sheetText (now (file .entry))) (length (now (out .entry))) ⌝ }
     ensures { λ r. ⌜ now (out .exit) ≡ lineIn (sheetText (now (file .entry))) (now (out .entry)) ⌝ }
     ensures { λ r. ⌜ r .length ≤ 131072 ⌝ }
@@ -392,4 +392,17 @@ pub fn sheet(file: &[u8], out: &mut [u8]) -> Line
     let mut buf = [0u8; 131072];
     let end = put_sheet(&mut buf, file);
     text::hand_over(&buf[0..end], out)
+}
+
+// The datasheet of a plan file, at the front of a lent buffer; the refusal 10 where that is too short for it.
+pub fn sheet(file: &[u8], out: &mut [u8]) -> Line
+    ensures { λ r. ⌜ r ≡ lineFor (sheetText (now (file .entry))) (length (now (out .entry))) ⌝ }
+    ensures { λ r. ⌜ now (out .exit) ≡ lineIn (sheetText (now (file .entry))) (now (out .entry)) ⌝ }
+    ensures { λ r. ⌜ r .length ≤ 131072 ⌝ }
+{
+    if out.len() < 131072 {
+        return sheet_aside(file, out);
+    }
+    let length = put_sheet(out, file);
+    Line { refusal: 0, length }
 }
