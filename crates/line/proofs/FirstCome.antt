@@ -11,7 +11,7 @@ use Rattle.line.specs.Rules.{Terms, Turn, turn, Line, line, queueOf, has
 use Rattle.line.proofs.Cases.{by-leave, or-no}
 
 -- a processor that is not queued has no task in line
-no-tasks : (k : ℕ) (q : List Turn) → hasTurn k q ≡ false → tasksOf k q ≡ []
+pub no-tasks : (k : ℕ) (q : List Turn) → hasTurn k q ≡ false → tasksOf k q ≡ []
 no-tasks k [] a = refl
 no-tasks k (turn j u us ∷ q) a = let n = or-no (eqb j k) (hasTurn k q) a in rw (n .0) (no-tasks k q (n .1))
 

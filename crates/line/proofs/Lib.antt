@@ -1,6 +1,7 @@
 pub mod Cases
 pub mod FirstCome
 pub mod Sound
+pub mod Own
 pub mod Waiting
 pub mod Heads
 pub mod Lists

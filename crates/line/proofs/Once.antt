@@ -6,12 +6,13 @@ use mathlib.Core.List.{List, [], _∷_, _++_}
 use mathlib.Core.Path.{_≡_, refl, sym, ap, _∙_}
 use native.Mathlib.Nat.{mul-le-mul}
 use native.Mathlib.Omega.{arith}
-use borrow.Author.Tests.{eq-eqb, eqb-false, ne-eqb}
+use borrow.Author.Tests.{eq-eqb, eqb-true, eqb-false, ne-eqb}
 use lib.Dec.{eqb}
 use lib.ListN.{length}
 use Rattle.folds.specs.Below.{sumBelow, listBelow}
+use Rattle.folds.proofs.Tests.{or-out, is-not-true}
 use Rattle.folds.proofs.Arrays.{by-eq}
-use Rattle.line.specs.Rules.{Terms, Turn, turn, Line, line, among, standsIn, tasksOf, queueOf, sumOf, begin, join, entered, leave, released, ticked, limit}
+use Rattle.line.specs.Rules.{Terms, Turn, turn, Line, line, among, standsIn, tasksOf, queueOf, aheadOf, sumOf, begin, join, entered, leave, released, ticked, limit}
 use Rattle.line.proofs.Cases.{by-test, by-leave, or-no}
 use Rattle.line.proofs.Sound.{among-last, but, but-lt, Owns, Proper, nobody, stands}
 use Rattle.line.proofs.Lists.{list-sum, sum-ones}
@@ -74,6 +75,22 @@ module _ (t : Terms) where
 pub once-tasks : (k : ℕ) {q : List Turn} → EachOnce q → Once (tasksOf k q)
 once-tasks k empty = none
 once-tasks k (next {k = j} o r) = by-test Once (eqb j k) (λ _. o) (λ _. once-tasks k r)
+
+-- those ahead of task i are some of them, and i is not
+pub ahead-among : (i j : ℕ) (us : List ℕ) → among j (aheadOf i us) ≡ true → (among j us ≡ true) × (j ≡ i → ⊥)
+ahead-among i j [] = λ a. absurd (true≢false (sym a))
+ahead-among i j (u ∷ us) =
+    by-eq (λ (d : Bool). among j (cond d [] (u ∷ aheadOf i us)) ≡ true → ((eqb u j || among j us) ≡ true) × (j ≡ i → ⊥)) u i
+    (λ _ a. absurd (true≢false (sym a)))
+    (λ n a. or-out (eqb u j) (among j (aheadOf i us)) _ a
+    (λ m. (rw m, λ e. n (eqb-true u j m ∙ e)))
+    (λ m. let x = ahead-among i j us m in (rw (x .0) (or-true (eqb u j)), x .1)))
+
+pub ahead-once : (i : ℕ) {us : List ℕ} → Once us → Once (aheadOf i us)
+ahead-once i none = none
+ahead-once i (more {u = u} {us = us} a o) =
+    by-test Once (eqb u i) (λ _. none)
+    (λ _. more (is-not-true _ (λ m. true≢false (sym (ahead-among i u us m .0) ∙ a))) (ahead-once i o))
 
 -- who is not in line is not among them
 pub tasks-none : (i k : ℕ) (q : List Turn) → standsIn i q ≡ false → among i (tasksOf k q) ≡ false

@@ -9,7 +9,7 @@ use lib.Dec.{eqb}
 use Rattle.folds.specs.Below.{sumBelow}
 use Rattle.folds.proofs.Tests.{or-out}
 use Rattle.folds.proofs.Arrays.{by-eq}
-use Rattle.line.specs.Rules.{Terms, Turn, turn, Line, line, free, among, hasTurn, begin, join, entered, leave, released, ticked}
+use Rattle.line.specs.Rules.{Terms, Turn, turn, Line, line, free, queueOf, among, hasTurn, begin, join, entered, leave, released, ticked}
 use Rattle.line.proofs.Cases.{by-test, by-leave, or-no}
 
 -- What is asked of the terms, for those tasks that may come and with so many processors: a task may hold for a tick or more, and for
@@ -80,6 +80,10 @@ module _ (t : Terms) (known : ℕ → Bool) (procs : ℕ) where
     is-held : {h b k u : ℕ} {us : List ℕ} {rest : List Turn} → Clock h b (t .hold u) (t .budget k) → Proper (turn k u us ∷ rest)
         → Sound (line h b (turn k u us ∷ rest))
 
+  pub sound-queue : {l : Line} → Sound l → Proper (queueOf l)
+  sound-queue is-free = nobody
+  sound-queue (is-held c pr) = pr
+
   -- so the budgets of a queue are at most those of all processors
   pub load-le : (f : ℕ → ℕ) {q : List Turn} → Proper q → load f q ≤ sumBelow procs f
   load-le f nobody = omega arith
@@ -135,7 +139,7 @@ module _ (t : Terms) (known : ℕ → Bool) (procs : ℕ) where
         let c : Clock (t .hold u) (t .budget k) (t .hold u) (t .budget k) = omega (arith, fit .some u (f .1)) in
         is-held c (stands lt a o r)
 
-    sound-leave : (b k u : ℕ) (us : List ℕ) (rest : List Turn) → b ≤ t .budget k → Proper (turn k u us ∷ rest)
+    pub sound-leave : (b k u : ℕ) (us : List ℕ) (rest : List Turn) → b ≤ t .budget k → Proper (turn k u us ∷ rest)
         → Sound (leave t b (turn k u us ∷ rest))
     sound-leave b k u [] rest le (stands lt a o r) = sound-begin r
     sound-leave b k u (v ∷ vs) rest le (stands lt a o r) =

@@ -9,15 +9,11 @@ use lib.Dec.{eqb}
 use lib.ListN.{length}
 use Rattle.folds.proofs.Tests.{or-out}
 use Rattle.folds.proofs.Arrays.{by-eq}
-use Rattle.line.specs.Rules.{Terms, Turn, turn, Line, line, queueOf, among, standsIn, inLine, holds, hasTurn, tasksOf, sumOf}
-use Rattle.line.specs.Rules.{begin, join, entered, goOn, leave, released, ticked, limit}
+use Rattle.line.specs.Rules.{Terms, Turn, turn, Line, line, queueOf, among, standsIn, inLine, holds, hasTurn, tasksOf, aheadOf, sumOf}
+use Rattle.line.specs.Rules.{begin, join, entered, goOn, leave, released, ticked, aheadIn, limit}
 use Rattle.line.proofs.Cases.{by-test, by-leave, or-no}
+use Rattle.line.proofs.Own.{own-stands}
 use Rattle.line.proofs.Sound.{Fits, among-last, load, but, load-but, Proper, nobody, stands, Sound, is-free, is-held, load-le}
-
--- the tasks of a list that stand before task i
-abbrev pub aheadOf : ℕ → List ℕ → List ℕ
-aheadOf i [] = []
-aheadOf i (u ∷ us) = cond (eqb u i) [] (u ∷ aheadOf i us)
 
 module _ (t : Terms) (i : ℕ) where
   -- the processor of i, its wait time, and its tasks in a queue
@@ -29,10 +25,6 @@ module _ (t : Terms) (i : ℕ) where
 
   abbrev fellows : List Turn → List ℕ
   fellows q = tasksOf core q
-
-  -- the tasks of its processor that stand before i in a line
-  abbrev pub aheadIn : Line → List ℕ
-  aheadIn l = aheadOf i (tasksOf (t .processor i) (queueOf l))
 
   -- In a list of tasks: i waits at most n from when the first of them is granted. Each ahead costs its hold time, and perhaps a
   -- round of the other processors
@@ -108,7 +100,7 @@ module _ (t : Terms) (i : ℕ) where
       let n = or-no (eqb u i) (among i us) (or-no (among i (u ∷ us)) (standsIn i q) a .0) in
       by-test (λ z. holds i (line h b z) ≡ false) (eqb k core) (λ _. n .0) (λ _. n .0)
 
-  pub entered-ahead : (h b : ℕ) (q : List Turn) → standsIn i q ≡ false → aheadIn (entered t i (line h b q)) ≡ tasksOf (t .processor i) q
+  pub entered-ahead : (h b : ℕ) (q : List Turn) → standsIn i q ≡ false → aheadIn t i (entered t i (line h b q)) ≡ tasksOf (t .processor i) q
   entered-ahead h b q a = rw (entered-queue h b q, joins q) (last (fellows q) (new q a))
     where
       last : (us : List ℕ) → among i us ≡ false → aheadOf i (us ++ (i ∷ [])) ≡ us
@@ -171,19 +163,6 @@ module _ (t : Terms) (i : ℕ) where
 
     -- ── whoever is in line and does not hold waits, at most the limit behind the tasks ahead ──
 
-    none-turn : (k : ℕ) (q : List Turn) → hasTurn k q ≡ false → tasksOf k q ≡ []
-    none-turn k [] a = refl
-    none-turn k (turn j u us ∷ q) a = let x = or-no (eqb j k) (hasTurn k q) a in rw (x .0) (none-turn k q (x .1))
-
-    -- a task in line is among those of its processor
-    among-own : {q : List Turn} → Proper t known procs q → standsIn i q ≡ true → among i (fellows q) ≡ true
-    among-own nobody s = s
-    among-own (stands {k = k} {u = u} {us = us} {rest = q} lt a o r) s =
-        by-eq (λ (d : Bool). among i (cond d (u ∷ us) (fellows q)) ≡ true) k core
-        (λ e. or-out (among i (u ∷ us)) (standsIn i q) _ s (λ m. m)
-        (λ m. absurd (true≢false (sym (among-own r m) ∙ ap (among i) (none-turn core q (rw (← e) a))))))
-        (λ n. or-out (among i (u ∷ us)) (standsIn i q) _ s (λ m. absurd (n (sym (o .each i m .0)))) (among-own r))
-
     -- what the tasks ahead cost, and the budgets of the other processors in a queue
     abbrev cost : List ℕ → ℕ
     cost us = sumOf (t .hold) us + length us * round
@@ -206,7 +185,7 @@ module _ (t : Terms) (i : ℕ) where
         (λ e x l. here {m = cost (aheadOf i (u ∷ us))} {n = n} e (tasks-cost (u ∷ us) x) (omega arith))
         (λ e x l. past {k = k} {m = others q + cost (aheadOf i (fellows q))} {n = n} (far-cost q _ x (omega arith)) (omega arith)) m le
 
-    pub wait-bound : (l : Line) → Sound t known procs l → inLine i l ≡ true → holds i l ≡ false → Waiting (limit t i (aheadIn l)) l
+    pub wait-bound : (l : Line) → Sound t known procs l → inLine i l ≡ true → holds i l ≡ false → Waiting (limit t i (aheadIn t i l)) l
     wait-bound l is-free s nh = absurd (true≢false (sym s))
     wait-bound l (is-held {h = h} {b = b} {k = k} {u = u} {us = us} {rest = q} c pr) s nh =
         by-eq (λ (d : Bool). let f : List ℕ = cond d (u ∷ us) (fellows q) in
@@ -214,4 +193,4 @@ module _ (t : Terms) (i : ℕ) where
         (λ e m le. rw nh (behind {h = h} {m = cost (aheadOf i us)} {n = limit t i (u ∷ aheadOf i us)} e (tasks-cost us (rw nh at m)) (omega arith)))
         (λ e m le. let a : List ℕ = aheadOf i (fellows q) in
         beyond {b = b} {m = others q + cost a} {n = limit t i a} (far-cost q _ m (omega arith)) (omega arith))
-        (among-own pr s) (omega (arith, load-le t known procs (but (t .budget) core) pr, fit .waits core))
+        (sym (own-stands t known procs i pr) ∙ s) (omega (arith, load-le t known procs (but (t .budget) core) pr, fit .waits core))

@@ -1,7 +1,7 @@
 -- Rules 4 to 6 for one global resource, in the words of document 01, "The machine". Nothing here knows a plan: what governs the line
 -- is given by `Terms`.
 use Prim.Native.Nat.{ℕ, _+_, _*_, _-_}
-use mathlib.Core.Bool.{Bool, false, cond, _||_}
+use mathlib.Core.Bool.{Bool, false, cond, _&&_, _||_, not}
 use mathlib.Core.List.{List, [], _∷_, _++_}
 use lib.Dec.{eqb, leb}
 use lib.ListN.{length}
@@ -51,6 +51,10 @@ abbrev pub holds : ℕ → Line → Bool
 holds i (line h b []) = false
 holds i (line h b (turn k u us ∷ rest)) = eqb u i
 
+-- task i waits: it is in line and does not hold
+abbrev pub waiting : ℕ → Line → Bool
+waiting i l = inLine i l && not (holds i l)
+
 -- processor k has one of these turns
 abbrev pub hasTurn : ℕ → List Turn → Bool
 hasTurn k [] = false
@@ -65,6 +69,10 @@ abbrev pub isHead : ℕ → Line → Bool
 isHead k (line h b []) = false
 isHead k (line h b (turn j u us ∷ rest)) = eqb j k
 
+-- "A core is without the resource while it is queued and not head."
+abbrev pub without : ℕ → Line → Bool
+without k l = queued k l && not (isHead k l)
+
 -- the tasks of processor k that are in line, first come first
 abbrev pub tasksOf : ℕ → List Turn → List ℕ
 tasksOf k [] = []
@@ -74,6 +82,11 @@ tasksOf k (turn j u us ∷ rest) = cond (eqb j k) (u ∷ us) (tasksOf k rest)
 abbrev pub cut : Line → Bool
 cut (line h b []) = false
 cut (line h b (x ∷ rest)) = eqb (h - 1) 0
+
+-- the tasks of a list that stand before task i
+abbrev pub aheadOf : ℕ → List ℕ → List ℕ
+aheadOf i [] = []
+aheadOf i (u ∷ us) = cond (eqb u i) [] (u ∷ aheadOf i us)
 
 -- the sum of f over these
 abbrev pub sumOf : (ℕ → ℕ) → List ℕ → ℕ
@@ -122,6 +135,10 @@ module _ (t : Terms) where
   abbrev pub ticked : Line → Line
   ticked (line h b []) = line h b []
   ticked (line h b (x ∷ rest)) = cond (cut (line h b (x ∷ rest))) (leave (b - 1) (x ∷ rest)) (line (h - 1) (b - 1) (x ∷ rest))
+
+  -- "the number of tasks ahead (of the same processor, holder included)": those ahead of task i in a line in which it stands
+  abbrev pub aheadIn : ℕ → Line → List ℕ
+  aheadIn i l = aheadOf i (tasksOf (t .processor i) (queueOf l))
 
   -- the limit of task i behind these tasks: "sum of their hold times + (that number + 1) × the processor's wait time"
   abbrev pub limit : ℕ → List ℕ → ℕ

@@ -1,8 +1,9 @@
 -- What a call is answered, refused or not: its number, and the cuts of a tick.
 use Prim.Native.Nat.{ℕ}
-use mathlib.Core.Bool.{Bool, cond}
+use mathlib.Core.Bool.{Bool, true, false, cond}
 use mathlib.Core.List.{List, [], _∷_}
 use mathlib.Core.Path.{_≡_, refl, sym, ap, _∙_}
+use native.Mathlib.Omega.{arith}
 use borrow.Author.Tests.{ne-eqb}
 use Rattle.folds.specs.Below.{countBelow}
 use Rattle.folds.proofs.WordLaws.{word-ones}
@@ -16,11 +17,15 @@ use Rattle.protocol.specs.declared.Call.{Call}
 use Rattle.protocol.specs.declared.Call.the-variants.{Request, Release, Tick}
 use Rattle.protocol.specs.declared.Answer.{Answer}
 use Rattle.protocol.specs.declared.Answer.the-variants.{Refused}
-use Rattle.protocol.specs.Machine.{Lines, terms, requestTold, releaseTold, told, answerTold}
+use Rattle.protocol.specs.Machine.{Lines, terms, callCode, requestTold, releaseTold, told, answerTold}
 use Rattle.state.specs.declared.State.{State}
 use Rattle.state.specs.Shows.{shows}
-use Rattle.machine.specs.Replies.{callRefusal, reply, replyTold, Next, cutCount}
+use Rattle.state.specs.Sound.{sound}
+use Rattle.machine.specs.Replies.{stateRefusal, callRefusal, reply, replyTold, Next, cutCount}
 use Rattle.machine.specs.Inner.{cutsIn}
+
+abbrev IsZero : ℕ → Type 0
+IsZero n = n ≡ 0
 
 -- an answer by the rules has number 0
 request-number : (p : Plan) (i q : ℕ) (l : Rules.Line) → answerTold (requestTold p i q l) .number ≡ 0
@@ -56,6 +61,30 @@ module _ (f : List ℕ) (s : State) where
       by-eq (λ (b : Bool). cutsIn (cond b (told (planOf f) l Tick) (Refused k)) ≡ cond b (countBelow 16 (λ q. cut (l q))) 0) k 0
       (λ e. word-ones 16 (λ q. cut (l q)))
       (λ d. refl)
+
+  -- a call that is not refused is on a plan and a state that are not
+  pub state-refusal : (c : Call) → callRefusal f s c ≡ 0 → stateRefusal f s ≡ 0
+  unfolding callRefusal stateRefusal
+  state-refusal c =
+      by-eq (λ (b : Bool). IsZero (cond b (cond (sound (planOf f) s) (callCode (planOf f) (shows (planOf f) s) c) 19) (refusal f))
+      → IsZero (cond b (cond (sound (planOf f) s) 0 19) (refusal f))) (refusal f) 0
+      (λ _. go (sound (planOf f) s))
+      (λ _ z. z)
+    where
+      go : (b : Bool) → IsZero (cond b (callCode (planOf f) (shows (planOf f) s) c) 19) → IsZero (cond b 0 19)
+      go true z = refl
+      go false z = z
+
+  pub state-accepted : stateRefusal f s ≡ 0 → (refusal f ≡ 0) × (sound (planOf f) s ≡ true)
+  unfolding stateRefusal
+  state-accepted =
+      by-eq (λ (b : Bool). IsZero (cond b (cond (sound (planOf f) s) 0 19) (refusal f)) → (refusal f ≡ 0) × (sound (planOf f) s ≡ true)) (refusal f) 0
+      (λ e z. (e, go (sound (planOf f) s) z))
+      (λ d z. absurd (d z))
+    where
+      go : (b : Bool) → IsZero (cond b 0 19) → b ≡ true
+      go true z = refl
+      go false z = let bad : ⊥ = omega arith in absurd bad
 
   -- a plan that is refused
   pub plan-refused : (c : Call) {k : ℕ} → k ≡ refusal f → (k ≡ 0 → ⊥) → callRefusal f s c ≡ k

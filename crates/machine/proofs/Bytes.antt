@@ -1,18 +1,18 @@
 -- Three bytes as a call: what the letter says, and that they are one call at most.
-use Prim.Native.Nat.{ℕ, _+_, _*_}
+use Prim.Native.Nat.{ℕ, _+_, _*_, _/_}
 use mathlib.Core.Bool.{Bool, true, false, cond, _&&_, not}
 use mathlib.Core.List.{List, [], _∷_, _++_}
 use mathlib.Core.Path.{_≡_, refl, sym, ap, _∙_}
 use native.Mathlib.Numerals.{add-one}
 use borrow.Author.Tests.{ne-eqb, not-true, not-false}
 use lib.Dec.{eqb}
-use lib.ListN.{getD}
+use lib.ListN.{length, getD}
 use Rattle.protocol.specs.declared.Call.{Call}
 use Rattle.protocol.specs.declared.Call.the-variants.{Request, Release, Tick}
 use Rattle.state.specs.declared.State.{State}
 use Rattle.machine.specs.declared.Decoded.{Decoded}
 use Rattle.machine.specs.Replies.{Next}
-use Rattle.machine.specs.Promise.{Returned, called, callOf, decodedCalls, AfterBytes, callsBelow}
+use Rattle.machine.specs.Promise.{Returned, called, callOf, decodedCalls, AfterBytes, callsBelow, callsOf}
 
 -- the call that the letter says
 module _ (letter tag q : ℕ) where
@@ -55,25 +55,29 @@ none-more [] = refl
 none-more (c ∷ cs) = ap (λ (ds : List Call). c ∷ ds) (none-more cs)
 
 -- a turn of the loop over a list of calls
-bytes-returned : (f : List ℕ) (cs : List Call) (s t : State) (letter tag q : ℕ)
-    → Returned f cs s
+bytes-returned : (f : List ℕ) (start : State) (cs : List Call) (s t : State) (letter tag q : ℕ)
+    → Returned f start cs s
     → AfterBytes f s (callOf letter tag q) t
-    → Returned f (cs ++ callOf letter tag q) t
+    → Returned f start (cs ++ callOf letter tag q) t
 unfolding callOf
-bytes-returned f cs s t letter tag q r n = go (eqb letter 81) (eqb letter 82) (eqb letter 84 && (eqb tag 0 && eqb q 0)) n
+bytes-returned f start cs s t letter tag q r n = go (eqb letter 81) (eqb letter 82) (eqb letter 84 && (eqb tag 0 && eqb q 0)) n
   where
     three : Bool → Bool → Bool → List Call
     three a b d = cond a (Request tag q ∷ []) (cond b (Release tag q ∷ []) (cond d (Tick ∷ []) []))
 
-    go : (a b d : Bool) → AfterBytes f s (three a b d) t → Returned f (cs ++ three a b d) t
+    go : (a b d : Bool) → AfterBytes f s (three a b d) t → Returned f start (cs ++ three a b d) t
     go true b d n = called r n
     go false true d n = called r n
     go false false true n = called r n
     go false false false e = rw (e, ← none-more cs) r
 
-pub returned-step : (f l : List ℕ) (x : ℕ) {s t : State}
-    → Returned f (callsBelow x l) s
+pub returned-step : (f l : List ℕ) (x : ℕ) {start s t : State}
+    → Returned f start (callsBelow x l) s
     → AfterBytes f s (callOf (getD l (x * 3) 0) (getD l (x * 3 + 1) 0) (getD l (x * 3 + 2) 0)) t
-    → Returned f (callsBelow (x + 1) l) t
+    → Returned f start (callsBelow (x + 1) l) t
 unfolding callsBelow
-returned-step f l x {s} {t} r n = rw add-one (bytes-returned f (callsBelow x l) s t _ _ _ r n)
+returned-step f l x {start} {s} {t} r n = rw add-one (bytes-returned f start (callsBelow x l) s t _ _ _ r n)
+
+-- once all whole calls are passed
+pub all-calls : (f l : List ℕ) (x : ℕ) {start s : State} → x ≡ length l / 3 → Returned f start (callsBelow x l) s → Returned f start (callsOf l) s
+all-calls f l x e r = rw e at r

@@ -1,5 +1,5 @@
 -- The states that the operations return show the lines of the rules, whatever the calls; demand 3, and the longest wait.
-use Prim.Native.Nat.{ℕ, _/_, _<_}
+use Prim.Native.Nat.{ℕ, _<_}
 use mathlib.Core.Bool.{Bool, true}
 use mathlib.Core.List.{List, [], _∷_, _++_}
 use mathlib.Core.Path.{_≡_, refl, sym, ap, _∙_}
@@ -11,18 +11,21 @@ use Rattle.plan.specs.Plan.{Plan, planOf, Checked, Valid}
 use Rattle.plan.proofs.Laws.{valid-plan, tags-differ}
 use Rattle.protocol.specs.declared.Call.{Call}
 use Rattle.protocol.specs.declared.Call.the-variants.{Request}
-use Rattle.protocol.specs.Machine.{Lines, fresh, callCode, step, answer, run}
-use Rattle.protocol.proofs.Promise.{after-last, all-served}
+use Rattle.protocol.specs.Machine.{Lines, fresh, callCode, step, answer, after, run}
+use Rattle.protocol.proofs.OnceLines.{Orderly, orderly-fresh}
+use Rattle.protocol.proofs.Since.{after-last, each-since}
+use Rattle.protocol.proofs.Promise.{all-served}
 use Rattle.protocol.proofs.Longest.{waits-asked, never-more, never-longer}
 use Rattle.protocol.proofs.Reached.{each-reached}
 use Rattle.state.specs.declared.State.{State}
 use Rattle.state.specs.Shows.{freshState, shows}
 use Rattle.state.specs.Sound.{sound}
 use Rattle.state.proofs.FreshLaws.{fresh-sound, fresh-shows}
+use Rattle.state.proofs.Shown.{shown-orderly}
 use Rattle.state.proofs.One.{Shaped, one-state}
-use Rattle.machine.specs.Replies.{callRefusal, reply, Next}
-use Rattle.machine.specs.Promise.{Returned, started, called, Promise, Demand3, LongestWait, callsBelow, callsOf}
-use Rattle.machine.proofs.Answered.{plan-refused}
+use Rattle.machine.specs.Replies.{stateRefusal, callRefusal, reply, Next}
+use Rattle.machine.specs.Promise.{Returned, started, called, Promise, Demand3, Start, FromSound, Ran, FreshRan, LongestWait}
+use Rattle.machine.proofs.Answered.{state-refusal, state-accepted, plan-refused}
 use Rattle.machine.proofs.Acting.{sound-answer}
 
 module _ (f : List ℕ) (k : Checked f) where
@@ -34,34 +37,44 @@ module _ (f : List ℕ) (k : Checked f) where
   unfolding callRefusal step
   refused-step s c h d = rw (ne-eqb (callCode (planOf f) (shows (planOf f) s) c) 0 (rw (eq-eqb (refusal f) 0 (k .none), h) at d))
 
-  -- one more call
-  next-shows : (cs : List Call) (s t : State) (c : Call)
-      → (sound (planOf f) s ≡ true) × (shows (planOf f) s ≡ run (planOf f) cs)
-      → Next f s c t
-      → (sound (planOf f) t ≡ true) × (shows (planOf f) t ≡ run (planOf f) (cs ++ (c ∷ [])))
-  next-shows cs s t c h n =
-      let p : Plan = planOf f in
-      let last : step p (shows p s) c ≡ run p (cs ++ (c ∷ [])) = ap (λ (l : Lines). step p l c) (h .1) ∙ sym (after-last p fresh cs c) in
-      by-eq (λ (b : Bool). (sound p t ≡ true) × (shows p t ≡ run p (cs ++ (c ∷ [])))) (callRefusal f s c) 0
-      (λ e. (n .sound e, n .shows e ∙ last))
-      (λ d. rw (n .unchanged d) (h .0, sym (refused-step s c (h .0) d) ∙ last))
+  module _ (start : State) (s : Lines) (h : (sound (planOf f) start ≡ true) × (shows (planOf f) start ≡ s)) where
+    -- each returned state is sound, and shows what the rules make of the calls
+    pub returned-shows : (cs : List Call) (t : State) → Returned f start cs t
+        → (sound (planOf f) t ≡ true) × (shows (planOf f) t ≡ after (planOf f) s cs)
+    returned-shows _ _ started = h
+    returned-shows _ _ (called {cs = cs} {s = r} {t = t} {c = c} before n) =
+        let p : Plan = planOf f in
+        let x = returned-shows cs r before in
+        let last : step p (shows p r) c ≡ after p s (cs ++ (c ∷ [])) = ap (λ (l : Lines). step p l c) (x .1) ∙ sym (after-last p s cs c) in
+        by-eq (λ (b : Bool). (sound p t ≡ true) × (shows p t ≡ after p s (cs ++ (c ∷ [])))) (callRefusal f r c) 0
+        (λ e. (n .sound e, n .shows e ∙ last))
+        (λ d. rw (n .unchanged d) (x .0, sym (refused-step r c (x .0) d) ∙ last))
 
-  -- each returned state is sound, and shows what the rules make of the calls
-  pub returned-shows : (cs : List Call) (s : State) → Returned f cs s → (sound (planOf f) s ≡ true) × (shows (planOf f) s ≡ run (planOf f) cs)
-  returned-shows _ _ started = (fresh-sound (planOf f) (valid-plan f k), fresh-shows (planOf f))
-  returned-shows _ _ (called {cs} {s} {t} {c} r n) = next-shows cs s t c (returned-shows cs s r) n
+    -- each call is answered what the rules say
+    pub returned-answers : (cs : List Call) (t : State) (c : Call) → Returned f start cs t → reply f t c ≡ answer (planOf f) (after (planOf f) s cs) c
+    returned-answers cs t c r =
+        let x = returned-shows cs t r in
+        sym (sound-answer f (k .none) t c (x .0)) ∙ ap (λ (l : Lines). answer (planOf f) l c) (x .1)
 
-  -- each call is answered what the rules say
-  pub returned-answers : (cs : List Call) (s : State) (c : Call) → Returned f cs s → reply f s c ≡ answer (planOf f) (run (planOf f) cs) c
-  returned-answers cs s c r =
-      let h = returned-shows cs s r in
-      sym (sound-answer f (k .none) s c (h .0)) ∙ ap (λ (l : Lines). answer (planOf f) l c) (h .1)
+    -- the promise, where the lines are in order
+    promised : Orderly (planOf f) s → (calls : List Call) → Promise f start s calls
+    promised o calls =
+        record {
+          waiting = all-served (planOf f) (valid-plan f k) s o calls;
+          answers = λ before since c e t r. returned-answers before t c r;
+          states = λ before since e t r. returned-shows before t r;
+        }
 
--- where the plan is refused, nothing changes
-pub returned-refused : (f : List ℕ) → (refusal f ≡ 0 → ⊥) → (cs : List Call) (s : State) → Returned f cs s → s ≡ freshState
-returned-refused f d _ _ started = refl
-returned-refused f d _ _ (called {cs} {s} {t} {c} r n) =
-    n .unchanged (λ z. d (sym (plan-refused f s c refl d) ∙ z)) ∙ returned-refused f d cs s r
+  -- a fresh state shows fresh lines
+  pub fresh-is : (sound (planOf f) freshState ≡ true) × (shows (planOf f) freshState ≡ fresh)
+  fresh-is = (fresh-sound (planOf f) (valid-plan f k), fresh-shows (planOf f))
+
+-- where each call is refused, nothing changes
+pub returned-refused : (f : List ℕ) (start : State) → (stateRefusal f start ≡ 0 → ⊥) → (cs : List Call) (s : State) → Returned f start cs s → s ≡ start
+returned-refused f start d _ _ started = refl
+returned-refused f start d _ _ (called {cs} {s} {t} {c} r n) =
+    let e = returned-refused f start d cs s r in
+    n .unchanged (λ z. d (state-refusal f start c (rw (← e) z))) ∙ e
 
 -- the contract leaves one next state
 pub next-one : (f : List ℕ) → (refusal f ≡ 0 → Checked f) → (s t u : State) (c : Call) → Shaped t → Shaped u → Next f s c t → Next f s c u → t ≡ u
@@ -74,14 +87,15 @@ next-one f k s t u c a b m n =
     accepted : callRefusal f s c ≡ 0 → refusal f ≡ 0
     accepted e = by-eq (λ (x : Bool). refusal f ≡ 0) (refusal f) 0 (λ z. z) (λ d. sym (plan-refused f s c refl d) ∙ e)
 
+-- from every sound state
+pub from-sound : FromSound
+from-sound f start w =
+    promised f (w .plan) start (shows (planOf f) start) (w .sound, refl) (shown-orderly (planOf f) (valid-plan f (w .plan)) start (w .lines) (w .sound))
+
 -- demand 3, whole
 pub demand-3 : Demand3
 demand-3 f k calls =
-    record {
-      waiting = all-served (planOf f) (valid-plan f k) calls;
-      answers = λ before since c e s r. returned-answers f k before s c r;
-      states = λ before since e s r. returned-shows f k before s r;
-    }
+    record { promise = promised f k freshState fresh (fresh-is f k) (orderly-fresh (planOf f)) calls; since = each-since (planOf f) (valid-plan f k) calls }
 
 -- the promise of the longest wait
 pub longest-wait : LongestWait
@@ -89,23 +103,45 @@ longest-wait f k =
     let p : Plan = planOf f in
     let v : Valid p = valid-plan f k in
     record {
-      told = λ calls s r tag q a m e.
-          let x = sym (returned-answers f k calls s (Request tag q) r) ∙ e in
-          (waits-asked p v (run p calls) tag q a m x, never-more p v calls tag q a m x .1);
-      kept = never-longer p v;
+      told = λ start w calls s r tag q a m e.
+          let x = sym (returned-answers f k start (shows p start) (w .sound, refl) calls s (Request tag q) r) ∙ e in
+          (waits-asked p v _ tag q a m x, never-more p v (shows p start) (orderly start w) calls tag q a m x);
+      kept = λ start w. never-longer p v (shows p start) (orderly start w);
+      fresh-kept = never-longer p v fresh (orderly-fresh p);
       reached = each-reached p v (tags-differ f k);
     }
+  where
+    orderly : (start : State) → Start f start → Orderly (planOf f) (shows (planOf f) start)
+    orderly start w = shown-orderly (planOf f) (valid-plan f k) start (w .lines) (w .sound)
 
--- what is known of the state once all calls in the bytes l were made
-pub ran : (f l : List ℕ) (x : ℕ) {s : State} → ((i : ℕ) → i < length f → getD f i 0 < 256) → x ≡ length l / 3 → Returned f (callsBelow x l) s
-    → Returned f (callsOf l) s
-    × ((((refusal f ≡ 0 → ⊥) → s ≡ freshState) × (refusal f ≡ 0 → (sound (planOf f) s ≡ true) × (shows (planOf f) s ≡ run (planOf f) (callsOf l))))
-    × (refusal f ≡ 0 → Promise f (callsOf l)))
-ran f l x {s} bytes e r =
-    let all : Returned f (callsOf l) s = rw e at r in (
-      all,
-      (
-        (λ d. returned-refused f d (callsOf l) s all, λ z. returned-shows f (record { none = z; bytes = bytes }) (callsOf l) s all),
-        λ z. demand-3 f (record { none = z; bytes = bytes }) (callsOf l),
-      ),
-    )
+-- what is known of the state once a list of calls was made, where the file is one of bytes
+module _ (f : List ℕ) (bytes : (i : ℕ) → i < length f → getD f i 0 < 256) where
+  pub ran : (start : State) → length (start .lines) ≡ 16 → (calls : List Call) (s : State) → Returned f start calls s → Ran f start calls s
+  ran start long calls s r =
+      record {
+        returned = r;
+        unchanged = λ d. returned-refused f start d calls s r;
+        sound = λ z. let w = accepted z in returned-shows f (w .plan) start (shows (planOf f) start) (w .sound, refl) calls s r .0;
+        shows = λ z. let w = accepted z in returned-shows f (w .plan) start (shows (planOf f) start) (w .sound, refl) calls s r .1;
+        promise = λ z. from-sound f start (accepted z) calls;
+      }
+    where
+      accepted : stateRefusal f start ≡ 0 → Start f start
+      accepted z =
+          let x = state-accepted f start z in record { plan = record { none = x .0; bytes = bytes }; sound = x .1; lines = long }
+
+  pub fresh-ran : (calls : List Call) (s : State) → Ran f freshState calls s → FreshRan f calls s
+  fresh-ran calls s r =
+      record {
+        returned = r .returned;
+        unchanged = λ d. r .unchanged (λ z. d (state-accepted f freshState z .0));
+        sound = λ z. shown z .0;
+        shows = λ z. shown z .1;
+        promise = λ z. demand-3 f (checked z) calls;
+      }
+    where
+      checked : refusal f ≡ 0 → Checked f
+      checked z = record { none = z; bytes = bytes }
+
+      shown : refusal f ≡ 0 → (sound (planOf f) s ≡ true) × (shows (planOf f) s ≡ run (planOf f) calls)
+      shown z = returned-shows f (checked z) freshState fresh (fresh-is f (checked z)) calls s (r .returned)

@@ -1,56 +1,96 @@
--- Demand 3, whole: one claim about a whole list of calls, from a fresh machine. Document 01, "The machine", last paragraph. Beside
--- it the promise of the longest wait.
+-- Demand 3, whole: one claim about a whole list of calls, from a fresh machine; the same from every sound state; and the promise of
+-- the longest wait. Document 01, "The machine", last paragraph.
 use Prim.Native.Nat.{ℕ, zero, suc, _+_, _*_, _/_, _≤_}
 use mathlib.Core.Bool.{true, cond, _&&_}
 use mathlib.Core.List.{List, [], _∷_, _++_}
+use mathlib.Core.Logic.{_≢_}
 use mathlib.Core.Path.{_≡_}
 use lib.Dec.{eqb}
 use lib.ListN.{length, getD}
+use Rattle.plan.specs.Reading.{refusal}
 use Rattle.plan.specs.Plan.{planOf, Checked}
 use Rattle.equations.specs.Questions.{taskNumber, useCode}
 use Rattle.protocol.specs.declared.Call.{Call}
 use Rattle.protocol.specs.declared.Call.the-variants.{Request, Release, Tick}
 use Rattle.protocol.specs.declared.Answer.the-variants.{Waits}
-use Rattle.protocol.specs.Machine.{answer, run}
-use Rattle.protocol.specs.Waiting.{Served}
+use Rattle.protocol.specs.Machine.{Lines, fresh, answer, after, run}
+use Rattle.protocol.specs.Waiting.{Served, EachSince}
 use Rattle.protocol.specs.Longest.{longestWait, NeverLonger, EachReached}
 use Rattle.state.specs.declared.State.{State}
 use Rattle.state.specs.Shows.{freshState, shows}
 use Rattle.state.specs.Sound.{sound}
 use Rattle.machine.specs.declared.Decoded.{Decoded}
-use Rattle.machine.specs.Replies.{reply, Next}
+use Rattle.machine.specs.Replies.{stateRefusal, reply, Next}
 
--- The state that the operations return after a list of calls: "It starts from a fresh state; each call gets the same plan and the
--- state that the last one returned, refused or not." `Next` is the contract of each of them
-pub data Returned (f : List ℕ) : List Call → State → Type 0 where
-  started : Returned f [] freshState
-  called : {cs : List Call} {s t : State} {c : Call} → Returned f cs s → Next f s c t → Returned f (cs ++ (c ∷ [])) t
+-- The state that the operations return after a list of calls: "each call gets the same plan and the state that the last one
+-- returned, refused or not." `Next` is the contract of each of them
+pub data Returned (f : List ℕ) (start : State) : List Call → State → Type 0 where
+  started : Returned f start [] start
+  called : {cs : List Call} {s t : State} {c : Call} → Returned f start cs s → Next f s c t → Returned f start (cs ++ (c ∷ [])) t
 
--- what is promised for a plan file and a list of calls
-pub record Promise (f : List ℕ) (calls : List Call) : Type 0 where
+-- what is promised for a plan file and a list of calls, from a state that shows the lines s
+pub record Promise (f : List ℕ) (start : State) (s : Lines) (calls : List Call) : Type 0 where
   -- nobody who waits is kept past the limit; and so for each core in the queue
-  pub waiting : Served (planOf f) calls
+  pub waiting : Served (planOf f) s calls
   -- what each call is answered, on the state that the calls before it returned, is what the rules say after these
-  pub answers : (before since : List Call) (c : Call) → calls ≡ before ++ (c ∷ since) → (s : State) → Returned f before s
-      → reply f s c ≡ answer (planOf f) (run (planOf f) before) c
+  pub answers : (before since : List Call) (c : Call) → calls ≡ before ++ (c ∷ since) → (t : State) → Returned f start before t
+      → reply f t c ≡ answer (planOf f) (after (planOf f) s before) c
   -- "each returned state shows the same tasks in line, holders and heads": that after each of the calls is sound, and shows the lines
   -- of the rules
-  pub states : (before since : List Call) → calls ≡ before ++ since → (s : State) → Returned f before s
-      → (sound (planOf f) s ≡ true) × (shows (planOf f) s ≡ run (planOf f) before)
+  pub states : (before since : List Call) → calls ≡ before ++ since → (t : State) → Returned f start before t
+      → (sound (planOf f) t ≡ true) × (shows (planOf f) t ≡ after (planOf f) s before)
+
+-- Demand 3 for a plan file and a list of calls: "It starts from a fresh state"
+pub record FreshPromise (f : List ℕ) (calls : List Call) : Type 0 where
+  pub promise : Promise f freshState fresh calls
+  -- each task that still waits has asked and was told a limit, and each core still in the queue joined it or was sent to its tail
+  pub since : EachSince (planOf f) calls
 
 -- Demand 3: for every plan file that is accepted and every list of calls
 abbrev pub Demand3 : Type 0
-Demand3 = (f : List ℕ) → Checked f → (calls : List Call) → Promise f calls
+Demand3 = (f : List ℕ) → Checked f → (calls : List Call) → FreshPromise f calls
+
+-- a state of a plan that is accepted, as the operations take one: sound, and of as many rows as the struct has
+pub record Start (f : List ℕ) (start : State) : Type 0 where
+  pub plan : Checked f
+  pub sound : sound (planOf f) start ≡ true
+  pub lines : length (start .lines) ≡ 16
+
+-- From every sound state: whoever waits in it is served within the limit for those then ahead of it, and every list of calls from
+-- there has the promise
+abbrev pub FromSound : Type 0
+FromSound = (f : List ℕ) (start : State) → Start f start → (calls : List Call) → Promise f start (shows (planOf f) start) calls
+
+-- what a function gives that makes a list of calls on a state
+pub record Ran (f : List ℕ) (start : State) (calls : List Call) (end : State) : Type 0 where
+  pub returned : Returned f start calls end
+  -- as it was where the plan is refused or the state is not sound, since each call is refused then
+  pub unchanged : stateRefusal f start ≢ 0 → end ≡ start
+  -- else the promise holds of the calls, and it is sound and shows what the rules make of them
+  pub promise : stateRefusal f start ≡ 0 → Promise f start (shows (planOf f) start) calls
+  pub sound : stateRefusal f start ≡ 0 → sound (planOf f) end ≡ true
+  pub shows : stateRefusal f start ≡ 0 → shows (planOf f) end ≡ after (planOf f) (shows (planOf f) start) calls
+
+-- and on a fresh machine
+pub record FreshRan (f : List ℕ) (calls : List Call) (end : State) : Type 0 where
+  pub returned : Returned f freshState calls end
+  pub unchanged : refusal f ≢ 0 → end ≡ freshState
+  pub promise : refusal f ≡ 0 → FreshPromise f calls
+  pub sound : refusal f ≡ 0 → sound (planOf f) end ≡ true
+  pub shows : refusal f ≡ 0 → shows (planOf f) end ≡ run (planOf f) calls
 
 -- The promise of the longest wait, which is asked of a plan file before any call is made
 pub record LongestKept (f : List ℕ) : Type 0 where
-  -- no request, on the state that any list of calls returned, is told more; and it is one of which the question is not refused
-  pub told : (calls : List Call) (s : State) → Returned f calls s
+  -- no request, on the state that any list of calls returned from a sound one, is told more; and it is one of which the question is
+  -- not refused
+  pub told : (start : State) → Start f start → (calls : List Call) (s : State) → Returned f start calls s
       → (tag q ahead most : ℕ) → reply f s (Request tag q) ≡ Waits ahead most
       → (useCode (planOf f) tag q ≡ 0) × (most ≤ longestWait (planOf f) (taskNumber (planOf f) tag) q)
   -- so nobody who waits is kept longer
-  pub kept : (calls : List Call) → NeverLonger (planOf f) calls
-  -- and some list of calls leads to it, for each task and each global resource that it uses: no smaller figure would do
+  pub kept : (start : State) → Start f start → (calls : List Call) → NeverLonger (planOf f) (shows (planOf f) start) calls
+  pub fresh-kept : (calls : List Call) → NeverLonger (planOf f) fresh calls
+  -- and for each task and each global resource that it uses some list of calls, from a fresh machine, leads to a request that is told
+  -- just this: of what is told it is the greatest. The wait itself may always be shorter (docs/LIMITS.md)
   pub reached : EachReached (planOf f)
 
 -- for every plan file that is accepted

@@ -20,7 +20,11 @@ use Rattle.state.specs.Shows.{shows}
 use Rattle.state.specs.Sound.{sound}
 
 -- "Each operation given a plan file first gives 1 to 9 as reading does; each call given a state then gives 19 if that state is not
--- sound. After these" the call's own; 0 where it is not refused
+-- sound."
+unfoldable pub stateRefusal : List ℕ → State → ℕ
+stateRefusal f s = cond (eqb (refusal f) 0) (cond (sound (planOf f) s) 0 19) (refusal f)
+
+-- "After these" the call's own; 0 where it is not refused
 unfoldable pub callRefusal : List ℕ → State → Call → ℕ
 callRefusal f s c =
     cond (eqb (refusal f) 0) (cond (sound (planOf f) s) (callCode (planOf f) (shows (planOf f) s) c) 19) (refusal f)

@@ -5,7 +5,6 @@ use protocol::Call;
 use state::Line;
 use state::State;
 ghost use mathlib.Core.Path.{_≡_};
-ghost use mathlib.Core.Logic.{_≢_};
 ghost use mathlib.Core.Bool.{true};
 ghost use Prim.Native.Nat.{_+_, _*_, _≤_, _<_};
 ghost use lib.ListN.{length};
@@ -14,13 +13,13 @@ ghost use Rattle.plan.specs.Plan.{planOf, Checked};
 ghost use Rattle.equations.specs.HoldTimes.{holdAt};
 ghost use Rattle.holds.specs.Holds.{Cells, Shares};
 ghost use Rattle.protocol.specs.declared.Call.the-variants.{Request, Release, Tick};
-ghost use Rattle.protocol.specs.Machine.{requestCode, releaseCode, answerTold, fresh, run};
+ghost use Rattle.protocol.specs.Machine.{requestCode, releaseCode, answerTold, fresh};
 ghost use Rattle.state.specs.Shows.{freshState, shows};
 ghost use Rattle.state.specs.Sound.{sound};
 ghost use Rattle.state.specs.Seats.{Keys, Seats};
 ghost use Rattle.machine.specs.Replies.{reply, replyTold, Next, cutCount};
 ghost use Rattle.machine.specs.Inner.{refusedAt, Done, NewHead, grantedTold, cutsIn};
-ghost use Rattle.machine.specs.Promise.{Returned, Promise, callOf, callsOf, decodedCalls, AfterBytes};
+ghost use Rattle.machine.specs.Promise.{Ran, FreshRan, callOf, callsOf, decodedCalls, AfterBytes};
 
 pub mod surveyed;
 
@@ -338,14 +337,11 @@ fn after(file: &[u8], state: State, letter: u8, tag: u8, resource: u8) -> State
     call(file, state, wanted).state
 }
 
-// The state after a list of calls of three bytes each, from a fresh machine on. One or two bytes left over are no call.
-pub fn run(file: &[u8], calls: &[u8]) -> State
-    ensures { λ r. ⌜ Returned (now (file .entry)) (callsOf (now (calls .entry))) r ⌝ }
-    ensures { λ r. ⌜ (refusal (now (file .entry)) ≢ 0 → r ≡ freshState) × (refusal (now (file .entry)) ≡ 0 → (sound (planOf (now (file .entry))) r ≡ true) × (shows (planOf (now (file .entry))) r ≡ run (planOf (now (file .entry))) (callsOf (now (calls .entry))))) ⌝ }
-    ensures { λ r. ⌜ (refusal (now (file .entry)) ≡ 0 → Promise (now (file .entry)) (callsOf (now (calls .entry)))) ⌝ }
+// The state after a list of calls of three bytes each, the first made on `start`. One or two bytes left over are no call.
+pub fn run_from(file: &[u8], start: State, calls: &[u8]) -> State
+    ensures { λ r. ⌜ Ran (now (file .entry)) start (callsOf (now (calls .entry))) r ⌝ }
 {
-    let started = start(file);
-    let mut state = started.state;
+    let mut state = start;
     let n = calls.len() / 3;
     let mut x = 0;
     while x < n {
@@ -360,4 +356,11 @@ pub fn run(file: &[u8], calls: &[u8]) -> State
         x += 1;
     }
     state
+}
+
+// The same from a fresh machine on: demand 3.
+pub fn run(file: &[u8], calls: &[u8]) -> State
+    ensures { λ r. ⌜ FreshRan (now (file .entry)) (callsOf (now (calls .entry))) r ⌝ }
+{
+    run_from(file, state::fresh(), calls)
 }

@@ -9,15 +9,14 @@ use borrow.Author.Tests.{not-true}
 use Rattle.folds.proofs.Tests.{and-parts}
 use Rattle.folds.proofs.Arrays.{by-eq}
 use Rattle.plan.specs.Plan.{Plan, Valid}
-use Rattle.equations.specs.HoldTimes.{waitTime}
 use Rattle.equations.specs.Questions.{taskNumber}
-use Rattle.line.specs.Rules.{Line, inLine, holds, queued, isHead, entered, released, ticked, limit}
-use Rattle.line.proofs.Waiting.{aheadIn, Waiting, wait-entered, wait-released, wait-ticked, wait-some, wait-bound}
+use Rattle.line.specs.Rules.{Line, inLine, holds, queued, isHead, waiting, without, entered, released, ticked, aheadIn, limit}
+use Rattle.line.proofs.Waiting.{Waiting, wait-entered, wait-released, wait-ticked, wait-some, wait-bound}
 use Rattle.line.proofs.Heads.{Without, head-entered, head-released, head-ticked, head-some, head-bound}
 use Rattle.protocol.specs.declared.Call.{Call}
 use Rattle.protocol.specs.declared.Call.the-variants.{Request, Release, Tick}
 use Rattle.protocol.specs.Machine.{Lines, terms, callCode, effect, step, after}
-use Rattle.protocol.specs.Waiting.{isTick, ticks, without, Event, grants, ends, heads, occurs, Within}
+use Rattle.protocol.specs.Waiting.{isTick, ticks, Event, grants, ends, heads, occurs, Within, Bounded, TaskKept, CoreKept, ServedFrom}
 use Rattle.protocol.proofs.SoundLines.{known, SoundAt, SoundLines, fits, sound-step}
 
 module _ (p : Plan) where
@@ -37,11 +36,6 @@ module _ (p : Plan) where
       (λ _. x)
   step-line R s Tick q x e l t = t
 
-  tick-le : (c : Call) → isTick c ≤ 1
-  tick-le (Request tag q) = omega arith
-  tick-le (Release tag q) = omega arith
-  tick-le Tick = omega arith
-
   -- an event in a list occurs in it
   occurs-at : (e : Event p) (s : Lines) (early : List Call) (c : Call) (late : List Call) → e (after p s early) c ≡ true
       → occurs p e s (early ++ (c ∷ late)) ≡ true
@@ -55,11 +49,6 @@ module _ (p : Plan) where
     leaves : (n : ℕ) (l : Line) → SoundAt p q l → Pot n l → done (released (terms p q) l) ≡ false → Pot n (released (terms p q) l)
     falls : (n : ℕ) (l : Line) → SoundAt p q l → Pot n l → done (ticked (terms p q) l) ≡ false → Pot (n - 1) (ticked (terms p q) l)
     some : (n : ℕ) (l : Line) → SoundAt p q l → Pot n l → 1 ≤ n
-
-  -- the two forms of a promise: so long as `over` does not occur the ticks are fewer than n; where they are as many, `met` occurred
-  pub record Bounded (over met : Event p) (s : Lines) (cs : List Call) (n : ℕ) : Type 0 where
-    pub waits : occurs p over s cs ≡ false → ticks cs < n
-    pub comes : n ≤ ticks cs → Within p met s cs n
 
   -- which of the two it is
   abbrev Either : Event p → Lines → List Call → ℕ → Type 0
@@ -99,7 +88,7 @@ module _ (p : Plan) (v : Valid p) where
       where
         go : (b : Bool) → e s c ≡ b → (e s c ≡ false → Either p e s (c ∷ cs) n) → Either p e s (c ∷ cs) n
         go true h later =
-            inl (record { early = []; call = c; late = cs; split = refl; happens = h; soon = omega (arith, tick-le p c, f .some n (s q) (w q) x) })
+            inl (record { early = []; call = c; late = cs; split = refl; happens = h; soon = f .some n (s q) (w q) x })
         go false h later = later h
 
     -- where e is one of the calls that end the wait
@@ -110,13 +99,15 @@ module _ (p : Plan) (v : Valid p) where
         go : Either p e s cs n → Bounded p over e s cs n
         go (inl r) =
             let o : occurs p over s cs ≡ true = rw (r .split) (occurs-at p over s (r .early) (r .call) (r .late) (h _ _ (r .happens))) in
-            record { waits = λ no. absurd (true≢false (sym o ∙ no)); comes = λ _. r }
-        go (inr r) = record { waits = λ _. r .1; comes = λ l. let bad : ⊥ = omega (arith, r .1) in absurd bad }
+            record { lasts = λ no. absurd (true≢false (sym o ∙ no)); comes = λ _. r }
+        go (inr r) = record { lasts = λ _. r .1; comes = λ l. let bad : ⊥ = omega (arith, r .1) in absurd bad }
 
-  -- a task in line that does not hold
-  pub task-bound : (s : Lines) → SoundLines p s → (i q : ℕ) → inLine i (s q) ≡ true → holds i (s q) ≡ false
-      → (cs : List Call) → Bounded p (grants p i q) (grants p i q) s cs (limit (terms p q) i (aheadIn (terms p q) i (s q)))
-  task-bound s w i q a b cs =
+  -- a task that waits
+  task-bound : (s : Lines) → SoundLines p s → (i q : ℕ) → waiting i (s q) ≡ true
+      → (cs : List Call) → TaskKept p i q s cs (limit (terms p q) i (aheadIn (terms p q) i (s q)))
+  task-bound s w i q a cs =
+      let x = and-parts (inLine i (s q)) (not (holds i (s q))) a in
+      let b = not-true (holds i (s q)) (x .1) in
       bounded q (grants p i q) (holds i) (Waiting (terms p q) i)
       (record {
         tells = λ s c d h. rw d at h;
@@ -125,11 +116,10 @@ module _ (p : Plan) (v : Valid p) where
         falls = λ n l g x. wait-ticked (terms p q) i (known p q) (p .processors) (fits p v q) g x;
         some = λ n l g x. wait-some (terms p q) i (known p q) (p .processors) (fits p v q) g x;
       })
-      (grants p i q) (λ s c h. h) s cs _ w (wait-bound (terms p q) i (known p q) (p .processors) (fits p v q) (s q) (w q) a b) b
+      (grants p i q) (λ s c h. h) s cs _ w (wait-bound (terms p q) i (known p q) (p .processors) (fits p v q) (s q) (w q) (x .0) b) b
 
   -- a core that is queued and not head
-  pub core-bound : (s : Lines) → SoundLines p s → (k q : ℕ) → without k (s q) ≡ true
-      → (cs : List Call) → Bounded p (ends p k q) (heads p k q) s cs (waitTime p k q)
+  core-bound : (s : Lines) → SoundLines p s → (k q : ℕ) → without k (s q) ≡ true → (cs : List Call) → CoreKept p k q s cs
   core-bound s w k q a cs =
       let b = and-parts (queued k (s q)) (not (isHead k (s q))) a in
       let n = not-true (isHead k (s q)) (b .1) in
@@ -142,3 +132,7 @@ module _ (p : Plan) (v : Valid p) where
         some = λ n l g x. head-some (terms p q) k (known p q) (p .processors) g x;
       })
       (ends p k q) (λ s c h. rw (h, and-false)) s cs _ w (head-bound (terms p q) k (known p q) (p .processors) (s q) (fits p v q) (w q) (b .0) n) n
+
+  -- whoever waits in sound lines is served
+  pub served-from : (s : Lines) → SoundLines p s → (cs : List Call) → ServedFrom p s cs
+  served-from s w cs = record { task = λ i q a. task-bound s w i q a cs; core = λ k q a. core-bound s w k q a cs }

@@ -18,17 +18,18 @@ use Rattle.equations.specs.HoldTimes.{holdTime, holdAt, fellow, waitTime}
 use Rattle.equations.specs.Blocking.{fellowHolds}
 use Rattle.equations.specs.Questions.{taskNumber, useCode}
 use Rattle.equations.proofs.Laws.{uses-out}
-use Rattle.line.specs.Rules.{turn, Line, line, among, inLine, tasksOf, queueOf, sumOf, entered, released, limit}
+use Rattle.line.specs.Rules.{Line, line, among, inLine, tasksOf, queueOf, sumOf, aheadIn, limit}
 use Rattle.line.proofs.Lists.{list-length, list-sum}
-use Rattle.line.proofs.Sound.{is-free, is-held}
-use Rattle.line.proofs.Once.{Once, EachOnce, empty, each-entered, each-released, each-ticked, once-tasks, tasks-none, tasks-own, once-sum, once-length, limit-more}
+use Rattle.line.proofs.Sound.{sound-queue}
+use Rattle.line.proofs.Once.{Once, EachOnce, once-tasks, ahead-among, ahead-once, tasks-none, tasks-own, once-sum, once-length, limit-more}
 use Rattle.protocol.specs.declared.Answer.the-variants.{Waits, Refused}
 use Rattle.protocol.specs.declared.Call.{Call}
-use Rattle.protocol.specs.declared.Call.the-variants.{Request, Release, Tick}
-use Rattle.protocol.specs.Machine.{Lines, fresh, terms, requestCode, callCode, effect, step, requestTold, told, answer, after, run}
-use Rattle.protocol.specs.Waiting.{Event, Within, Asked}
+use Rattle.protocol.specs.declared.Call.the-variants.{Request}
+use Rattle.protocol.specs.Machine.{Lines, terms, requestCode, callCode, requestTold, told, answer, after}
+use Rattle.protocol.specs.Waiting.{Event, Bounded, Asked}
 use Rattle.protocol.specs.Longest.{fellows, longestWait, NeverLonger}
-use Rattle.protocol.proofs.SoundLines.{known, SoundAt, SoundLines, change-each, accepted, sound-fresh, sound-after}
+use Rattle.protocol.proofs.SoundLines.{known, SoundAt, accepted}
+use Rattle.protocol.proofs.OnceLines.{Orderly, orderly-after}
 use Rattle.protocol.proofs.Promise.{all-served}
 
 module _ (p : Plan) where
@@ -58,61 +59,52 @@ module _ (p : Plan) where
   unfolding longestWait
   longest-figures i q g = ap (λ (x : ℕ). x + (length (fellows p i q) + 1) * waitTime p (processorOf p i) q) (fellows-holds i q g)
 
-  -- ── nobody stands in line twice ──
-
-  abbrev OnceLines : Lines → Type 0
-  OnceLines s = (q : ℕ) → EachOnce (queueOf (s q))
-
-  once-step : (s : Lines) (c : Call) → OnceLines s → OnceLines (step p s c)
-  unfolding step
-  once-step s c w = by-eq (λ (d : Bool). OnceLines (cond d (effect p s c) s)) (callCode p s c) 0 (λ e. go c e) (λ _. w)
-    where
-      go : (c : Call) → callCode p s c ≡ 0 → OnceLines (effect p s c)
-      go (Request tag q) e =
-          change-each (λ r l. EachOnce (queueOf l)) s q (entered (terms p q) (taskNumber p tag))
-          (each-entered (terms p q) (taskNumber p tag) (s q) (accepted p s tag q e .new) (w q)) w
-      go (Release tag q) e = change-each (λ r l. EachOnce (queueOf l)) s q (released (terms p q)) (each-released (terms p q) (s q) (w q)) w
-      go Tick e = λ q. each-ticked (terms p q) (s q) (w q)
-
-  once-after : (s : Lines) (cs : List Call) → OnceLines s → OnceLines (after p s cs)
-  once-after s [] w = w
-  once-after s (c ∷ cs) w = once-after (step p s c) cs (once-step s c w)
-
 module _ (p : Plan) (v : Valid p) where
-  -- who stands ahead of a task that asks is one of its fellows
-  ahead-fellows : (i q : ℕ) {l : Line} → SoundAt p q l → inLine i l ≡ false
-      → (j : ℕ) → among j (tasksOf (processorOf p i) (queueOf l)) ≡ true → (j < p .tasks) × (fellow p i q j ≡ true)
-  ahead-fellows i q is-free new j a = absurd (true≢false (sym a))
-  ahead-fellows i q (is-held {k = k} {u = u} {us = us} {rest = rest} c w) new j a =
-      let x = tasks-own (terms p q) (known p q) (p .processors) j (processorOf p i) w a in
+  -- a task of its processor that is in line, and another, is a fellow
+  line-fellows : (i q : ℕ) {l : Line} → SoundAt p q l
+      → (j : ℕ) → among j (tasksOf (processorOf p i) (queueOf l)) ≡ true → (j ≡ i → ⊥) → (j < p .tasks) × (fellow p i q j ≡ true)
+  line-fellows i q w j a d =
+      let x = tasks-own (terms p q) (known p q) (p .processors) j (processorOf p i) (sound-queue (terms p q) (known p q) (p .processors) w) a in
       let used = and-parts (global p q) (uses p j q) (x .1) .1 in
-      let d : j ≡ i → ⊥ = λ e. true≢false (sym a ∙ rw e (tasks-none i (processorOf p i) (turn k u us ∷ rest) new)) in
       (uses-out p j q _ used (λ s m t r. rw (← t) (v .section-fits s m .task)), rw (eq-eqb _ _ (x .0), used, ne-eqb j i d))
 
-  -- so the limit told is at most the longest wait
-  told-most : (i q a m : ℕ) (l : Line) → SoundAt p q l → EachOnce (queueOf l) → inLine i l ≡ false → requestTold p i q l ≡ Waits a m
-      → (a ≤ length (fellows p i q)) × (m ≤ longestWait p i q)
+  -- with some fellows ahead, each once, the limit is at most the longest wait
+  record AtMost (i q ahead most : ℕ) : Type 0 where
+    few : ahead ≤ length (fellows p i q)
+    short : most ≤ longestWait p i q
+
+  fellows-most : (i q : ℕ) {us : List ℕ} → Once us → ((j : ℕ) → among j us ≡ true → (j < p .tasks) × (fellow p i q j ≡ true))
+      → AtMost i q (length us) (limit (terms p q) i us)
   unfolding fellows longestWait
+  fellows-most i q {us} once h =
+      let all : List ℕ = listBelow (p .tasks) (fellow p i q) in
+      let sums : sumOf (λ j. holdAt p j q) us ≤ sumOf (λ j. holdAt p j q) all = once-sum (p .tasks) (fellow p i q) once h (λ j. holdAt p j q) in
+      let few : length us ≤ length all = once-length (p .tasks) (fellow p i q) once h in
+      record { few = few; short = limit-more (terms p q) i us all sums few }
+
+  -- so it is for a task that asks, and for one that waits
+  told-most : (i q a m : ℕ) (l : Line) → SoundAt p q l → EachOnce (queueOf l) → inLine i l ≡ false → requestTold p i q l ≡ Waits a m → AtMost i q a m
   told-most i q a m (line h b []) w o new e = absurd (true≢false cc)
   told-most i q a m (line h b (x ∷ rest)) w o new e =
       let us : List ℕ = tasksOf (processorOf p i) (x ∷ rest) in
-      let all : List ℕ = listBelow (p .tasks) (fellow p i q) in
-      let once : Once us = once-tasks (processorOf p i) o in
-      let sums : sumOf (λ j. holdAt p j q) us ≤ sumOf (λ j. holdAt p j q) all = once-sum (p .tasks) (fellow p i q) once (ahead-fellows i q w new) (λ j. holdAt p j q) in
-      let few : length us ≤ length all = once-length (p .tasks) (fellow p i q) once (ahead-fellows i q w new) in
+      let r = fellows-most i q (once-tasks (processorOf p i) o)
+      (λ j c. line-fellows i q w j c (λ s. true≢false (sym c ∙ rw s (tasks-none i (processorOf p i) (x ∷ rest) new)))) in
       let ea : length us ≡ a = cc in
       let em : limit (terms p q) i us ≡ m = cc in
-      (omega (arith, few, ea), omega (arith, limit-more (terms p q) i us all sums few, em))
+      record { few = omega (arith, r .few, ea); short = omega (arith, r .short, em) }
 
-  request-most : (s : Lines) (tag q a m : ℕ) → SoundLines p s → OnceLines p s → answer p s (Request tag q) ≡ Waits a m
-      → (a ≤ length (fellows p (taskNumber p tag) q)) × (m ≤ longestWait p (taskNumber p tag) q)
+  waiting-most : (i q : ℕ) (l : Line) → SoundAt p q l → EachOnce (queueOf l) → limit (terms p q) i (aheadIn (terms p q) i l) ≤ longestWait p i q
+  waiting-most i q l w o =
+      fellows-most i q (ahead-once i (once-tasks (processorOf p i) o))
+      (λ j c. let x = ahead-among i j (tasksOf (processorOf p i) (queueOf l)) c in line-fellows i q w j (x .0) (x .1)) .short
+
+  request-most : (s : Lines) (tag q a m : ℕ) → Orderly p s → answer p s (Request tag q) ≡ Waits a m → AtMost (taskNumber p tag) q a m
   unfolding answer
-  request-most s tag q a m w o =
+  request-most s tag q a m o =
       by-eq
-      (λ (d : Bool). cond d (told p s (Request tag q)) (Refused (callCode p s (Request tag q))) ≡ Waits a m
-      → (a ≤ length (fellows p (taskNumber p tag) q)) × (m ≤ longestWait p (taskNumber p tag) q))
+      (λ (d : Bool). cond d (told p s (Request tag q)) (Refused (callCode p s (Request tag q))) ≡ Waits a m → AtMost (taskNumber p tag) q a m)
       (callCode p s (Request tag q)) 0
-      (λ e x. told-most (taskNumber p tag) q a m (s q) (w q) (o q) (accepted p s tag q e .new) x)
+      (λ e x. told-most (taskNumber p tag) q a m (s q) (o .sound q) (o .once q) (accepted p s tag q e .new) x)
       (λ n x. absurd (true≢false cc))
 
   -- a request that waits is one of which the question is not refused
@@ -125,32 +117,31 @@ module _ (p : Plan) (v : Valid p) where
       (λ e x. first-zero (useCode p tag q) _ e)
       (λ n x. absurd (true≢false cc))
 
-  -- after any list of calls
-  pub never-more : (calls : List Call) (tag q a m : ℕ) → answer p (run p calls) (Request tag q) ≡ Waits a m
-      → (a ≤ length (fellows p (taskNumber p tag) q)) × (m ≤ longestWait p (taskNumber p tag) q)
-  never-more calls tag q a m =
-      request-most (run p calls) tag q a m (sound-after p v fresh calls (sound-fresh p)) (once-after p fresh calls (λ q. empty))
-
-  -- the promise of the longest wait, for every list of calls
-  pub never-longer : (calls : List Call) → NeverLonger p calls
-  never-longer calls =
+  -- a wait that is bounded is bounded by more
+  bounded-more : {e g : Event p} {s : Lines} {cs : List Call} {m n : ℕ} → m ≤ n → Bounded p e g s cs m → Bounded p e g s cs n
+  bounded-more {m = m} {n = n} l r =
       record {
-        told-ahead = λ tag q w. most tag q w .0;
-        told-limit = λ tag q w. most tag q w .1;
-        kept = λ tag q w e. let s = all-served p v calls .task-waits tag q w e in omega (arith, s, most tag q w .1);
-        served = λ tag q w e. longer (most tag q w .1) (all-served p v calls .task-served tag q w (omega (arith, e, most tag q w .1)));
+        lasts = λ h. omega (arith, r .lasts h);
+        comes = λ h. let w = r .comes (omega arith) in
+            record { early = w .early; call = w .call; late = w .late; split = w .split; happens = w .happens; soon = omega (arith, w .soon) };
       }
-    where
-      most : (tag q : ℕ) (w : Asked p calls tag q) → (w .ahead ≤ length (fellows p (taskNumber p tag) q)) × (w .limit ≤ longestWait p (taskNumber p tag) q)
-      most tag q w = never-more (w .before) tag q (w .ahead) (w .limit) (w .told)
 
-      longer : {e : Event p} {s : Lines} {cs : List Call} {m n : ℕ} → m ≤ n → Within p e s cs m → Within p e s cs n
-      longer l r =
-          record {
-            early = r .early;
-            call = r .call;
-            late = r .late;
-            split = r .split;
-            happens = r .happens;
-            soon = omega (arith, r .soon);
-          }
+  module _ (s : Lines) (o : Orderly p s) where
+    -- after any list of calls
+    pub never-more : (calls : List Call) (tag q a m : ℕ) → answer p (after p s calls) (Request tag q) ≡ Waits a m
+        → m ≤ longestWait p (taskNumber p tag) q
+    never-more calls tag q a m e = request-most (after p s calls) tag q a m (orderly-after p v s calls o) e .short
+
+    -- the promise of the longest wait, for every list of calls
+    pub never-longer : (calls : List Call) → NeverLonger p s calls
+    never-longer calls =
+        let kept = all-served p v s o calls in
+        record {
+          told-ahead = λ tag q w. most tag q w .few;
+          told-limit = λ tag q w. most tag q w .short;
+          asked = λ tag q w. bounded-more (most tag q w .short) (kept .asked tag q w);
+          start = λ i q w. bounded-more (waiting-most i q (s q) (o .sound q) (o .once q)) (kept .start .task i q w);
+        }
+      where
+        most : (tag q : ℕ) (w : Asked p s calls tag q) → AtMost (taskNumber p tag) q (w .ahead) (w .limit)
+        most tag q w = request-most (after p s (w .before)) tag q (w .ahead) (w .limit) (orderly-after p v s (w .before) o) (w .told)

@@ -26,7 +26,7 @@ use Rattle.protocol.specs.declared.Call.the-variants.{Request}
 use Rattle.protocol.specs.declared.Answer.the-variants.{Waits}
 use Rattle.protocol.specs.Machine.{Lines, fresh, terms, busy, requestCode, requestTold, step, answer, run}
 use Rattle.protocol.specs.Longest.{fellows, longestWait, Reached, EachReached}
-use Rattle.protocol.proofs.Promise.{after-last}
+use Rattle.protocol.proofs.Since.{after-last}
 
 module _ (p : Plan) (q : ℕ) where
   -- ── who asks ──

@@ -1,7 +1,6 @@
 -- The lines of a valid plan are sound from a fresh state on, whatever is called.
 use Prim.Native.Nat.{ℕ, suc, _<_}
 use mathlib.Core.Bool.{Bool, true, false, cond, _&&_, true≢false}
-use mathlib.Core.List.{List, [], _∷_}
 use mathlib.Core.Path.{_≡_, refl, sym, _∙_}
 use native.Mathlib.Omega.{arith}
 use borrow.Author.Tests.{ltb-true}
@@ -17,7 +16,7 @@ use Rattle.line.specs.Rules.{Line, inLine, entered, released}
 use Rattle.line.proofs.Sound.{Fits, Sound, is-free, sound-entered, sound-released, sound-ticked}
 use Rattle.protocol.specs.declared.Call.{Call}
 use Rattle.protocol.specs.declared.Call.the-variants.{Request, Release, Tick}
-use Rattle.protocol.specs.Machine.{Lines, fresh, change, terms, busy, requestCode, callCode, effect, step, after}
+use Rattle.protocol.specs.Machine.{Lines, fresh, change, terms, busy, requestCode, callCode, effect, step}
 
 -- the tasks that may come to the line of q: its users, where it is global
 abbrev pub known : Plan → ℕ → ℕ → Bool
@@ -93,7 +92,3 @@ module _ (p : Plan) (v : Valid p) where
       go (Release tag q) e =
           change-each (SoundAt p) s q (released (terms p q)) (sound-released (terms p q) (known p q) (p .processors) (fits q) (w q)) w
       go Tick e = λ q. sound-ticked (terms p q) (known p q) (p .processors) (fits q) (w q)
-
-  pub sound-after : (s : Lines) (cs : List Call) → SoundLines p s → SoundLines p (after p s cs)
-  sound-after s [] w = w
-  sound-after s (c ∷ cs) w = sound-after (step p s c) cs (sound-step s c w)

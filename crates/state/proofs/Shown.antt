@@ -1,4 +1,4 @@
--- A sound state shows sound lines.
+-- A sound state shows sound lines, in which nobody stands twice.
 use Prim.Native.Nat.{ℕ, zero, suc, _+_, _<_, _≤_}
 use mathlib.Core.Bool.{Bool, true, false, true≢false}
 use mathlib.Core.List.{_∷_}
@@ -8,11 +8,14 @@ use borrow.Author.Tests.{eqb-true, ne-eqb}
 use lib.Dec.{eqb}
 use lib.ListN.{length, List·getD-eq-default}
 use Rattle.folds.specs.Below.{maxBelow}
-use Rattle.folds.proofs.Tests.{or-out}
+use Rattle.folds.proofs.Tests.{or-out, is-not-true}
 use Rattle.plan.specs.Plan.{Plan, Valid}
-use Rattle.line.specs.Rules.{Terms, line, among, hasTurn}
+use Rattle.equations.specs.HoldTimes.{holdAt}
+use Rattle.line.specs.Rules.{Terms, line, queueOf, among, hasTurn}
 use Rattle.line.proofs.Sound.{Owns, Proper, nobody, stands, Sound, is-free, is-held}
-use Rattle.protocol.proofs.SoundLines.{known, SoundAt, SoundLines}
+use Rattle.line.proofs.Once.{Once, none, more, EachOnce, empty, next}
+use Rattle.protocol.proofs.SoundLines.{known, SoundAt}
+use Rattle.protocol.proofs.OnceLines.{Orderly}
 use Rattle.ranks.specs.Ranks.{listFrom, taskAt, othersOf, turnOf, queueFrom}
 use Rattle.folds.proofs.Searches.{on-le}
 use Rattle.ranks.proofs.Reading.{all-tasks}
@@ -29,6 +32,30 @@ among-out i f zero a C e h = absurd (true≢false (sym e))
 among-out i f (suc c) a C e h =
     or-out (eqb (f a) i) (among i (listFrom c (suc a) f)) C e (λ t. h a (omega arith) (omega arith) (eqb-true (f a) i t))
     (λ t. among-out i f c (suc a) C t (λ j p l. h j (omega arith) (omega arith)))
+
+-- a list whose figures differ has each once
+once-from : (f : ℕ → ℕ) (c a : ℕ) → ((i j : ℕ) → a ≤ i → i < j → j < a + c → f i ≡ f j → ⊥) → Once (listFrom c a f)
+unfolding listFrom
+once-from f zero a h = none
+once-from f (suc c) a h =
+    more
+    (is-not-true (among (f a) (listFrom c (suc a) f))
+    (λ m. among-out (f a) f c (suc a) ⊥ m (λ j l b e. h a j (omega arith) l (omega arith) (sym e))))
+    (once-from f c (suc a) (λ i j l b d e. h i j (omega arith) b (omega arith) e))
+
+-- nobody stands in a line over ranks twice
+module _ {n : ℕ} {t : Terms} {R : ℕ → ℕ → ℕ} (r : Ranked n t R) where
+  turn-once : (k : ℕ) → 1 ≤ maxBelow n (R k) → Once (taskAt n (R k) 1 ∷ othersOf n (R k))
+  turn-once k a = rw (all-tasks n (R k) a) (once-from (taskAt n (R k)) (maxBelow n (R k)) 1 (λ i j l b h e. differ i j l b (omega arith) e))
+    where
+      differ : (i j : ℕ) → 1 ≤ i → i < j → j ≤ maxBelow n (R k) → taskAt n (R k) i ≡ taskAt n (R k) j → ⊥
+      differ i j l b h e =
+          omega (arith, task-rank n i (R k) (full r k i l (omega arith)), task-rank n j (R k) (full r k j (omega arith) h), ap (R k) e)
+
+  each-once : {m c : ℕ} {g : ℕ → ℕ} → Queued n m R c g → (d a : ℕ) → a + d ≤ c → EachOnce (listFrom d a (λ i. turnOf n R (g i)))
+  unfolding listFrom
+  each-once w zero a b = empty
+  each-once {g = g} w (suc d) a b = next (turn-once (g a) (w .served a (omega arith))) (each-once w d (suc a) (omega arith))
 
 -- a line over ranks, for whose tasks a hold time makes them known
 module _ {n m : ℕ} {t : Terms} {R : ℕ → ℕ → ℕ} (known : ℕ → Bool) (user : (u : ℕ) → 1 ≤ t .hold u → known u ≡ true) (r : Ranked n t R) where
@@ -68,11 +95,17 @@ module _ {n m : ℕ} {t : Terms} {R : ℕ → ℕ → ℕ} (known : ℕ → Bool
       is-held (record { runs = x .0; lent = x .1; covered = x .2; budgeted = x .3 }) (proper w (suc c) 0 (omega arith))
 
 -- past the last line nobody stands
-pub shown-sound : (p : Plan) → Valid p → (s : State) → length (s .lines) ≡ 16 → sound p s ≡ true → SoundLines p (shows p s)
+pub shown-orderly : (p : Plan) → Valid p → (s : State) → length (s .lines) ≡ 16 → sound p s ≡ true → Orderly p (shows p s)
 unfolding shows listFrom
-shown-sound p v s long h q =
-    on-le (SoundAt p q (shows p s q)) 16 q
-    (λ l. rw (List·getD-eq-default (s .lines) noLine {n = q} (rw long l)) is-free)
-    (λ l. let w = whole-of p v s h .lines q l in
-    line-sound (known p q) (λ u a. hold-user p v u q a) (w .ranked) (lineAt s q .queued) (slot (lineAt s q)) (lineAt s q .«hold_left»)
-    (lineAt s q .«budget_left») (w .queued) (w .timed))
+shown-orderly p v s long h = record { sound = λ q. at q .0; once = λ q. at q .1 }
+  where
+    at : (q : ℕ) → SoundAt p q (shows p s q) × EachOnce (queueOf (shows p s q))
+    at q =
+        on-le (SoundAt p q (shows p s q) × EachOnce (queueOf (shows p s q))) 16 q
+        (λ l. rw (List·getD-eq-default (s .lines) noLine {n = q} (rw long l)) (is-free, empty))
+        (λ l. let w = whole-of p v s h .lines q l in
+        let user : (u : ℕ) → 1 ≤ holdAt p u q → known p q u ≡ true = λ u a. hold-user p v u q a in
+        let count : ℕ = lineAt s q .queued in (
+          line-sound (known p q) user (w .ranked) count (slot (lineAt s q)) (lineAt s q .«hold_left») (lineAt s q .«budget_left») (w .queued) (w .timed),
+          each-once (w .ranked) (w .queued) count 0 (omega arith),
+        ))

@@ -10,13 +10,13 @@ use lib.Seq.{getD-append-add}
 use Rattle.plan.specs.Plan.{planOf, Checked}
 use Rattle.protocol.specs.declared.Call.{Call}
 use Rattle.protocol.specs.declared.Answer.{Answer}
-use Rattle.protocol.specs.Machine.{answer, run}
+use Rattle.protocol.specs.Machine.{fresh, answer, run}
 use Rattle.state.specs.declared.State.{State}
 use Rattle.state.specs.Shows.{freshState}
 use Rattle.machine.specs.Replies.{reply}
 use Rattle.machine.specs.Promise.{Returned, started, callOf, AfterBytes, callsBelow}
 use Rattle.machine.proofs.Bytes.{returned-step}
-use Rattle.machine.proofs.Kept.{returned-answers}
+use Rattle.machine.proofs.Kept.{fresh-is, returned-answers}
 use Rattle.transcript.specs.Calls.{lineOf, callLine}
 use Rattle.transcript.specs.Output.{lineAfter, linesBelow}
 use Rattle.transcript.specs.Buffers.{Printed, none, more}
@@ -63,7 +63,7 @@ pub record ByRules (f l : List ℕ) (t : State) (x : List ℕ) : Type 0 where
   pub count : ℕ
   pub long : length l ≡ count * 3
   pub text : x ≡ linesBelow f count l
-  pub returned : Returned f (callsBelow count l) t
+  pub returned : Returned f freshState (callsBelow count l) t
 
 -- three bytes behind others
 byte-behind : (l x : List ℕ) (m i : ℕ) → length l ≡ m → getD (l ++ x) (m + i) 0 ≡ getD x i 0
@@ -80,7 +80,7 @@ module _ (f : List ℕ) (k : Checked f) where
       let at : getD (l ++ new) (n * 3) 0 ≡ a = ap (λ (m : ℕ). getD (l ++ new) m 0) (sym (add-zero (n * 3))) ∙ byte-behind l new (n * 3) 0 (h .long) in
       let at1 : getD (l ++ new) (n * 3 + 1) 0 ≡ b = byte-behind l new (n * 3) 1 (h .long) in
       let at2 : getD (l ++ new) (n * 3 + 2) 0 ≡ c = byte-behind l new (n * 3) 2 (h .long) in
-      let line : callLine f s a b c ≡ lineAfter f (callsBelow n l) a b c = line-same f b c (reply f s) (answer (planOf f) (run (planOf f) (callsBelow n l))) (λ d. returned-answers f k (callsBelow n l) s d (h .returned)) (callOf a b c) in
+      let line : callLine f s a b c ≡ lineAfter f (callsBelow n l) a b c = line-same f b c (reply f s) (answer (planOf f) (run (planOf f) (callsBelow n l))) (λ d. returned-answers f k freshState fresh (fresh-is f k) (callsBelow n l) s d (h .returned)) (callOf a b c) in
       record {
         count = suc n;
         long = omega (arith, length-append l new, h .long);

@@ -1,0 +1,43 @@
+-- The invariant: the state is what the operations return after the calls passed.
+use Prim.Native.Nat.{_≤_, _-_}
+use native.Mathlib.Omega.{arith}
+use borrow.Author.Needs.{needs}
+use Rattle.machine.specs.Promise.{Returned, started, callsBelow}
+use Rattle.machine.proofs.Bytes.{returned-step, all-calls}
+use Rattle.machine.proofs.Kept.{ran}
+use Rattle.machine.proofs.Lengths.{length-mapped}
+use Rattle.machine.proofs.run_from.Statement.{statement}
+use Rattle.machine.proofs.run_from.Tie as tie
+
+abbrev Inv-loop : tie.InvT-loop
+Inv-loop file calls state₀ n x₀ state x = (x ≤ n) × Returned file state₀ (callsBelow x calls) state
+
+abbrev μ-loop : tie.MeasureT-loop
+μ-loop file calls state₀ n x₀ state x = n - x
+
+loop-holds : tie.Need-loop-holds Inv-loop μ-loop
+unfolding callsBelow
+loop-holds c = (omega arith, started)
+
+loop-again : tie.Need-loop-again Inv-loop μ-loop
+loop-again c = (omega arith, returned-step _ _ _ (c .before .before .before .before .before .loop .inv .1) (c .after .ensures))
+
+returns : tie.Need-returns Inv-loop μ-loop
+returns c =
+    let l = c .before .loop in
+    let start = c .before .before .before in
+    let file = start .shared-slice-known .given in
+    ran _ (λ i b. file i .fits) (start .before .args .start) (search (needs, length-mapped)) _ (l .state)
+    (all-calls _ _ (l .x) (omega arith) (l .inv .1))
+
+pub run-from-spec : {M : Type 1} → statement M
+run-from-spec =
+    tie.close
+    (tie.spec
+    Inv-loop
+    μ-loop
+    loop-holds
+    (λ c. omega arith) (λ c. omega arith) (λ c. omega arith) (λ c. omega arith) (λ c. omega arith) (λ c. omega arith) (λ c. omega arith)
+    (λ c. omega arith) (λ c κs. search needs) (λ c. omega arith) (λ c. omega arith)
+    loop-again
+    returns)
