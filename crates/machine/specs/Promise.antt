@@ -50,7 +50,8 @@ pub record LongestKept (f : List ℕ) : Type 0 where
       → (useCode (planOf f) tag q ≡ 0) × (most ≤ longestWait (planOf f) (taskNumber (planOf f) tag) q)
   -- so nobody who waits is kept longer
   pub kept : (calls : List Call) → NeverLonger (planOf f) calls
-  -- and some list of calls leads to it, for each task and each global resource that it uses: no smaller figure would do
+  -- and after some list of calls it is told, for each task and each global resource that it uses: no smaller figure bounds what is
+  -- told. The wait itself may be shorter, see `Reached`
   pub reached : EachReached (planOf f)
 
 -- for every plan file that is accepted
