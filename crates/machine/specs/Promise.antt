@@ -89,8 +89,8 @@ pub record LongestKept (f : List ℕ) : Type 0 where
   -- so nobody who waits is kept longer
   pub kept : (start : State) → Start f start → (calls : List Call) → NeverLonger (planOf f) (shows (planOf f) start) calls
   pub fresh-kept : (calls : List Call) → NeverLonger (planOf f) fresh calls
-  -- and for each task and each global resource that it uses some list of calls, from a fresh machine, leads to a request that is told
-  -- just this: of what is told it is the greatest. The wait itself may always be shorter (docs/LIMITS.md)
+  -- and after some list of calls, from a fresh machine, it is told, for each task and each global resource that it uses: no smaller
+  -- figure bounds what is told. The wait itself may be shorter, see `Reached`
   pub reached : EachReached (planOf f)
 
 -- for every plan file that is accepted

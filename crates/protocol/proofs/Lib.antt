@@ -1,7 +1,7 @@
 pub mod SoundLines
 pub mod OnceLines
-pub mod Bounds
 pub mod InTime
+pub mod Bounds
 pub mod Since
 pub mod Promise
 pub mod Longest

@@ -35,7 +35,8 @@ module _ (p : Plan) where
     -- and so for a task that waits at the start of the list
     pub start : (i q : ℕ) → waiting i (s q) ≡ true → TaskKept p i q s calls (longestWait i q)
 
-  -- a list of calls after which a request is told the longest wait itself: no smaller figure would do
+  -- a list of calls after which a request is told the longest wait itself: no smaller figure bounds what is told. That somebody waits
+  -- so long is not said: with sections 1, 1 and 4 on one core and 1 on another the third task is told 5 and never waits more than 4
   pub record Reached (tag q : ℕ) : Type 0 where
     pub calls : List Call
     pub told : answer p (run p calls) (Request tag q) ≡ Waits (length (fellows (taskNumber p tag) q)) (longestWait (taskNumber p tag) q)
