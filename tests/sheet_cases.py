@@ -150,6 +150,11 @@ def sheet_case(label, content, lines, room=BUFFER):
     return b"D", f"sheet, {label}", room.to_bytes(4, "little") + content, result
 
 
+def refused_case(label, content, number, room=BUFFER):
+    """Bytes that are no plan: their number comes before that of a buffer that is too short, which stays as it was."""
+    return b"D", f"sheet, {label}", room.to_bytes(4, "little") + content, f"refused {number} unchanged"
+
+
 def sheet_cases():
     found = []
     for label, plan, lines in BY_HAND:
@@ -165,17 +170,20 @@ def room_cases():
         sheet_case("one byte too short", paper, PAPER_SHEET, length - 1),
         sheet_case("no room", paper, PAPER_SHEET, 0),
         sheet_case("more room than there is", paper, PAPER_SHEET, 2**32 - 1),
-        sheet_case("refused, just long enough", paper[:-1], "refused 1", 10),
-        sheet_case("refused, one byte too short", paper[:-1], "refused 1", 9),
-        sheet_case("a byte behind the plan", paper + b"Q", "refused 1"),
+        refused_case("refused, with room for its line", paper[:-1], 1, 10),
+        refused_case("refused, with no room for its line", paper[:-1], 1, 9),
+        refused_case("refused, just long enough for the sheet", paper[:-1], 1, length),
+        refused_case("a byte behind the plan", paper + b"Q", 1),
     ]
 
 
 def refused_plans():
-    """A file that breaks a check is refused by its number, before the question itself is looked at; the sheet says so."""
+    """A file that breaks a check is refused by its number, before the question itself or the room for a sheet is looked at."""
     bad = {number: ways[0](file(GOOD)) for number, ways in BREAKS.items()}
     found = [(b"G", f"longest wait of a plan that breaks {k}", word(9) + bytes([9]) + bad[k], f"refused {k}") for k in bad]
-    return found + [sheet_case(f"of a plan that breaks {k}", bad[k], f"refused {k}") for k in (2, 5, 9)]
+    for k in bad:
+        found += [refused_case(f"of a plan that breaks {k}", bad[k], k), refused_case(f"of a plan that breaks {k}, no room", bad[k], k, 0)]
+    return found
 
 
 def cases():

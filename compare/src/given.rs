@@ -85,10 +85,10 @@ fn asking(kind: u8, random: &mut Random) -> Vec<u8> {
     [question, file].concat()
 }
 
-/// A sheet and the room for it, which now and then is about as long as the sheet.
+/// A sheet and the room for it, which now and then is about as long as the sheet, or as the line of a refusal where there is no sheet.
 fn sheet(random: &mut Random) -> Vec<u8> {
     let file = maybe_broken(plans::unhurried(smaller(random), random), 8, random);
-    let length = peer::sheet::sheet(&file).len();
+    let length = peer::sheet::sheet(&file).map_or(10, |sheet| sheet.len());
     let room = match random.below(8) {
         0 => random.below(length),
         1 => length - 1,

@@ -111,28 +111,32 @@ impl<'a> Facts<'a> {
     }
 }
 
-/// The sheet of a plan file; of one that is refused, the line that says so.
-pub fn sheet(file: &[u8]) -> Vec<u8> {
+/// The sheet of a plan file, or why there is none.
+pub fn sheet(file: &[u8]) -> Result<Vec<u8>, Refusal> {
+    let plan = read(file)?;
     let mut lines = Lines(Vec::with_capacity(ROOM));
-    match read(file) {
-        Ok(plan) => Facts::of(file, &plan).put(&mut lines),
-        Err(refusal) => lines.refused(refusal.number()),
-    }
-    lines.0
+    Facts::of(file, &plan).put(&mut lines);
+    Ok(lines.0)
 }
 
-/// Puts the sheet at the front of `buffer` and gives its length. A refusal leaves the buffer as it was.
+/// Puts the sheet at the front of `buffer` and gives its length. A refusal, of the plan first and then of the buffer's length, leaves
+/// the buffer as it was.
 pub fn write(file: &[u8], buffer: &mut [u8]) -> Result<usize, Refusal> {
-    let sheet = sheet(file);
+    let sheet = sheet(file)?;
     let to = buffer.get_mut(..sheet.len());
     to.ok_or(Refusal::BufferTooShort)?.copy_from_slice(&sheet);
     Ok(sheet.len())
 }
 
-/// Reads a plan, as long as it says, and writes its sheet. What lies behind the plan is ignored.
+/// Reads a plan, as long as it says, and writes its sheet, or its number where it is refused. What lies behind the plan is ignored.
 pub fn run(input: &mut impl Read, output: &mut impl Write) -> io::Result<()> {
     let file = Source::new(input).take_plan()?;
-    output.write_all(&sheet(&file))?;
+    let printed = sheet(&file).unwrap_or_else(|refusal| {
+        let mut lines = Lines::default();
+        lines.refused(refusal.number());
+        lines.0
+    });
+    output.write_all(&printed)?;
     output.flush()
 }
 

@@ -17,7 +17,7 @@ struct Served {
 // "refused N".
 fn print_refused(number: u8) {
     let mut out = [0u8; 96];
-    let line = transcript::refused_line(number, &mut out);
+    let line = wording::refused_line(number, &mut out);
     let end = line.length;
     io::write_all(STDOUT_FILENO, &out[0..end]);
 }

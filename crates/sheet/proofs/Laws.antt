@@ -13,7 +13,6 @@ use Rattle.rows.specs.declared.Counts.{Counts}
 use Rattle.rows.specs.declared.TaskRow.{TaskRow}
 use Rattle.parts.specs.Layout.{countsOf}
 use Rattle.plan.specs.Plan.{planOf, Checked}
-use Rattle.plan.specs.Reading.{refusal}
 use Rattle.plan.proofs.Laws.{valid-plan}
 use Rattle.equations.specs.Sharing.{uses, usedOn, global}
 use Rattle.equations.specs.HoldTimes.{holdTime, holdAt, budget, waitTime}
@@ -24,8 +23,8 @@ use Rattle.holds.specs.Holds.{Cells, Shares, cell, share}
 use Rattle.requirements.specs.declared.Requirement.{Requirement}
 use Rattle.requirements.specs.Figures.{requirementOf}
 use Rattle.protocol.specs.Longest.{fellows, longestWait}
-use Rattle.wording.specs.Lines.{refusedLine, planLine}
-use Rattle.sheet.specs.Sheet.{resourceLine, budgetLine, holdLine, requirementLine, planSheet, sheetText}
+use Rattle.wording.specs.Lines.{planLine}
+use Rattle.sheet.specs.Sheet.{resourceLine, budgetLine, holdLine, requirementLine}
 use Rattle.sheet.specs.Inner.{PutAll}
 
 -- the line of one turn
@@ -126,13 +125,3 @@ module _ (f : List ℕ) (i : ℕ) {n : ℕ} (c : n ≡ globalCount (planOf f) i)
   unfolding requirementOf
   requirement-in d o e p w =
       record { put = rw (asks-some (planOf f) i c d) (rw (o, e) at p); within = w; all = rw (asks-some (planOf f) i c d, e) }
-
--- the sheet of a file, by what its check says
-module _ (f : List ℕ) {l m : List ℕ} {e k : ℕ} (c : k ≡ refusal f) where
-  pub sheet-refused : (k ≡ 0 → ⊥) → Put l m 0 (refusedLine k) e → Put l m 0 (sheetText f) e
-  unfolding sheetText
-  sheet-refused d p = rw (← c, ne-eqb k 0 d) p
-
-  pub sheet-accepted : k ≡ 0 → Put l m 0 (planSheet f) e → Put l m 0 (sheetText f) e
-  unfolding sheetText
-  sheet-accepted z p = rw (eq-eqb (refusal f) 0 (sym c ∙ z)) p

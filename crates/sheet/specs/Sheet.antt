@@ -4,7 +4,9 @@ use mathlib.Core.Bool.{Bool, cond, _&&_}
 use mathlib.Core.List.{List, [], _++_}
 use lib.Dec.{eqb}
 use lib.ListN.{length, take}
+use Rattle.text.specs.declared.Line.{Line}
 use Rattle.text.specs.Text.{quoted, textBelow}
+use Rattle.text.specs.Buffers.{lineUnless, lineInUnless}
 use Rattle.parts.specs.Layout.{countsOf}
 use Rattle.plan.specs.Reading.{refusal, planLength}
 use Rattle.plan.specs.Plan.{Plan, planOf}
@@ -77,7 +79,16 @@ module _ (f : List ℕ) where
   planSheet =
       planLine (countsOf f) ++ resourceLines ++ budgetLines ++ holdLines ++ (requirementLines ++ admittedLine (admitted plan))
 
-  -- the sheet of any file: "a refused plan: "refused N", nothing more; else" that
+  -- "Each operation given a plan file first gives 1 to 9 as reading does"; then 10, a buffer of n bytes that is too short for the sheet;
+  -- else its length
+  unfoldable pub sheetLine : ℕ → Line
+  sheetLine n = lineUnless (refusal f) planSheet n
+
+  -- the lent buffer afterwards: the sheet at its front and what lies behind as it was; all as it was after a refusal
+  unfoldable pub sheetIn : List ℕ → List ℕ
+  sheetIn l = lineInUnless (refusal f) planSheet l
+
+  -- what is printed for any file: "a refused plan: "refused N", nothing more; else" the sheet
   unfoldable pub sheetText : List ℕ
   sheetText = cond (eqb (refusal f) 0) planSheet (refusedLine (refusal f))
 

@@ -18,7 +18,7 @@ ghost use Rattle.holds.specs.Holds.{Cells, Shares};
 ghost use Rattle.requirements.specs.Figures.{requirementOf};
 ghost use Rattle.protocol.specs.Longest.{fellows, longestWait};
 ghost use Rattle.wording.specs.Naming.{Nameable};
-ghost use Rattle.sheet.specs.Sheet.{resourceLine, budgetLine, holdLine, requirementLine, admittedLine, resourceLines, budgetLinesOf, budgetLines, holdLinesOf, holdLines, requirementLines, planSheet, sheetText};
+ghost use Rattle.sheet.specs.Sheet.{resourceLine, budgetLine, holdLine, requirementLine, admittedLine, resourceLines, budgetLinesOf, budgetLines, holdLinesOf, holdLines, requirementLines, planSheet, sheetLine, sheetIn};
 ghost use Rattle.sheet.specs.Inner.{PutAll};
 
 // Where text ends, and whether every requirement in it is met.
@@ -370,39 +370,35 @@ fn put_plan_sheet(buf: &mut [u8], file: &[u8]) -> usize
     put_verdict(buf, d, file, &holds, &budgets, globals)
 }
 
-// The sheet of any file: of one that is refused, its number.
-fn put_sheet(buf: &mut [u8], file: &[u8]) -> usize
-    requires { ⌜ 131072 ≤ length (now buf) ⌝ }
-    ensures { λ r. ⌜ Put (now (buf .entry)) (now (buf .exit)) 0 (sheetText (now (file .entry))) r ⌝ }
-    ensures { λ r. ⌜ r ≤ 131072 ⌝ }
-{
-    let code = plan::check(file);
-    if code != 0 {
-        return wording::put_refused(buf, 0, code);
-    }
-    put_plan_sheet(buf, file)
-}
-
-// The sheet by way of a buffer of its own, for a lent one that may be too short for it.
+// The sheet of a checked plan by way of a buffer of its own, for a lent one that may be too short for it.
 fn sheet_aside(file: &[u8], out: &mut [u8]) -> Line
-    ensures { λ r. ⌜ r ≡ lineFor (sheetText (now (file .entry))) (length (now (out .entry))) ⌝ }
-    ensures { λ r. ⌜ now (out .exit) ≡ lineIn (sheetText (now (file .entry))) (now (out .entry)) ⌝ }
+    requires { ⌜ Checked (now file) ⌝ }
+    ensures { λ r. ⌜ r ≡ lineFor (planSheet (now (file .entry))) (length (now (out .entry))) ⌝ }
+    ensures { λ r. ⌜ now (out .exit) ≡ lineIn (planSheet (now (file .entry))) (now (out .entry)) ⌝ }
     ensures { λ r. ⌜ r .length ≤ 131072 ⌝ }
 {
     let mut buf = [0u8; 131072];
-    let end = put_sheet(&mut buf, file);
+    let end = put_plan_sheet(&mut buf, file);
     text::hand_over(&buf[0..end], out)
 }
 
-// The datasheet of a plan file, at the front of a lent buffer; the refusal 10 where that is too short for it.
+// The datasheet of a plan file, at the front of a lent buffer: its length, or the first of 1 to 9, or 10 where the buffer is too short
+// for it. A refusal leaves the buffer as it was.
 pub fn sheet(file: &[u8], out: &mut [u8]) -> Line
-    ensures { λ r. ⌜ r ≡ lineFor (sheetText (now (file .entry))) (length (now (out .entry))) ⌝ }
-    ensures { λ r. ⌜ now (out .exit) ≡ lineIn (sheetText (now (file .entry))) (now (out .entry)) ⌝ }
+    ensures { λ r. ⌜ r ≡ sheetLine (now (file .entry)) (length (now (out .entry))) ⌝ }
+    ensures { λ r. ⌜ now (out .exit) ≡ sheetIn (now (file .entry)) (now (out .entry)) ⌝ }
     ensures { λ r. ⌜ r .length ≤ 131072 ⌝ }
 {
+    let code = plan::check(file);
+    if code != 0 {
+        return Line {
+            refusal: code,
+            length: 0,
+        };
+    }
     if out.len() < 131072 {
         return sheet_aside(file, out);
     }
-    let length = put_sheet(out, file);
+    let length = put_plan_sheet(out, file);
     Line { refusal: 0, length }
 }

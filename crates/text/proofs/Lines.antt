@@ -5,12 +5,12 @@ use mathlib.Core.List.{List, [], _++_}
 use mathlib.Core.Path.{_≡_, refl, sym, ap, _∙_}
 use native.Mathlib.Nat.{zero-add}
 use native.Mathlib.Omega.{arith}
-use borrow.Author.Tests.{leb-true, le-leb, lt-leb}
-use lib.Dec.{leb}
+use borrow.Author.Tests.{leb-true, le-leb, lt-leb, eq-eqb, ne-eqb}
+use lib.Dec.{leb, eqb}
 use lib.ListN.{length, take, drop}
 use Rattle.text.specs.declared.Line.{Line}
 use Rattle.text.specs.Text.{Put}
-use Rattle.text.specs.Buffers.{lineFor, lineIn}
+use Rattle.text.specs.Buffers.{lineFor, lineIn, lineUnless, lineInUnless}
 use Rattle.text.proofs.TextLaws.{put-front}
 
 -- the part that a line put at the front takes
@@ -51,6 +51,16 @@ module _ (text : List ℕ) (n : ℕ) {r : Line} (e : r ≡ lineFor text n) where
       go : (b : Bool) → (cond {A = Line} b (record { refusal = 0; length = length text }) (record { refusal = 10; length = 0 })) .length ≤ length text
       go true = omega arith
       go false = omega arith
+
+-- a number that comes before the 10, or none
+module _ {code k : ℕ} (e : code ≡ k) (text l : List ℕ) where
+  pub refused-before : (code ≡ 0 → ⊥) → (record { refusal = code; length = 0 } ≡ lineUnless k text (length l)) × (l ≡ lineInUnless k text l)
+  unfolding lineUnless lineInUnless
+  refused-before d = rw (← e, ne-eqb code 0 d) (refl, refl)
+
+  pub none-before : {r : Line} {m : List ℕ} → code ≡ 0 → (r ≡ lineFor text (length l)) × (m ≡ lineIn text l) → (r ≡ lineUnless k text (length l)) × (m ≡ lineInUnless k text l)
+  unfolding lineUnless lineInUnless
+  none-before z h = rw (eq-eqb k 0 (sym e ∙ z)) h
 
 -- no line fits every buffer, and leaves it as it was
 pub no-line : {text : List ℕ} (l : List ℕ) → text ≡ [] → (record { refusal = 0; length = 0 } ≡ lineFor text (length l)) × (l ≡ lineIn text l)

@@ -7,7 +7,7 @@ ghost use Prim.Native.Nat.{_+_, _≤_};
 ghost use lib.ListN.{length};
 ghost use Rattle.machine.specs.Inner.{Surveyed};
 ghost use Rattle.machine.specs.Promise.{callOf, AfterBytes};
-ghost use Rattle.wording.specs.Lines.{refusedLine, planLine};
+ghost use Rattle.wording.specs.Lines.{planLine};
 ghost use Rattle.transcript.specs.Calls.{callLine};
 ghost use Rattle.transcript.specs.Output.{endLine};
 ghost use Rattle.text.specs.Buffers.{lineFor, lineIn};
@@ -62,16 +62,6 @@ fn put_call(
     Step { end, state: next }
 }
 
-// The line of a refusal.
-pub fn refused_line(number: u8, out: &mut [u8]) -> Line
-    ensures { λ r. ⌜ r ≡ lineFor (refusedLine number) (length (now (out .entry))) ⌝ }
-    ensures { λ r. ⌜ now (out .exit) ≡ lineIn (refusedLine number) (now (out .entry)) ⌝ }
-{
-    let mut line = [0u8; 96];
-    let end = wording::put_refused(&mut line, 0, number);
-    text::hand_over(&line[0..end], out)
-}
-
 // What the output ends with, where so many bytes stand behind the last call that was made: nothing, or the refusal 22.
 pub fn end_line(left: usize, out: &mut [u8]) -> Line
     ensures { λ r. ⌜ r ≡ lineFor (endLine left) (length (now (out .entry))) ⌝ }
@@ -83,7 +73,7 @@ pub fn end_line(left: usize, out: &mut [u8]) -> Line
             length: 0,
         };
     }
-    refused_line(22, out)
+    wording::refused_line(22, out)
 }
 
 // The line of a plan that is read.

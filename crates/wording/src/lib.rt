@@ -1,11 +1,15 @@
 // The lines of the printing program, put into a lent buffer from a place on; each function returns where its text ends. They are for
-// the crates above this one: each says in its `requires` how much room it takes.
+// the crates above this one: each says in its `requires` how much room it takes. The line of a refusal, which both programs print, is
+// there for any buffer too.
 use protocol::Answer;
 use rows::Counts;
+use text::Line;
+ghost use mathlib.Core.Path.{_≡_};
 ghost use Prim.Native.Nat.{_+_, _≤_};
 ghost use lib.ListN.{length};
 ghost use Rattle.protocol.specs.declared.Answer.the-variants.{Granted, Waits, Next, Free};
 ghost use Rattle.text.specs.Text.{Put};
+ghost use Rattle.text.specs.Buffers.{lineFor, lineIn};
 ghost use Rattle.wording.specs.Lines.{field, signedField, nameField, refusedLine, planLine, tickLine, named, answerLine};
 ghost use Rattle.wording.specs.Naming.{Nameable, Names};
 
@@ -48,6 +52,16 @@ pub fn put_refused(buf: &mut [u8], at: usize, number: u8) -> usize
     let a = text::put(buf, at, b"refused");
     let b = put_field(buf, a, number as u64);
     text::put(buf, b, b"\n")
+}
+
+// That line alone, at the front of a lent buffer.
+pub fn refused_line(number: u8, out: &mut [u8]) -> Line
+    ensures { λ r. ⌜ r ≡ lineFor (refusedLine number) (length (now (out .entry))) ⌝ }
+    ensures { λ r. ⌜ now (out .exit) ≡ lineIn (refusedLine number) (now (out .entry)) ⌝ }
+{
+    let mut line = [0u8; 96];
+    let end = put_refused(&mut line, 0, number);
+    text::hand_over(&line[0..end], out)
 }
 
 // "plan P N R S".

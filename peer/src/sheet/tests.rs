@@ -219,5 +219,17 @@ fn a_lent_buffer_has_to_be_as_long_as_the_sheet() {
     assert_eq!(short, Err(Refusal::BufferTooShort));
     assert_eq!(buffer, [170; BUS.len()]);
     assert_eq!(write(&bus(), &mut buffer), Ok(BUS.len()));
-    assert_eq!(write(&bus()[1..], &mut buffer[..10]), Ok(10));
+}
+
+#[test]
+fn a_refused_plan_has_its_number_before_any_room_is_looked_at() {
+    let mut edition = bus();
+    edition[0] = 2;
+    for room in [0, 9, 10, 300] {
+        let mut buffer = [170; 300];
+        let lent = &mut buffer[..room];
+        assert_eq!(write(&bus()[1..], lent), Err(Refusal::Length));
+        assert_eq!(write(&edition, lent), Err(Refusal::Edition));
+        assert_eq!(buffer, [170; 300]);
+    }
 }

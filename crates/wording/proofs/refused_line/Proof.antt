@@ -1,8 +1,8 @@
 -- The line is put at the front of a buffer of its own, and handed over from there.
 use borrow.Author.Needs.{needs}
 use Rattle.text.proofs.Lines.{front-part}
-use Rattle.transcript.proofs.refused_line.Statement.{statement}
-use Rattle.transcript.proofs.refused_line.Tie as tie
+use Rattle.wording.proofs.refused_line.Statement.{statement}
+use Rattle.wording.proofs.refused_line.Tie as tie
 
 slice-aggregate-put-refused : tie.Need-slice-aggregate-put-refused
 slice-aggregate-put-refused c = search needs
