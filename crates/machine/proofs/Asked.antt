@@ -27,9 +27,9 @@ use Rattle.state.specs.Sound.{sound}
 use Rattle.state.specs.Seats.{Seats}
 use Rattle.state.proofs.Tables.{low-processor}
 use Rattle.state.proofs.Good.{Whole}
-use Rattle.state.proofs.Wholes.{hold-user, whole-of, sound-of}
+use Rattle.state.proofs.Wholes.{hold-user, hold-resource, whole-of, sound-of}
 use Rattle.steps.specs.Steps.{joined, taken, takenHolds}
-use Rattle.steps.proofs.Joins.{aheadOf, entering, hold-resource, join-room, joined-whole, joined-shows}
+use Rattle.steps.proofs.Joins.{aheadOf, entering, join-room, joined-whole, joined-shows}
 use Rattle.steps.proofs.Asking.{taken-is, request-granted, request-waits, busy-is}
 use Rattle.machine.specs.Inner.{refusedAt, Done}
 

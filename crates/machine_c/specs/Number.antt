@@ -1,5 +1,5 @@
 -- What the exported functions return, as one number.
-use Prim.Native.Nat.{ℕ, _+_, _*_}
+use Prim.Native.Nat.{ℕ, _+_, _*_, _/_, _%_}
 use mathlib.Core.Bool.{cond}
 use mathlib.Core.List.{List, [], _∷_}
 use lib.Dec.{eqb}
@@ -8,7 +8,10 @@ use Rattle.plan.specs.Plan.{planOf}
 use Rattle.protocol.specs.declared.Call.{Call}
 use Rattle.protocol.specs.declared.Answer.{Answer}
 use Rattle.protocol.specs.declared.Answer.the-variants.{Granted, Waits, Next, Free, Ticked, Refused}
-use Rattle.protocol.specs.Machine.{answer, run}
+use Rattle.protocol.specs.Machine.{Lines, fresh, answer, run}
+use Rattle.state.specs.declared.State.{State}
+use Rattle.state.specs.Shows.{standing, lineAt, slot}
+use Rattle.state.specs.Rows.{stateOf}
 
 -- an answer: the refusal in the low byte, above it which answer it is, and its values
 abbrev pub answerNumber : Answer → ℕ
@@ -27,3 +30,22 @@ answerAfter f before c = cond (eqb (refusal f) 0) (answer (planOf f) (run (planO
 abbrev pub callNumber : (Call → Answer) → List Call → ℕ
 callNumber answer [] = 0
 callNumber answer (c ∷ cs) = answerNumber (answer c)
+
+-- a part of a state: from the low byte up the row of task x modulo 64 and that of resource x modulo 16, with the processor in slot
+-- x / 16 modulo 8
+abbrev pub rowNumber : State → ℕ → ℕ
+rowNumber s x =
+    standing (s .tasks) (x % 64) .resource
+    + 256 * standing (s .tasks) (x % 64) .place
+    + 65536 * lineAt s (x % 16) .queued
+    + 16777216 * lineAt s (x % 16) .«hold_left»
+    + 1099511627776 * lineAt s (x % 16) .«budget_left»
+    + 72057594037927936 * slot (lineAt s (x % 16)) (x / 16 % 8)
+
+-- the lines after a list of calls on a fresh machine: by the rules, or with nobody in line where the plan is refused
+unfoldable pub linesAfter : List ℕ → List Call → Lines
+linesAfter f calls = cond (eqb (refusal f) 0) (run (planOf f) calls) fresh
+
+-- the state that these lines tell
+abbrev pub stateAfter : List ℕ → List Call → State
+stateAfter f calls = stateOf (planOf f) (linesAfter f calls)

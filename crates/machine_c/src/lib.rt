@@ -4,7 +4,7 @@ use state::State;
 ghost use mathlib.Core.Path.{_≡_};
 ghost use Rattle.machine.specs.Replies.{reply};
 ghost use Rattle.machine.specs.Promise.{callOf, callsOf};
-ghost use Rattle.machine_c.specs.Number.{answerNumber, answerAfter, callNumber};
+ghost use Rattle.machine_c.specs.Number.{answerNumber, answerAfter, callNumber, rowNumber, stateAfter};
 
 // An answer as a number.
 fn answer_number(answer: Answer) -> u64
@@ -49,4 +49,29 @@ pub extern "C" fn machine_answer(
 {
     let state = machine::run(file, calls);
     bytes_number(file, state, letter, tag, resource)
+}
+
+// A part of a state as a number.
+fn row_number(state: State, x: u8) -> u64
+    ensures { λ r. ⌜ r ≡ rowNumber state x ⌝ }
+{
+    let standing = state.tasks[(x % 64) as usize];
+    let line = state.lines[(x % 16) as usize];
+    let queue = line.queue;
+    let slot = queue[(x / 16 % 8) as usize];
+    folds::byte(standing.resource)
+        + 256 * folds::byte(standing.place)
+        + 65536 * folds::byte(line.queued)
+        + 16777216 * folds::word(line.hold_left)
+        + 1099511627776 * folds::word(line.budget_left)
+        + 72057594037927936 * folds::byte(slot)
+}
+
+// Makes a list of calls of three bytes on a fresh machine, and returns part x of its state; x from 0 to 127 shows all of it.
+#[no_mangle]
+pub extern "C" fn machine_row(file: &[u8], calls: &[u8], x: u8) -> u64
+    ensures { λ r. ⌜ r ≡ rowNumber (stateAfter (now (file .entry)) (callsOf (now (calls .entry)))) x ⌝ }
+{
+    let state = machine::run(file, calls);
+    row_number(state, x)
 }

@@ -1,7 +1,6 @@
 pub mod Lists
 pub mod Ranked
 pub mod Same
-pub mod Shown
 pub mod Reading
 pub mod Join
 pub mod JoinKeeps

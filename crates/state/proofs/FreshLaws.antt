@@ -1,19 +1,22 @@
--- A fresh state is sound, and shows nobody in line.
+-- A fresh state is sound, shows nobody in line, and is what such lines tell.
 use Prim.Native.Nat.{ℕ, _<_}
 use mathlib.Core.Bool.{true, false}
+use mathlib.Core.List.{List}
 use mathlib.Core.Path.{_≡_, refl, ap, fun-ext}
 use native.Mathlib.Omega.{arith}
 use borrow.Author.Tests.{eq-eqb, le-ltb, leb-true}
 use lib.Dec.{leb}
-use lib.ListN.{length-replicate, getD-replicate, List·getD-eq-default}
-use Rattle.folds.proofs.Tests.{all-from, any-none, is-not-true}
+use lib.ListN.{replicate, length-replicate, getD-replicate, List·getD-eq-default}
+use Rattle.folds.proofs.Tests.{all-from, any-none, is-not-true, find-none}
 use Rattle.plan.specs.Plan.{Plan, Valid}
 use Rattle.protocol.specs.Machine.{fresh}
 use Rattle.ranks.specs.Ranks.{listFrom}
+use Rattle.ranks.proofs.Lists.{list-same}
 use Rattle.folds.proofs.Searches.{on-le}
 use Rattle.state.specs.declared.Standing.{Standing}
 use Rattle.state.specs.Shows.{standing, noneInLine, noLine, freeLine, lineAt, rank, shows, freshState}
 use Rattle.state.specs.Sound.{taskFits, serves, slotFits, coreFits, clockFits, lineFits, sound}
+use Rattle.state.specs.Rows.{resourceOf, standingOf, stateOf}
 use Rattle.state.proofs.Wholes.{both, rank-of}
 
 row-fresh : (u : ℕ) → u < 64 → standing (freshState .tasks) u ≡ noneInLine
@@ -54,3 +57,15 @@ fresh-shows p = fun-ext line
         on-le (shows p freshState q ≡ fresh q) 16 q
         (λ l. rw (List·getD-eq-default (freshState .lines) noLine {n = q} (rw length-replicate l)))
         (λ l. rw (line-fresh q l))
+
+-- fresh lines tell it, whatever the plan
+none-fresh : (p : Plan) (u : ℕ) → standingOf p fresh u ≡ noneInLine
+unfolding standingOf resourceOf
+none-fresh p u =
+    rw (find-none (p .resources) (λ q. false) (all-from (p .resources) (λ q. true) (λ q l. refl)), le-ltb (p .resources) (p .resources) (omega arith))
+
+pub fresh-told : (p : Plan) → stateOf p fresh ≡ freshState
+unfolding listFrom
+fresh-told p =
+    ap (λ (ts : List Standing). record { lines = replicate 16 freeLine; tasks = ts })
+    (list-same 64 0 (standingOf p fresh) (λ u. noneInLine) (λ u a l. none-fresh p u))

@@ -6,4 +6,5 @@ pub mod Wholes
 pub mod SoundTest
 pub mod FreshLaws
 pub mod Shown
+pub mod Told
 pub mod One

@@ -14,7 +14,7 @@ use Rattle.folds.proofs.Arrays.{by-eq}
 use Rattle.plan.specs.Plan.{Plan, Valid}
 use Rattle.equations.specs.Sharing.{processorOf, uses, global}
 use Rattle.equations.specs.HoldTimes.{holdTime, holdAt}
-use Rattle.equations.proofs.Laws.{uses-out, hold-low}
+use Rattle.equations.proofs.Laws.{uses-out, hold-low, past-global}
 use Rattle.protocol.specs.Machine.{terms}
 use Rattle.ranks.specs.Ranks.{taskAt}
 use Rattle.folds.proofs.Searches.{on-eq, on-le, find-is}
@@ -103,6 +103,13 @@ module _ (p : Plan) (v : Valid p) where
   holder-low u q h =
       uses-out p u q ((u < p .tasks) × (q < 16)) (and-parts (global p q) (uses p u q) (hold-user u q h) .1)
       (λ s l t r. let f = v .section-fits s l in (omega (arith, f .task), omega (arith, f .resource, v .resources)))
+
+  pub hold-resource : (u q : ℕ) → 1 ≤ holdAt p u q → q < p .resources
+  unfolding holdAt
+  hold-resource u q h =
+      on-le (q < p .resources) (p .resources) q
+      (λ out. let none : 1 ≤ 0 = rw (past-global p v q out) at h in omega arith)
+      (λ l. l)
 
   module _ (ts : List Standing) where
     -- a processor that serves q is one

@@ -1,4 +1,5 @@
 pub mod Shows
 pub mod Sound
+pub mod Rows
 pub mod Seats
 pub mod Tests

@@ -6,8 +6,8 @@ use mathlib.Core.Logic.{_⊎_, inl, inr}
 use mathlib.Core.Path.{_≡_, refl, sym, ap, ap₂, _∙_}
 use native.Mathlib.Numerals.{add-one}
 use native.Mathlib.Omega.{arith}
-use borrow.Author.Tests.{eqb-true, eqb-false, eq-eqb, ne-eqb, lt-ltb, le-ltb, le-leb, lt-leb, not-true}
-use lib.Dec.{eqb, leb, ltb}
+use borrow.Author.Tests.{eqb-true, eqb-false, eq-eqb, ne-eqb, lt-ltb, le-ltb, not-true}
+use lib.Dec.{eqb, ltb}
 use lib.ListN.{length, getD}
 use Rattle.folds.specs.Below.{anyBelow, sumBelow, maxBelow}
 use Rattle.folds.proofs.Tests.{same-test, all-from, any-at, any-out, any-same, find-none}
@@ -23,7 +23,6 @@ use Rattle.folds.proofs.Searches.{on-le, find-is}
 use Rattle.steps.proofs.Ready.{seat-task}
 use Rattle.ranks.proofs.Lists.{list-snoc, list-length}
 use Rattle.ranks.proofs.Ranked.{task-rank, ranks-few, full}
-use Rattle.ranks.proofs.Reading.{tasks-in, in-line}
 use Rattle.holds.specs.Holds.{cell, Cells}
 use Rattle.state.specs.declared.Standing.{Standing}
 use Rattle.state.specs.declared.Line.{Line}
@@ -31,9 +30,10 @@ use Rattle.state.specs.declared.State.{State}
 use Rattle.state.specs.Shows.{standing, lineAt, slot, rank, shows, noneInLine}
 use Rattle.state.specs.Seats.{seat, Seats}
 use Rattle.state.proofs.Tables.{low-processor}
-use Rattle.state.proofs.Good.{Good, Whole}
+use Rattle.state.proofs.Good.{Whole}
+use Rattle.state.proofs.Wholes.{hold-resource}
+use Rattle.state.proofs.Told.{ahead-list, stands-is}
 use Rattle.steps.specs.Steps.{taken, takenHolds}
-use Rattle.steps.proofs.Joins.{hold-resource}
 
 -- a sum over a list goes from its head, one over a range from its end
 sum-last : (f : ℕ → ℕ) (us : List ℕ) (u : ℕ) → sumOf f (us ++ (u ∷ [])) ≡ sumOf f us + f u
@@ -54,10 +54,6 @@ module _ (p : Plan) (v : Valid p) (s : State) (w : Whole p s) (q k : ℕ) (lq : 
 
   abbrev most : ℕ
   most = maxBelow (p .tasks) ranks
-
-  pub ahead-list : tasksOf k (queueOf (shows p s q)) ≡ listFrom most 1 (taskAt (p .tasks) ranks)
-  unfolding shows
-  ahead-list = tasks-in (w .lines q lq .queued) k
 
   module _ (lk : k < 8) {seats : List ℕ} (t : Seats p (s .tasks) seats) where
     few : most ≤ 64
@@ -95,7 +91,7 @@ module _ (p : Plan) (v : Valid p) (s : State) (w : Whole p s) (q k : ℕ) (lq : 
         full-at j l = ne-eqb (getD seats (seat q k j) 0) 0 (λ e. omega (arith, seat-taken j l))
 
     pub ahead-count : length (tasksOf k (queueOf (shows p s q))) ≡ taken seats q k
-    ahead-count = ap length ahead-list ∙ list-length most 1 (taskAt (p .tasks) ranks) ∙ sym taken-is
+    ahead-count = ap length (ahead-list p v s w q k lq) ∙ list-length most 1 (taskAt (p .tasks) ranks) ∙ sym taken-is
 
     module _ {holds : List ℕ} (c : Cells (holdAt p) holds) where
       pub taken-holds : takenHolds holds seats q k ≡ sumOf (terms p q .hold) (listFrom most 1 (taskAt (p .tasks) ranks))
@@ -111,7 +107,7 @@ module _ (p : Plan) (v : Valid p) (s : State) (w : Whole p s) (q k : ℕ) (lq : 
               rw e (c .at u q (omega (arith, v .tasks)) lq)
 
       pub ahead-holds : sumOf (terms p q .hold) (tasksOf k (queueOf (shows p s q))) ≡ takenHolds holds seats q k
-      ahead-holds = ap (sumOf (terms p q .hold)) ahead-list ∙ sym taken-holds
+      ahead-holds = ap (sumOf (terms p q .hold)) (ahead-list p v s w q k lq) ∙ sym taken-holds
 
 -- ── the answer ──
 -- of a held line
@@ -141,21 +137,10 @@ module _ (p : Plan) (v : Valid p) (s : State) (w : Whole p s) (i q : ℕ) where
 
 -- ── who is in line ──
 module _ (p : Plan) (v : Valid p) (s : State) (w : Whole p s) (i : ℕ) (lt : i < p .tasks) where
-  -- for q exactly the tasks whose row names q
-  stands-is : (q : ℕ) → q < p .resources → inLine i (shows p s q) ≡ eqb (standing (s .tasks) i .resource) q
-  unfolding shows rank
-  stands-is q l =
-      let g : Good p (s .tasks) q (lineAt s q) = w .lines q (omega (arith, v .resources)) in
-      in-line (g .ranked) (g .queued) i lt ∙ rw (eq-eqb (processorOf p i) (processorOf p i) refl) (go (eqb (standing (s .tasks) i .resource) q))
-    where
-      go : (b : Bool) → leb 1 (cond b (standing (s .tasks) i .place + 1) 0) ≡ b
-      go true = le-leb 1 (standing (s .tasks) i .place + 1) (omega arith)
-      go false = lt-leb 1 0 (omega arith)
-
   pub busy-is : busy p (shows p s) i ≡ not (eqb (standing (s .tasks) i .resource) 255)
   unfolding busy
   busy-is =
-      any-same (p .resources) (λ q. inLine i (shows p s q)) (eqb r) stands-is
+      any-same (p .resources) (λ q. inLine i (shows p s q)) (eqb r) (stands-is p v s w i lt)
       ∙ same-test (anyBelow (p .resources) (eqb r)) (not (eqb r 255))
       (λ e. any-out (p .resources) (eqb r) _ e (λ q l t. ap not (ne-eqb r 255 (λ f. omega (arith, v .resources, eqb-true r q t)))))
       (λ e. some e (w .rows i (omega (arith, v .tasks))))

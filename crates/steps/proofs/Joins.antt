@@ -16,7 +16,7 @@ use Rattle.folds.proofs.Ranges.{max-where-at}
 use Rattle.plan.specs.Plan.{Plan, Valid}
 use Rattle.equations.specs.Sharing.{processorOf}
 use Rattle.equations.specs.HoldTimes.{holdAt, budget}
-use Rattle.equations.proofs.Laws.{budget-holds, past-global}
+use Rattle.equations.proofs.Laws.{budget-holds}
 use Rattle.line.specs.Rules as Rules
 use Rattle.line.specs.Rules.{entered}
 use Rattle.protocol.specs.Machine.{terms, change}
@@ -31,6 +31,7 @@ use Rattle.state.specs.declared.Line.{Line}
 use Rattle.state.specs.declared.State.{State}
 use Rattle.state.specs.Shows.{noStanding, noLine, standing, lineAt, slot, rank, shownLine, shows, noneInLine}
 use Rattle.state.proofs.Good.{Good, Whole}
+use Rattle.state.proofs.Wholes.{hold-resource}
 use Rattle.steps.specs.Steps.{pushed, joinedLines, joined}
 
 -- ── ranks of a row ──
@@ -51,16 +52,8 @@ rank-row : (p : Plan) (ts xs : List Standing) (q k u : ℕ) → standing ts u �
 unfolding rank
 rank-row p ts xs q k u e = rw e
 
--- ── who has a hold time ──
+-- ── a hold time is within the budget ──
 module _ (p : Plan) (v : Valid p) (i q : ℕ) where
-  -- it is for one of the resources
-  pub hold-resource : 1 ≤ holdAt p i q → q < p .resources
-  unfolding holdAt
-  hold-resource some =
-      on-le (q < p .resources) (p .resources) q
-      (λ out. let none : 1 ≤ 0 = rw (past-global p v q out) at some in omega arith)
-      (λ l. l)
-
   hold-within : i < p .tasks → holdAt p i q ≤ budget p (processorOf p i) q
   hold-within l =
       rw budget-holds
