@@ -2,13 +2,15 @@
 use libc::STDIN_FILENO;
 ghost use Prim.Native.Nat.{_≤_};
 ghost use mathlib.Core.Path.{_≡_};
-ghost use lib.ListN.{length};
+ghost use lib.ListN.{length, take};
+ghost use Rattle.plan.specs.Reading.{planLength};
+ghost use Rattle.input.specs.Input.{Came};
 
-// Reads the plan to the front of the buffer: as many bytes as its header says, or as many as there are. The whole buffer is as long
-// as the longest plan that a header can tell of.
-pub fn read_plan(buf: &mut [u8]) -> usize
+// Reads a plan to the front of the buffer: as many bytes as its header says, or as many as there are. What lies behind them in the
+// part that was lent for reading is not known. The buffer is as long as the longest plan that a header can tell of.
+fn read_whole(buf: &mut [u8]) -> usize
     requires { ⌜ length (now buf) ≡ 65536 ⌝ }
-    ensures { λ r. ⌜ r ≤ 65536 ⌝ }
+    ensures { λ r. ⌜ (planLength (take r (now (buf .exit))) ≡ r) × (r ≤ 65536) ⌝ }
 {
     let head = io::read_full(STDIN_FILENO, &mut buf[0..16]);
     if head < 16 {
@@ -19,4 +21,14 @@ pub fn read_plan(buf: &mut [u8]) -> usize
         return end;
     }
     16 + io::read_full(STDIN_FILENO, &mut buf[16..end])
+}
+
+// Reads the plan to the front of the lent buffer, by way of one of its own, so that what lies behind it stays.
+pub fn read_plan(buf: &mut [u8]) -> usize
+    requires { ⌜ length (now buf) ≡ 65536 ⌝ }
+    ensures { λ r. ⌜ Came (now (buf .entry)) (now (buf .exit)) r ⌝ }
+{
+    let mut own = io::large_buffer();
+    let end = read_whole(&mut own);
+    text::put(buf, 0, &own[0..end])
 }

@@ -14,6 +14,7 @@ use Rattle.rows.specs.Rules.{valuesCode}
 use Rattle.rows.specs.declared.Counts.{Counts}
 use Rattle.rows.specs.declared.Rows.{Rows}
 use Rattle.parts.specs.Layout.{countsOf, rowsOf, namesOf}
+use Rattle.plan.specs.declared.Reading.{Reading}
 use Rattle.plan.specs.declared.ReadAnswer.the-variants.{Accepted}
 use Rattle.plan.specs.Reading.{refusal, given, reading, refusedWith, told as readSaid}
 use Rattle.plan_write.specs.declared.WriteAnswer.{WriteAnswer}
@@ -90,15 +91,20 @@ module _ (c : Counts) (rows : Rows) (names : List ℕ) where
   pub file-front : (l : List ℕ) → take (fileLength c names) (fileOf c rows names ++ drop (fileLength c names) l) ≡ fileOf c rows names
   file-front l = take-at (fileOf c rows names) (drop (fileLength c names) l) (fileLength c names) (file-holds c rows names .size)
 
-  pub read-same : valuesCode c rows names ≡ 0 → reading (fileOf c rows names) ≡ record { answer = Accepted c; rows = trimmed c rows }
+  read-same : valuesCode c rows names ≡ 0 → reading (fileOf c rows names) ≡ record { answer = Accepted c; rows = trimmed c rows }
   unfolding given
   read-same e =
       let s = written-then-read c rows names e in
       rw (eq-eqb _ _ (s .accepted)) (λ i. record { answer = Accepted (s .counts i); rows = s .rows-read i })
 
-  pub back-written : (room : ℕ) → writeCode c rows names room ≡ 0 → readBack c rows names room ≡ record { answer = Accepted c; rows = trimmed c rows }
+  back-written : (room : ℕ) → writeCode c rows names room ≡ 0 → readBack c rows names room ≡ record { answer = Accepted c; rows = trimmed c rows }
   unfolding readBack
   back-written room e = rw (eq-eqb _ _ e)
+
+  -- a part that is read back, and is that file
+  pub back-same : {r : Reading} (room : ℕ) (part : List ℕ) → r ≡ reading part → part ≡ fileOf c rows names → writeCode c rows names room ≡ 0 → r ≡ readBack c rows names room
+  back-same room part h e k =
+      h ∙ ap reading e ∙ read-same (code-clear room k .0) ∙ sym (back-written room k)
 
   pub back-refused : {k : ℕ} (room : ℕ) → writeCode c rows names room ≡ k → (k ≡ 0 → ⊥) → readBack c rows names room ≡ refusedWith k
   unfolding readBack
@@ -117,19 +123,25 @@ module _ (f : List ℕ) where
   unfolding copying copied copyCode
   copy-refused l e d = (simp (e, ne-eqb _ _ d), simp (e, ne-eqb _ _ d))
 
+  copy-length : ((i : ℕ) → getD f i 0 < 256) → refusal f ≡ 0 → fileLength (countsOf f) (namesOf f) ≡ length f
+  copy-length b e =
+      sym (file-holds (countsOf f) (rowsOf f) (namesOf f) .size) ∙ ap length (read-then-written f b e .file)
+
   copy-code : (room : ℕ) → ((i : ℕ) → getD f i 0 < 256) → refusal f ≡ 0 → writeCode (countsOf f) (rowsOf f) (namesOf f) room ≡ copyCode f room
   unfolding writeCode copyCode
-  copy-code room b e =
-      let s = read-then-written f b e in
-      let n : fileLength (countsOf f) (namesOf f) ≡ length f = sym (file-holds (countsOf f) (rowsOf f) (namesOf f) .size) ∙ ap length (s .file) in
-      rw (eq-eqb _ _ (s .accepted), eq-eqb _ _ e, n)
+  copy-code room b e = rw (eq-eqb _ _ (read-then-written f b e .accepted), eq-eqb _ _ e, copy-length b e)
 
-  pub copy-same : (l : List ℕ) → ((i : ℕ) → getD f i 0 < 256) → refusal f ≡ 0 → (writing (countsOf f) (rowsOf f) (namesOf f) (length l) ≡ copying f (length l)) × (written (countsOf f) (rowsOf f) (namesOf f) l ≡ copied f l)
-  unfolding writing written copying copied
-  copy-same l b e =
-      let s = read-then-written f b e in
-      let n : fileLength (countsOf f) (namesOf f) ≡ length f = sym (file-holds (countsOf f) (rowsOf f) (namesOf f) .size) ∙ ap length (s .file) in
-      (rw (copy-code (length l) b e, n), rw (copy-code (length l) b e, n, s .file))
+  -- writing counts, rows and names that are those of the file
+  module _ (b : (i : ℕ) → getD f i 0 < 256) (e : refusal f ≡ 0) where
+    pub copy-buffer : {now : List ℕ} (c : Counts) (rows : Rows) (names l : List ℕ) → now ≡ written c rows names l → c ≡ countsOf f → rows ≡ rowsOf f → names ≡ namesOf f → now ≡ copied f l
+    unfolding written copied
+    copy-buffer c rows names l h counted rowed named =
+        h ∙ rw (counted, rowed, named, copy-code (length l) b e, copy-length b e, read-then-written f b e .file)
+
+    pub copy-answer : {r : WriteAnswer} (c : Counts) (rows : Rows) (names : List ℕ) (room : ℕ) → r ≡ writing c rows names room → c ≡ countsOf f → rows ≡ rowsOf f → names ≡ namesOf f → r ≡ copying f room
+    unfolding writing copying
+    copy-answer c rows names room h counted rowed named =
+        h ∙ rw (counted, rowed, named, copy-code room b e, copy-length b e)
 
   pub copy-told : (room : ℕ) → told (copying f room) ≡ copyTold f room
   unfolding copying

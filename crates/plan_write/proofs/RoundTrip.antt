@@ -1,30 +1,30 @@
 -- Demand 2: a file and the values that it holds. Both round trips go by what the file has at each place.
-use Prim.Native.Nat.{ℕ, _<_}
+use Prim.Native.Nat.{ℕ, _+_, _<_}
 use mathlib.Core.Bool.{true}
 use mathlib.Core.List.{List, [], _∷_, _++_, append-assoc}
 use mathlib.Core.Path.{_≡_, refl, sym, ap, ap₂, subst, _∙_}
 use native.Mathlib.Omega.{arith}
-use borrow.Author.Tests.{le-ltb, le-leb, eq-eqb, eqb-true}
+use borrow.Author.Tests.{lt-ltb, le-ltb, le-leb, eq-eqb, eqb-true}
 use lib.Dec.{eqb}
 use lib.ListN.{length, getD, take, drop, replicate, length-append, length-drop, take-append-drop}
-use lib.Seq.{drop-at}
+use lib.Seq.{drop-at, drop-drop}
 use Rattle.folds.specs.Below.{sumBelow}
 use Rattle.folds.specs.Bytes.{number, width, fields, rowAt, rowBytes, bytesBelow}
 use Rattle.folds.proofs.Tests.{all-at, and-parts}
 use Rattle.folds.proofs.Arrays.{placed-same}
 use Rattle.folds.proofs.RowLaws.{Bytes, solid, fields-back, fields-forth}
-use Rattle.rows.specs.Rules.{noTask, noSection, taskOk, namesOk}
+use Rattle.rows.specs.Rules.{noTask, noSection, lengthOf, startOf, taskOk, namesOk}
 use Rattle.rows.specs.declared.Counts.{Counts}
 use Rattle.rows.specs.declared.Rows.{Rows}
 use Rattle.parts.specs.Layout.{countsOf, tasksAt, resourcesAt, sectionsAt, namesAt, taskWidths, resourceWidths, sectionWidths, taskAt, taskSpare, startAt, lengthAt, resourceSpare, sectionAt, taskRows, lengthRows, sectionRows, taskRowsOk, lengthRowsOk, sectionCode, restCode, partsCode, rowsOf, namesOf}
 use Rattle.rows.proofs.Laws.{InRange, counts-facts}
 use Rattle.parts.proofs.Laws.{task-read, length-read, section-read, start-read, tasks-kept, sections-kept}
-use Rattle.plan.specs.Reading.{headerCode, refusal}
+use Rattle.plan.specs.Reading.{headerCode, refusal, nameRefusal, namePart, nameOf}
 use Rattle.plan.proofs.Laws.{Header, Whole, whole-facts}
 use Rattle.plan_write.specs.Encode.{headerWidths, headerNumbers, headerBytes, taskNumbers, taskBytes, resourceBytes, sectionNumbers, sectionBytes, fileLength, fileOf}
-use Rattle.plan_write.specs.RoundTrip.{trimmed, WrittenThenRead, ReadThenWritten}
+use Rattle.plan_write.specs.RoundTrip.{trimmed, nameIn, SameFile, WrittenThenRead, ReadThenWritten}
 use Rattle.plan_write.proofs.Same.{Kept, kept-facts, kept-code, rows-joined}
-use Rattle.plan_write.proofs.Values.{taskRow, resourceRow, sectionRow, at, RowsIn, headed, sections-end, rows-in, header-length, task-same, length-same, section-same, tasks-checked, unique-checked, starts-checked, names-checked, sections-checked, sums-checked}
+use Rattle.plan_write.proofs.Values.{taskRow, resourceRow, sectionRow, at, RowsIn, headed, sections-end, rows-in, header-length, task-same, length-same, start-same, section-same, tasks-checked, unique-checked, starts-checked, names-checked, sections-checked, sums-checked}
 
 -- the file f has the numbers of these values at their places, and ends with the names
 pub record Holds (f : List ℕ) (c : Counts) (rows : Rows) (names : List ℕ) : Type 0 where
@@ -60,6 +60,14 @@ module _ (f : List ℕ) (rows : Rows) (names : List ℕ) (h : Holds f (countsOf 
       let l = placed-same _ _ _ (replicate 16 0) (length-same f (countsOf f) rows (h .stand)) in
       let s = placed-same _ _ _ (replicate 255 noSection) (section-same f (countsOf f) rows (h .stand)) in
       λ i. record { tasks = t i; lengths = l i; sections = s i }
+
+  -- the part of it that is a name is that name of theirs
+  name-held : (r : ℕ) → r < countsOf f .resources → namePart f r ≡ nameIn (rows .lengths) names r
+  unfolding namePart
+  name-held r l =
+      let start : ℕ = startOf (rows .lengths) r in
+      let behind : drop (namesAt (countsOf f) + start) f ≡ drop start names = sym (drop-drop start (namesAt (countsOf f)) f) ∙ ap (λ (x : List ℕ). drop start x) (h .rest) in
+      rw (length-same f (countsOf f) rows (h .stand) r l, start-same f (countsOf f) rows (h .stand) r l) (ap (λ (x : List ℕ). take (lengthOf (rows .lengths) r) x) behind)
 
   -- and it passes every check where they keep their rules
   header-held : Kept (countsOf f) rows names → Header f
@@ -104,6 +112,15 @@ unfolding refusal partsCode restCode sectionCode
 whole-read f w =
     rw (header-read f (w .header), w .tasks, w .unique, w .starts, w .names, w .sections, w .sums)
 
+-- the question for the name of a resource of such a file is answered
+name-clear : (f : List ℕ) (r : ℕ) → refusal f ≡ 0 → r < countsOf f .resources → nameRefusal f r ≡ 0
+unfolding nameRefusal
+name-clear f r e l = rw (e, lt-ltb _ _ l)
+
+name-given : (f : List ℕ) (r : ℕ) → refusal f ≡ 0 → r < countsOf f .resources → nameOf f r ≡ namePart f r
+unfolding nameOf
+name-given f r e l = rw (name-clear f r e l)
+
 -- a file has the counts of the values that it holds
 counts-held : (f : List ℕ) (c : Counts) (rows : Rows) (names : List ℕ) → Holds f c rows names → countsOf f ≡ c
 unfolding fields number
@@ -116,11 +133,15 @@ written-then-read c rows names e =
     let counts : countsOf f ≡ c = counts-held f c rows names (file-holds c rows names) in
     let h : Holds f (countsOf f) rows names = subst (λ (k : Counts). Holds f k rows names) (sym counts) (file-holds c rows names) in
     let k : Kept (countsOf f) rows names = subst (λ (k : Counts). Kept k rows names) (sym counts) (kept-facts c rows names e) in
+    let none : refusal f ≡ 0 = whole-read f (whole-held f rows names h k) in
+    let below : (r : ℕ) → r < c .resources → r < countsOf f .resources = λ r l. omega (arith, ap (λ (k : Counts). k .resources) counts) in
     record {
-      accepted = whole-read f (whole-held f rows names h k);
+      accepted = none;
       counts = counts;
       rows-read = rows-held f rows names h ∙ ap (λ (k : Counts). trimmed k rows) counts;
       names-read = h .rest;
+      name-answered = λ r l. name-clear f r none (below r l);
+      name-read = λ r l. name-given f r none (below r l) ∙ name-held f rows names h r (below r l);
     }
 
 -- the numbers of a row whose spare byte is 0
@@ -198,3 +219,9 @@ read-then-written f b e =
       accepted = kept-code (countsOf f) (rowsOf f) (namesOf f) (read-kept f w);
       file = holds-file f (countsOf f) (rowsOf f) (namesOf f) b (read-holds f w);
     }
+
+-- so the names of the values that are read are those that the question for names gives
+pub names-of-values : (f : List ℕ) → ((i : ℕ) → getD f i 0 < 256) → refusal f ≡ 0 → (r : ℕ) → r < countsOf f .resources → nameOf f r ≡ nameIn (rowsOf f .lengths) (namesOf f) r
+names-of-values f b e r l =
+    let s : SameFile f = read-then-written f b e in
+    subst (λ (g : List ℕ). nameOf g r ≡ nameIn (rowsOf f .lengths) (namesOf f) r) (s .file) (written-then-read (countsOf f) (rowsOf f) (namesOf f) (s .accepted) .name-read r l)

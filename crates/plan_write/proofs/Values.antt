@@ -90,6 +90,10 @@ module _ (f : List ℕ) (c : Counts) (rows : Rows) (h : RowsIn f c rows) where
   unfolding lengthAt
   length-same i l = ap (at 1) (h .resource i l)
 
+  pub start-same : (i : ℕ) → i < c .resources → startAt (drop (resourcesAt c) f) i ≡ startOf (rows .lengths) i
+  unfolding startAt
+  start-same i l = ap (at 0) (h .resource i l)
+
   pub section-same : (i : ℕ) → i < c .sections → sectionAt (drop (sectionsAt c) f) i ≡ sectionOf (rows .sections) i
   unfolding sectionAt
   section-same i l = ap sectionIn (h .section i l)
@@ -101,9 +105,9 @@ module _ (f : List ℕ) (c : Counts) (rows : Rows) (h : RowsIn f c rows) where
       all-same (c .tasks) _ _ (λ i l. ap₂ _&&_ (ap (taskOk (c .processors)) (task-same i l)) (eq-eqb _ _ (ap (at 3) (h .task i l))) ∙ and-true _)
 
   pub starts-checked : lengthRowsOk (c .resources) (drop (resourcesAt c) f) ≡ true
-  unfolding lengthRowsOk startAt resourceSpare
+  unfolding lengthRowsOk resourceSpare
   starts-checked =
-      all-from (c .resources) _ (λ i l. ap₂ _&&_ (eq-eqb _ _ (ap (at 0) (h .resource i l) ∙ sym (sum-same i _ _ (λ j m. length-same j (omega arith))))) (eq-eqb _ _ (ap (at 2) (h .resource i l))))
+      all-from (c .resources) _ (λ i l. ap₂ _&&_ (eq-eqb _ _ (start-same i l ∙ sym (sum-same i _ _ (λ j m. length-same j (omega arith))))) (eq-eqb _ _ (ap (at 2) (h .resource i l))))
 
   pub sections-checked : sectionRowsOk (c .sections) (c .tasks) (c .resources) (drop (sectionsAt c) f) ≡ sectionsOk (c .sections) (c .tasks) (c .resources) (rows .sections)
   unfolding sectionRowsOk sectionsOk

@@ -4,15 +4,15 @@ use mathlib.Core.Bool.{cond}
 use mathlib.Core.List.{List, [], _∷_, _++_}
 use mathlib.Core.Path.{_≡_}
 use lib.Dec.{leb, eqb}
-use lib.ListN.{length, getD, drop, replicate}
+use lib.ListN.{length, getD, take, drop, replicate}
 use Rattle.folds.specs.Bytes.{placedBelow}
-use Rattle.rows.specs.Rules.{noTask, noSection, taskOf, sectionOf, lengthOf, valuesCode}
+use Rattle.rows.specs.Rules.{noTask, noSection, taskOf, sectionOf, lengthOf, startOf, valuesCode}
 use Rattle.rows.specs.declared.Counts.{Counts}
 use Rattle.rows.specs.declared.Rows.{Rows}
 use Rattle.parts.specs.Layout.{countsOf, rowsOf, namesOf}
 use Rattle.plan.specs.declared.Reading.{Reading}
 use Rattle.plan.specs.declared.ReadAnswer.the-variants.{Accepted}
-use Rattle.plan.specs.Reading.{Told, answered, refusal, refusedWith}
+use Rattle.plan.specs.Reading.{Told, answered, refusal, refusedWith, nameRefusal, nameOf}
 use Rattle.plan_write.specs.declared.WriteAnswer.{WriteAnswer}
 use Rattle.plan_write.specs.declared.WriteAnswer.the-variants.{Written, Refused}
 use Rattle.plan_write.specs.Encode.{fileOf, writeCode}
@@ -26,12 +26,18 @@ trimmed c rows =
       sections = placedBelow (c .sections) (sectionOf (rows .sections)) (replicate 255 noSection);
     }
 
--- the file of these values is read as the same plan
+-- name r of values: of the names' bytes, as many as its length says, behind those of the names before it
+abbrev pub nameIn : List ℕ → List ℕ → ℕ → List ℕ
+nameIn lengths names r = take (lengthOf lengths r) (drop (startOf lengths r) names)
+
+-- the file of these values is read as the same plan; the question for each name is answered, by that name of the values
 pub record SamePlan (c : Counts) (rows : Rows) (names : List ℕ) : Type 0 where
   pub accepted : refusal (fileOf c rows names) ≡ 0
   pub counts : countsOf (fileOf c rows names) ≡ c
   pub rows-read : rowsOf (fileOf c rows names) ≡ trimmed c rows
   pub names-read : namesOf (fileOf c rows names) ≡ names
+  pub name-answered : (r : ℕ) → r < c .resources → nameRefusal (fileOf c rows names) r ≡ 0
+  pub name-read : (r : ℕ) → r < c .resources → nameOf (fileOf c rows names) r ≡ nameIn (rows .lengths) names r
 
 -- written and then read is the same plan
 abbrev pub WrittenThenRead : Type 0

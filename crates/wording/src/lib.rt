@@ -79,7 +79,7 @@ pub fn put_plan(buf: &mut [u8], at: usize, counts: Counts) -> usize
 }
 
 // "tick" and its two words.
-pub fn put_tick(buf: &mut [u8], at: usize, cuts: u16, grants: u16) -> usize
+fn put_tick(buf: &mut [u8], at: usize, cuts: u16, grants: u16) -> usize
     requires { ⌜ at + 96 ≤ length (now buf) ⌝ }
     ensures { λ r. ⌜ Put (now (buf .entry)) (now (buf .exit)) at (tickLine cuts grants) r ⌝ }
     ensures { λ r. ⌜ r ≤ at + 96 ⌝ }
@@ -91,7 +91,7 @@ pub fn put_tick(buf: &mut [u8], at: usize, cuts: u16, grants: u16) -> usize
 }
 
 // A tag, and the name of a resource.
-pub fn put_named(buf: &mut [u8], at: usize, file: &[u8], tag: u8, resource: u8) -> usize
+fn put_named(buf: &mut [u8], at: usize, file: &[u8], tag: u8, resource: u8) -> usize
     requires { ⌜ (Nameable (now file) resource) × (at + 34 ≤ length (now buf)) ⌝ }
     ensures { λ r. ⌜ Put (now (buf .entry)) (now (buf .exit)) at (named (now (file .entry)) tag resource) r ⌝ }
     ensures { λ r. ⌜ r ≤ at + 34 ⌝ }
@@ -101,7 +101,7 @@ pub fn put_named(buf: &mut [u8], at: usize, file: &[u8], tag: u8, resource: u8) 
 }
 
 // "granted", tag and name.
-pub fn put_granted(buf: &mut [u8], at: usize, file: &[u8], tag: u8, resource: u8) -> usize
+fn put_granted(buf: &mut [u8], at: usize, file: &[u8], tag: u8, resource: u8) -> usize
     requires { ⌜ (Nameable (now file) resource) × (at + 96 ≤ length (now buf)) ⌝ }
     ensures { λ r. ⌜ Put (now (buf .entry)) (now (buf .exit)) at (answerLine (now (file .entry)) tag resource Granted) r ⌝ }
     ensures { λ r. ⌜ r ≤ at + 96 ⌝ }
@@ -112,7 +112,7 @@ pub fn put_granted(buf: &mut [u8], at: usize, file: &[u8], tag: u8, resource: u8
 }
 
 // "waits", tag, name, the number ahead, the limit.
-pub fn put_waits(
+fn put_waits(
     buf: &mut [u8],
     at: usize,
     file: &[u8],
@@ -133,7 +133,7 @@ pub fn put_waits(
 }
 
 // "released", tag, name, "to" and the tag granted next.
-pub fn put_next(buf: &mut [u8], at: usize, file: &[u8], tag: u8, resource: u8, next: u16) -> usize
+fn put_next(buf: &mut [u8], at: usize, file: &[u8], tag: u8, resource: u8, next: u16) -> usize
     requires { ⌜ (Nameable (now file) resource) × (at + 96 ≤ length (now buf)) ⌝ }
     ensures { λ r. ⌜ Put (now (buf .entry)) (now (buf .exit)) at (answerLine (now (file .entry)) tag resource (Next next)) r ⌝ }
     ensures { λ r. ⌜ r ≤ at + 96 ⌝ }
@@ -146,7 +146,7 @@ pub fn put_next(buf: &mut [u8], at: usize, file: &[u8], tag: u8, resource: u8, n
 }
 
 // "released", tag, name, "free".
-pub fn put_free(buf: &mut [u8], at: usize, file: &[u8], tag: u8, resource: u8) -> usize
+fn put_free(buf: &mut [u8], at: usize, file: &[u8], tag: u8, resource: u8) -> usize
     requires { ⌜ (Nameable (now file) resource) × (at + 96 ≤ length (now buf)) ⌝ }
     ensures { λ r. ⌜ Put (now (buf .entry)) (now (buf .exit)) at (answerLine (now (file .entry)) tag resource Free) r ⌝ }
     ensures { λ r. ⌜ r ≤ at + 96 ⌝ }

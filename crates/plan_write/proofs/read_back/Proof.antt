@@ -6,9 +6,9 @@ use native.Mathlib.Omega.{arith}
 use borrow.Author.Needs.{needs}
 use lib.ListN.{take}
 use Rattle.plan.specs.declared.Reading.{Reading}
-use Rattle.plan.specs.Reading.{reading, told as readSaid}
+use Rattle.plan.specs.Reading.{told as readSaid}
 use Rattle.plan_write.specs.Encode.{fileOf}
-use Rattle.plan_write.proofs.Outcome.{was-written, was-refused, code-clear, wrote, file-front, read-same, back-written, back-refused, back-told}
+use Rattle.plan_write.proofs.Outcome.{was-written, was-refused, code-clear, wrote, file-front, back-same, back-refused, back-told}
 use Rattle.plan_write.proofs.read_back.Statement.{statement}
 use Rattle.plan_write.proofs.read_back.Tie as tie
 
@@ -51,7 +51,7 @@ returns c =
     let a = c .before .before .before .before .before .before .before .before .before .before .before .before .args in
     let k = was-written _ _ _ _ (sym (w .ensures .0) ∙ c .before .before .before .before .answer .given .1) in
     let front : take (c .before .before .before .before .answer .given .0 .0 - 0) (w .last .1 .1 .1 .0) ≡ fileOf (a .c) (a .rows) (a .names .now) = rw (sub-zero, k .1, w .ensures .1 .0, wrote _ _ _ _ (k .0) .1) (file-front _ _ _ _) in
-    let r = c .read .ensures .0 ∙ ap reading front ∙ read-same _ _ _ (code-clear _ _ _ _ (k .0) .0) ∙ sym (back-written _ _ _ _ (k .0)) in
+    let r = back-same _ _ _ _ _ (c .read .ensures .0) front (k .0) in
     (r, (w .ensures .1 .0, ap (λ (x : Reading). readSaid (x .answer)) r ∙ back-told _ _ _ _))
 
 same-length-2 : tie.Need-same-length-2

@@ -1,0 +1,26 @@
+-- What came is put at the front, and nothing behind it is touched.
+use native.Mathlib.Omega.{arith}
+use borrow.Author.Needs.{needs}
+use Rattle.input.proofs.Laws.{came}
+use Rattle.input.proofs.read_plan.Statement.{statement}
+use Rattle.input.proofs.read_plan.Tie as tie
+
+returns : tie.Need-returns
+returns c =
+    let p = c .before .before in
+    let w = p .before .before .before .before .before in
+    came _ (w .read-whole .ensures .0) (omega arith) (omega arith) (p .put .ensures)
+
+pub read-plan-spec : {M : Type 1} → statement M
+read-plan-spec =
+    tie.close
+    (tie.spec
+    (λ c κs. search needs)
+    (λ c. search needs)
+    (λ c κs. search needs)
+    (λ c. search needs)
+    (λ c. search needs)
+    (λ c. search needs)
+    (λ c κs. search needs)
+    (λ c. search needs)
+    returns)
