@@ -1,14 +1,15 @@
--- "first come first served": when the first task of the head leaves, the tasks of each processor that are in line stay in their
--- order, also those of a processor that is sent to the tail.
+-- "first come first served": who comes stands behind the tasks of its processor that are in line; when the first task of the head
+-- leaves, those of each processor stay in their order, also of one that is sent to the tail.
 use Prim.Native.Nat.{ℕ}
-use mathlib.Core.Bool.{Bool, true, false, cond, _||_}
+use mathlib.Core.Bool.{Bool, false, cond}
 use mathlib.Core.List.{List, [], _∷_, _++_}
 use mathlib.Core.Path.{_≡_, refl, sym, _∙_}
-use borrow.Author.Tests.{eqb-false, ne-eqb}
+use borrow.Author.Tests.{eqb-true, eqb-false, eq-eqb, ne-eqb}
 use lib.Dec.{eqb}
 use Rattle.folds.proofs.Arrays.{by-eq}
-use Rattle.line.specs.Rules.{Terms, Turn, turn, Line, line, queueOf, hasTurn, tasksOf, begin, goOn, sendBack, leave}
-use Rattle.line.proofs.Cases.{by-leave, or-no}
+use Rattle.folds.proofs.Searches.{on-eq}
+use Rattle.line.specs.Rules.{Terms, Turn, turn, Line, line, queueOf, hasTurn, tasksOf, begin, join, entered, sendBack, leave}
+use Rattle.line.proofs.Cases.{by-test, by-leave, or-no}
 
 -- a processor that is not queued has no task in line
 pub no-tasks : (k : ℕ) (q : List Turn) → hasTurn k q ≡ false → tasksOf k q ≡ []
@@ -25,6 +26,22 @@ tasks-last k v j vs (turn l u us ∷ q) a =
     (λ d. tasks-last k v j vs q (n .1))
 
 module _ (t : Terms) where
+  join-tasks : (i j : ℕ) (q : List Turn) → tasksOf j (join t i q) ≡ cond (eqb (t .processor i) j) (tasksOf j q ++ (i ∷ [])) (tasksOf j q)
+  join-tasks i j [] = refl
+  join-tasks i j (turn k u us ∷ q) =
+      by-test (λ z. tasksOf j z ≡ cond (eqb (t .processor i) j) (tasksOf j (turn k u us ∷ q) ++ (i ∷ [])) (tasksOf j (turn k u us ∷ q)))
+      (eqb k (t .processor i))
+      (λ e. rw (← eqb-true k (t .processor i) e) (on-eq _ k j (λ s. rw (eq-eqb k j s)) (λ d. rw (ne-eqb k j d))))
+      (λ n. on-eq _ k j
+      (λ s. rw (eq-eqb k j s, ne-eqb (t .processor i) j (λ z. eqb-false k (t .processor i) n (s ∙ sym z))))
+      (λ d. rw (ne-eqb k j d) (join-tasks i j q)))
+
+  -- "A request joins the tail of the task queue": that of its own processor, and no other changes
+  pub comes-last : (i j : ℕ) (l : Line)
+      → tasksOf j (queueOf (entered t i l)) ≡ cond (eqb (t .processor i) j) (tasksOf j (queueOf l) ++ (i ∷ [])) (tasksOf j (queueOf l))
+  comes-last i j (line h b []) = join-tasks i j []
+  comes-last i j (line h b (x ∷ q)) = join-tasks i j (x ∷ q)
+
   begun-queue : (q : List Turn) → queueOf (begin t q) ≡ q
   begun-queue [] = refl
   begun-queue (turn k u us ∷ q) = refl

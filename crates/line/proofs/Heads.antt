@@ -7,7 +7,7 @@ use native.Mathlib.Omega.{arith}
 use borrow.Author.Tests.{eqb-false}
 use lib.Dec.{eqb}
 use Rattle.folds.proofs.Arrays.{by-eq}
-use Rattle.line.specs.Rules.{Terms, Turn, turn, Line, line, hasTurn, queued, isHead, begin, join, entered, leave, released, ticked}
+use Rattle.line.specs.Rules.{Terms, Turn, turn, Line, line, hasTurn, queued, isHead, begin, join, entered, cut, leave, released, ticked}
 use Rattle.line.proofs.Cases.{by-test, by-leave}
 use Rattle.line.proofs.Sound.{Fits, load, but, Sound, is-free, is-held, load-le}
 
@@ -34,28 +34,22 @@ module _ (t : Terms) (k : ℕ) where
   head-begin (this {j = j} e) le nh = absurd (eqb-false j k nh e)
   head-begin {n = n} (further {j = j} {m = m} f l) le nh = lacks {b = t .budget j} {m = m} {n = n} f (omega arith)
 
-  head-leave : (h b j u n : ℕ) (us : List ℕ) (rest : List Turn) → Without n (line h b (turn j u us ∷ rest))
-      → isHead k (leave t b (turn j u us ∷ rest)) ≡ false → Without n (leave t b (turn j u us ∷ rest))
-  head-leave h b j u n [] rest (lacks f le) = head-begin f (omega arith)
-  head-leave h b j u n (v ∷ vs) rest (lacks {m = m} f le) =
+  head-leave : (h b j u n : ℕ) (us : List ℕ) (rest : List Turn) → isHead k (leave t b (turn j u us ∷ rest)) ≡ false
+      → Without n (line h b (turn j u us ∷ rest)) → Without n (leave t b (turn j u us ∷ rest))
+  head-leave h b j u n [] rest nh (lacks f le) = head-begin f (omega arith) nh
+  head-leave h b j u n (v ∷ vs) rest nh (lacks {m = m} f le) =
       by-leave t (λ l. isHead k l ≡ false → Without n l) b j u v vs rest
       (λ _ _. lacks {m = m} f (omega arith))
-      (head-begin (behind-last (turn j v vs) f) (omega arith))
+      (head-begin (behind-last (turn j v vs) f) (omega arith)) nh
 
-  -- ── the moves ──
-
-  pub head-entered : (v : ℕ) {n : ℕ} {l : Line} → Without n l → Without n (entered t v l)
-  head-entered v {n} (lacks {h = h} {b = b} {j = j} f le) =
-      by-test (λ q. Without n (line h b q)) (eqb j (t .processor v)) (λ _. lacks f le) (λ _. lacks (behind-join v f) le)
-
-  pub head-released : {n : ℕ} {l : Line} → Without n l → isHead k (released t l) ≡ false → Without n (released t l)
-  head-released {n} (lacks {h = h} {b = b} {j = j} {u = u} {us = us} {rest = rest} f le) = head-leave h b j u n us rest (lacks f le)
+  -- ── a tick takes one from it ──
 
   module _ (known : ℕ → Bool) (procs : ℕ) where
     pub head-ticked : {n : ℕ} {l : Line} → Sound t known procs l → Without n l → isHead k (ticked t l) ≡ false → Without (n - 1) (ticked t l)
     head-ticked {n} (is-held {h = h} {b = b} {k = j} {u = u} {us = us} {rest = rest} c pr) (lacks {m = m} f le) =
-        let x : Without (n - 1) (line (h - 1) (b - 1) (turn j u us ∷ rest)) = lacks {b = b - 1} {m = m} {n = n - 1} f (omega arith) in
-        by-test (λ l. isHead k l ≡ false → Without (n - 1) l) (eqb (h - 1) 0) (λ _. head-leave (h - 1) (b - 1) j u (n - 1) us rest x) (λ _ _. x)
+        by-test (λ l. isHead k l ≡ false → Without (n - 1) l) (cut (line h b (turn j u us ∷ rest)))
+        (λ _ nh. head-leave h _ j u (n - 1) us rest nh (lacks {m = m} f (omega arith)))
+        (λ _ nh. lacks {m = m} f (omega arith))
 
     pub head-some : {n : ℕ} {l : Line} → Sound t known procs l → Without n l → 1 ≤ n
     head-some (is-held c pr) (lacks f le) = omega arith
@@ -75,3 +69,12 @@ module _ (t : Terms) (k : ℕ) where
         let x : load (but (t .budget) k) (turn j u us ∷ q) ≤ t .wait k = omega (arith, load-le t known procs (but (t .budget) k) pr, fit .waits k) in
         let y : t .budget j + load (but (t .budget) k) q ≤ t .wait k = rw nh at x in
         lacks {b = b} {m = load (but (t .budget) k) q} {n = t .wait k} (behind-load q _ (rw nh at s) (omega arith)) (omega arith)
+
+  -- ── the other moves do not raise it ──
+
+  pub head-entered : (v : ℕ) {n : ℕ} {l : Line} → Without n l → Without n (entered t v l)
+  head-entered v {n} (lacks {h = h} {b = b} {j = j} f le) =
+      by-test (λ q. Without n (line h b q)) (eqb j (t .processor v)) (λ _. lacks f le) (λ _. lacks (behind-join v f) le)
+
+  pub head-released : {n : ℕ} {l : Line} → Without n l → isHead k (released t l) ≡ false → Without n (released t l)
+  head-released {n} (lacks {h = h} {b = b} {j = j} {u = u} {us = us} {rest = rest} f le) nh = head-leave h b j u n us rest nh (lacks f le)

@@ -1,9 +1,11 @@
 pub mod Cases
 pub mod FirstCome
 pub mod Sound
+pub mod Heads
 pub mod Own
 pub mod Waiting
-pub mod Heads
+pub mod Moves
 pub mod Lists
 pub mod Held
 pub mod Once
+pub mod Stays

@@ -4,15 +4,16 @@ use mathlib.Core.Bool.{Bool, true, false, cond, _||_, or-true, true≢false}
 use mathlib.Core.List.{List, [], _∷_, _++_}
 use mathlib.Core.Path.{_≡_, refl, sym, ap, _∙_}
 use native.Mathlib.Omega.{arith}
-use borrow.Author.Tests.{eqb-false, eq-eqb, ne-eqb}
+use borrow.Author.Tests.{eqb-false, eq-eqb}
 use lib.Dec.{eqb}
 use lib.ListN.{length}
 use Rattle.folds.proofs.Tests.{or-out}
 use Rattle.folds.proofs.Arrays.{by-eq}
-use Rattle.line.specs.Rules.{Terms, Turn, turn, Line, line, queueOf, among, standsIn, inLine, holds, hasTurn, tasksOf, aheadOf, sumOf}
+use Rattle.line.specs.Rules.{Terms, Turn, turn, Line, line, queueOf, among, standsIn, inLine, holds, tasksOf, aheadOf, sumOf}
 use Rattle.line.specs.Rules.{begin, join, entered, goOn, leave, released, ticked, aheadIn, limit}
 use Rattle.line.proofs.Cases.{by-test, by-leave, or-no}
 use Rattle.line.proofs.Own.{own-stands}
+use Rattle.line.proofs.FirstCome.{comes-last}
 use Rattle.line.proofs.Sound.{Fits, among-last, load, but, load-but, Proper, nobody, stands, Sound, is-free, is-held, load-le}
 
 module _ (t : Terms) (i : ℕ) where
@@ -101,19 +102,11 @@ module _ (t : Terms) (i : ℕ) where
       by-test (λ z. holds i (line h b z) ≡ false) (eqb k core) (λ _. n .0) (λ _. n .0)
 
   pub entered-ahead : (h b : ℕ) (q : List Turn) → standsIn i q ≡ false → aheadIn t i (entered t i (line h b q)) ≡ tasksOf (t .processor i) q
-  entered-ahead h b q a = rw (entered-queue h b q, joins q) (last (fellows q) (new q a))
+  entered-ahead h b q a = rw (comes-last t i core (line h b q), eq-eqb core core refl) (last (fellows q) (new q a))
     where
       last : (us : List ℕ) → among i us ≡ false → aheadOf i (us ++ (i ∷ [])) ≡ us
       last [] a = rw (eq-eqb i i refl)
       last (u ∷ us) a = let n = or-no (eqb u i) (among i us) a in rw (n .0) (ap (λ (z : List ℕ). u ∷ z) (last us (n .1)))
-
-      joins : (q : List Turn) → fellows (join t i q) ≡ fellows q ++ (i ∷ [])
-      joins [] = rw (eq-eqb core core refl)
-      joins (turn k u us ∷ q) =
-          by-eq (λ (d : Bool). fellows (cond d (turn k u (us ++ (i ∷ [])) ∷ q) (turn k u us ∷ join t i q)) ≡ cond d (u ∷ us) (fellows q) ++ (i ∷ []))
-          k core
-          (λ e. rw (eq-eqb k core e))
-          (λ n. rw (ne-eqb k core n) (joins q))
 
       new : (q : List Turn) → standsIn i q ≡ false → among i (fellows q) ≡ false
       new [] a = refl

@@ -60,12 +60,12 @@ pub fn start(file: &[u8]) -> Started
 }
 
 // The refusal k of a call on a state.
-fn refuse(state: State, k: u8) -> Reply
-    ensures { λ r. ⌜ r ≡ refusedAt state k ⌝ }
+fn refuse(unchanged: State, k: u8) -> Reply
+    ensures { λ r. ⌜ r ≡ refusedAt unchanged k ⌝ }
 {
     Reply {
         answer: Answer::Refused(k),
-        state,
+        state: unchanged,
     }
 }
 

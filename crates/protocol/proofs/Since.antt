@@ -10,7 +10,7 @@ use Rattle.folds.proofs.Arrays.{by-eq}
 use Rattle.plan.specs.Plan.{Plan, Valid}
 use Rattle.equations.specs.Questions.{taskNumber}
 use Rattle.line.specs.Rules.{Line, line, inLine, holds, queued, isHead, waiting, without, entered, released}
-use Rattle.line.proofs.Own.{entered-waiting, released-waiting, ticked-waiting}
+use Rattle.line.proofs.Stays.{entered-waiting, released-waiting, ticked-waiting}
 use Rattle.protocol.specs.declared.Answer.the-variants.{Waits}
 use Rattle.protocol.specs.declared.Call.{Call}
 use Rattle.protocol.specs.declared.Call.the-variants.{Request, Release, Tick}

@@ -13,7 +13,8 @@ use Rattle.equations.specs.HoldTimes.{holdAt, waitTime}
 use Rattle.equations.specs.Questions.{taskNumber, sharingCode, useCode}
 use Rattle.equations.proofs.Laws.{uses-out, hold-low, hold-budget}
 use Rattle.line.specs.Rules.{Line, inLine, entered, released}
-use Rattle.line.proofs.Sound.{Fits, Sound, is-free, sound-entered, sound-released, sound-ticked}
+use Rattle.line.proofs.Sound.{Fits, Sound, is-free}
+use Rattle.line.proofs.Moves.{sound-entered, sound-released, sound-ticked}
 use Rattle.protocol.specs.declared.Call.{Call}
 use Rattle.protocol.specs.declared.Call.the-variants.{Request, Release, Tick}
 use Rattle.protocol.specs.Machine.{Lines, fresh, change, terms, busy, requestCode, callCode, effect, step}
