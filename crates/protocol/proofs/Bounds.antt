@@ -19,6 +19,11 @@ use Rattle.protocol.specs.Machine.{Lines, terms, callCode, effect, step,
 use Rattle.protocol.specs.Waiting.{isTick, ticks, Event, grants, ends, heads, occurs, Within, Bounded, TaskKept, CoreKept, ServedFrom}
 use Rattle.protocol.proofs.SoundLines.{known, SoundAt, SoundLines, fits, sound-step}
 
+tick-le : (c : Call) → isTick c ≤ 1
+tick-le (Request tag q) = omega arith
+tick-le (Release tag q) = omega arith
+tick-le Tick = omega arith
+
 module _ (p : Plan) where
   -- what a call does to the line of q: nothing, or one of the moves
   step-line : (R : ℕ → Line → Type 0) (s : Lines) (c : Call) (q : ℕ) → R 0 (s q) → ((i : ℕ) → R 0 (entered (terms p q) i (s q)))
@@ -88,7 +93,7 @@ module _ (p : Plan) (v : Valid p) where
       where
         go : (b : Bool) → e s c ≡ b → (e s c ≡ false → Either p e s (c ∷ cs) n) → Either p e s (c ∷ cs) n
         go true h later =
-            inl (record { early = []; call = c; late = cs; split = refl; happens = h; soon = f .some n (s q) (w q) x })
+            inl (record { early = []; call = c; late = cs; split = refl; happens = h; soon = omega (arith, tick-le c, f .some n (s q) (w q) x) })
         go false h later = later h
 
     -- where e is one of the calls that end the wait
