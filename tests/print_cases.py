@@ -1,12 +1,15 @@
-"""The cases of the lines that calls print: every kind of line, and buffers that are just long enough or too short by one.
+"""The cases of the lines that calls print: every kind of line, buffers that are just long enough or too short by one, and what is refused.
 
-Each case has a label, a plan, how many bytes are lent for each line, and calls with their lines, written here by hand from document 01.
+Each case has a label, a plan, how many bytes are lent for each line, and calls with their lines, written here by hand from document 01;
+some have a state that the calls begin on, or lines that go into one buffer.
 """
 from analysis_cases import LISTING, PAPER
 from machine_cases import PAIR, body, call_bytes
-from plan_cases import Plan, Section, Task, file
+from plan_cases import BREAKS, GOOD, Plan, Section, Task, file, word
+from state_cases import FRESH, THREE, TWO, paper_state
 
 SHORT = "refused 10 unchanged"
+UNSOUND = "refused 19 unchanged"
 # tags of three digits, names of twelve bytes, and up to 61 tasks ahead with long hold times: the longest lines
 LONGEST = Plan(2, [Task(0, 193 + u, u + 1, 65535, 65535) for u in range(62)] + [Task(1, 192, 1, 65535, 65535)],
                [b"converter-in", b"converter-on"], [Section(u, q, 1000) for u in range(63) for q in range(2)])
@@ -68,11 +71,88 @@ LISTS = [
 ]
 
 
-def list_case(label, plan, room, calls):
+# two that are calls and two that are none
+SOME = [("Q", 20, 0), ("T", 0, 0), ("x", 0, 0), ("T", 1, 0)]
+
+# lists on a given state: TWO has two ticks left of the first task
+ON_STATES = [
+    ("held", PAIR, TWO, 96, [
+        (("Q", 2, 0), "waits 2 bus 1 7"),
+        (("x", 0, 0), "refused 21"),
+        (("R", 1, 0), "released 1 bus to 2"),
+    ]),
+    ("held, one byte too short", PAIR, TWO, 15, [(("Q", 2, 0), SHORT), (("Q", 2, 0), SHORT), (("T", 0, 0), "tick 0 0")]),
+    ("not sound", PAPER, paper_state(0, 5), 96, [(call, UNSOUND) for call in SOME]),
+    ("not sound, no room", PAPER, paper_state(0, 5), 0, [(call, UNSOUND) for call in SOME]),
+    ("sound by another plan", LISTING, THREE, 96, [(("R", 10, 0), UNSOUND)]),
+]
+
+QUEUED = "0:3/3:1(1)0(0)"
+ASKED = [(("Q", 20, 0), "granted 20 bus"), (("Q", 10, 0), "waits 10 bus 0 3")]
+
+# lines in one buffer: label, state, room, calls with their lines, bytes behind those that are made, what the state then shows
+AT_ONCE = [
+    ("the listing", FRESH, 1024, LISTS[0][3], b"", "nobody"),
+    ("all whole calls", FRESH, 1024, ASKED, b"T\0", QUEUED),
+    # the first line takes 15 bytes, the second begins where 96 are left
+    ("room for one more", FRESH, 111, ASKED, b"", QUEUED),
+    ("one byte too short for one more", FRESH, 110, ASKED[:1], b"Q\x0a\0", "0:3/3:1(1)"),
+    ("just long enough", FRESH, 96, ASKED[:1], b"Q\x0a\0T\0\0", "0:3/3:1(1)"),
+    ("no calls", FRESH, 96, [(("x", 0, 0), "refused 21")], b"x\0\0", "nobody"),
+    ("on a state", TWO, 1024, [(("T", 0, 0), "tick 0 0"), (("T", 0, 0), "tick 1 0")], b"", "nobody"),
+    ("no whole call", FRESH, 1024, [], b"Q\x14", "nobody"),
+    ("no whole call and no room", FRESH, 0, [], b"Q\x14", "nobody"),
+    ("nothing", FRESH, 0, [], b"", "nobody"),
+]
+
+# and what is refused: label, state, room, bytes, number
+REFUSED_AT_ONCE = [
+    ("one byte too short", FRESH, 95, b"Q\x14\0", 10),
+    ("one byte too short for no call", FRESH, 95, b"x\0\0", 10),
+    ("no room", FRESH, 0, b"T\0\0T\0\0", 10),
+    ("not sound", THREE, 1024, b"T\0\0", 19),
+    ("not sound and too short", THREE, 95, b"T\0\0", 19),
+    ("not sound, no calls", THREE, 1024, b"", 19),
+]
+
+
+def list_case(label, content, room, calls):
     result = "; ".join(["start"] + [line for _, line in calls])
-    return b"P", f"lines, {label}", body(file(plan), bytes([room]), *[call_bytes(*call) for call, _ in calls]), result
+    return b"P", f"lines, {label}", body(content, bytes([room]), *[call_bytes(*call) for call, _ in calls]), result
+
+
+def state_case(label, content, state, room, calls):
+    result = "; ".join(["state"] + [line for _, line in calls])
+    return b"O", f"lines on a state, {label}", body(content, state, bytes([room]), *[call_bytes(*call) for call, _ in calls]), result
+
+
+def at_once(label, state, room, calls, behind, shown):
+    text = "".join("\n" + line for _, line in calls)
+    result = f"lines {3 * len(calls)} {len(text)} right | {shown}{text}"
+    return b"E", f"lines at once, {label}", body(file(LISTING), state, word(room), *[call_bytes(*call) for call, _ in calls], behind), result
+
+
+def refused_at_once(label, content, state, room, calls, number):
+    return b"E", f"lines at once, {label}", body(content, state, word(room), calls), f"refused {number} unchanged"
+
+
+def refused_plans():
+    """A plan's own number comes before that of a state, of a buffer and of bytes that are no call."""
+    found = []
+    for k in BREAKS:
+        bad, told = BREAKS[k][0](file(GOOD)), [(call, f"refused {k} unchanged") for call in SOME]
+        found.append(list_case(f"of a plan that breaks {k}", bad, 96, told))
+        found.append(list_case(f"of a plan that breaks {k}, no room", bad, 0, told))
+        found.append(state_case(f"not sound, of a plan that breaks {k}", bad, bytes(336), 0, told))
+        found.append(refused_at_once(f"of a plan that breaks {k}", bad, FRESH, 1024, b"T\0\0", k))
+        found.append(refused_at_once(f"not sound and too short, of a plan that breaks {k}", bad, bytes(336), 0, b"x\0\0", k))
+    return found
 
 
 def cases():
     """Each case as its kind, its label, its record's body and its result."""
-    return [list_case(*row) for row in LISTS]
+    found = [list_case(label, file(plan), room, calls) for label, plan, room, calls in LISTS]
+    found += [state_case(label, file(plan), *rest) for label, plan, *rest in ON_STATES]
+    found += [at_once(*row) for row in AT_ONCE]
+    found += [refused_at_once(label, file(LISTING), *rest) for label, *rest in REFUSED_AT_ONCE]
+    return found + refused_plans()

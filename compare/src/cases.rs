@@ -8,7 +8,7 @@ use peer::calls::{PLAIN, TUNED};
 use std::path::Path;
 
 /// The kinds, and how many cases of each are made.
-const KINDS: [(u8, &str, usize); 15] = [
+const KINDS: [(u8, &str, usize); 17] = [
     (b'R', "readings", 20_000),
     (b'N', "names", 4_000),
     (b'W', "writings", 6_000),
@@ -22,6 +22,8 @@ const KINDS: [(u8, &str, usize); 15] = [
     (b'D', "sheets", 4_000),
     (b'M', "lists", 3_000),
     (b'P', "lists with their lines", 3_000),
+    (b'O', "lists with their lines on a state", 6_000),
+    (b'E', "lines in one buffer", 6_000),
     (b'S', "calls on a state", 20_000),
     (b'V', "lists with each state", 3_000),
 ];
@@ -67,7 +69,8 @@ fn batch((kind, what, start): (u8, &str, usize), proved: &Path) -> Found {
     found
 }
 
-/// What is printed for each case: a line that begins with its number, and with some those of a sheet, which begin with a word.
+/// What is printed for each case: a line that begins with its number, and with some those of a sheet or of calls, which begin with a
+/// word.
 fn by_case(output: &[u8]) -> impl Iterator<Item = &[u8]> {
     output.chunk_by(|&end, &start| !(end == b'\n' && start.is_ascii_digit()))
 }

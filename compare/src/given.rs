@@ -4,7 +4,7 @@ use compare::damage::maybe_broken;
 use compare::lists::{Habits, Maker, GREEDY};
 use compare::plans::{self, Size};
 use compare::random::Random;
-use peer::cases::{state_bytes, ROOM, SHEET_ROOM};
+use peer::cases::{state_bytes, LONGEST_LINE, ROOM, SHEET_ROOM};
 use peer::{Plan, MAX_RESOURCES, MAX_SECTIONS, MAX_TASKS};
 
 /// A record: its length, the kind, the label with its length before it, and the case.
@@ -24,6 +24,8 @@ pub fn case(kind: u8, number: usize) -> Vec<u8> {
         b'V' if number == 0 => at_the_limit(),
         b'V' => watched(random),
         b'P' => printing(random),
+        b'O' => printing_on(random),
+        b'E' => printing_at_once(random),
         b'S' => calling(random),
         b'D' => sheet(random),
         _ => asking(kind, random),
@@ -127,6 +129,44 @@ fn printing(random: &mut Random) -> Vec<u8> {
         _ => u8::MAX,
     };
     after_length(&file, &[&[room], &calls[..]].concat())
+}
+
+/// A plan, now and then a broken one, with a state that calls have led to or not, and calls that go on from there.
+fn going_on(random: &mut Random) -> (Vec<u8>, Vec<u8>, Vec<u8>) {
+    let file = plans::some(Size::some(random), random);
+    let mut maker = Maker::new(&file, Habits::some(random));
+    maker.list(random.below(60), random);
+    let good = state_bytes(&maker.state);
+    let count = random.below(30);
+    let calls = maker.list(count, random);
+    (maybe_broken(file, 20, random), state(good, random), calls)
+}
+
+/// The room for a line on a given state.
+fn printing_on(random: &mut Random) -> Vec<u8> {
+    let (file, state, calls) = going_on(random);
+    let room = match random.below(3) {
+        0 => random.below(40) as u8,
+        _ => u8::MAX,
+    };
+    after_length(&file, &[&state[..], &[room], &calls].concat())
+}
+
+/// The room for all lines, which now and then is too short for one, or about as long as some; and bytes left over.
+fn printing_at_once(random: &mut Random) -> Vec<u8> {
+    let (file, state, mut calls) = going_on(random);
+    let room = match random.below(6) {
+        0 => random.below(LONGEST_LINE),
+        1 => LONGEST_LINE - 1 + random.below(2),
+        2..=3 => random.within(LONGEST_LINE, 400),
+        _ => usize::from(u16::MAX),
+    };
+    let rest = random.below(3);
+    calls.extend(random.bytes(rest));
+    after_length(
+        &file,
+        &[&state[..], &(room as u16).to_le_bytes(), &calls].concat(),
+    )
 }
 
 /// Lists whose every state is shown: most of them greedy and on small plans, so that waits come near their limits.

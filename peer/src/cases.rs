@@ -1,7 +1,7 @@
 //! The cases of the proved code's case program: the line it is to print for each, by the peer.
 //!
 //! A record is a kind, a label with its length before it, and the case. What a case holds stands at the function of its kind.
-//! Where a case prints a sheet, its line is followed by those of the sheet.
+//! Where a case prints a sheet or the lines of many calls, its line is followed by those.
 
 use crate::calls::{Call, Machine, OnFile};
 use crate::machine::{Answer, Line, Standing, State};
@@ -16,6 +16,10 @@ pub const ROOM: usize = 2048;
 const _: () = assert!(MAX_FILE <= ROOM);
 /// The most room a sheet has.
 pub const SHEET_ROOM: usize = 128 * 1024;
+/// The most room that the lines of many calls have.
+pub const LINES_ROOM: usize = 1024;
+/// A call is made where so many bytes are left, which no line needs.
+pub const LONGEST_LINE: usize = 96;
 
 /// Takes a record apart from the front. Past its end a byte is 0 and a part is empty.
 struct Bytes<'a>(&'a [u8]);
@@ -267,27 +271,81 @@ fn listing(mut case: Bytes, machine: &Machine, each: bool) -> String {
     line
 }
 
-/// The length of the file in two bytes, the file, the room for a line, and calls of three bytes each: the lines of the
-/// printing program. A call whose line has no room is refused and not made.
-fn printing(mut case: Bytes, machine: &Machine) -> String {
+/// What comes before anything that is printed: the number of the plan or of the state. A tick refuses nothing further.
+fn before_lines(machine: &Machine, file: &[u8], state: &State) -> Option<u8> {
+    match (machine.tick)(file, state).0 {
+        Answer::Refused(number) => Some(number),
+        _ => None,
+    }
+}
+
+fn unchanged(number: u8) -> String {
+    format!("refused {number} unchanged")
+}
+
+/// The length of the file in two bytes, the file, a state where one is given, the room for a line, and calls of three bytes each: the
+/// lines of the printing program. A call whose line has no room is refused and not made.
+fn printing(mut case: Bytes, machine: &Machine, given: bool) -> String {
     let length = case.word().into();
     let file = case.take(length);
-    let room = case.byte().into();
     let mut running = Running::new(OnFile { machine, file }, file);
-    running.state = (machine.start)(file).1;
-    let mut line = "start".to_string();
+    running.state = match given {
+        true => state(&mut case),
+        false => (machine.start)(file).1,
+    };
+    let room = case.byte().into();
+    let mut line = (if given { "state" } else { "start" }).to_string();
     for &bytes in case.0.as_chunks().0 {
-        let (before, mut lines) = (running.state, Lines::default());
-        running.call(bytes, &mut lines);
+        let before = running.state;
         line += "; ";
+        if let Some(number) = before_lines(machine, file, &before) {
+            line += &unchanged(number);
+            continue;
+        }
+        let mut lines = Lines::default();
+        running.call(bytes, &mut lines);
         if lines.0.len() > room {
             running.state = before;
-            line += "refused 10 unchanged";
+            line += &unchanged(Refusal::BufferTooShort.number());
         } else {
             line += String::from_utf8_lossy(&lines.0).trim_end();
         }
     }
     line
+}
+
+/// The length of the file in two bytes, the file, a state, the room in two bytes, and calls of three bytes each: their lines in one
+/// buffer, as long as the longest has room. What the state shows stands before the lines.
+fn printing_at_once(mut case: Bytes, machine: &Machine) -> String {
+    let length = case.word().into();
+    let file = case.take(length);
+    let mut running = Running::new(OnFile { machine, file }, file);
+    running.state = state(&mut case);
+    let room = usize::from(case.word()).min(LINES_ROOM);
+    if let Some(number) = before_lines(machine, file, &running.state) {
+        return unchanged(number);
+    }
+    let calls = case.0.as_chunks().0;
+    if !calls.is_empty() && room < LONGEST_LINE {
+        return unchanged(Refusal::BufferTooShort.number());
+    }
+    let (mut used, mut lines) = (0, Lines::default());
+    for &bytes in calls {
+        if room - lines.0.len() < LONGEST_LINE {
+            break;
+        }
+        running.call(bytes, &mut lines);
+        used += bytes.len();
+    }
+    let (length, shown) = (
+        lines.0.len(),
+        shown(&read(file).unwrap_or_default(), &running.state),
+    );
+    let text = String::from_utf8_lossy(&lines.0);
+    let text = text
+        .lines()
+        .fold(String::new(), |all, line| all + "\n" + line);
+    format!("lines {used} {length} right{shown}{text}")
 }
 
 /// A state: for each resource how many are queued, the processors, the hold left and the budget left; then each task's
@@ -343,7 +401,7 @@ fn calling(mut case: Bytes, machine: &Machine) -> String {
     format!("{} {un}changed{after}", told(answer))
 }
 
-/// The line for a record, its calls made by this machine, or its lines where it prints a sheet; none for a kind that is not known.
+/// The line for a record, its calls made by this machine, with the lines that it prints; none for a kind that is not known.
 pub fn line(record: &[u8], machine: &Machine) -> Option<String> {
     let mut case = Bytes(record);
     let kind = case.byte();
@@ -364,7 +422,9 @@ pub fn line(record: &[u8], machine: &Machine) -> Option<String> {
         b'M' => listing(case, machine, false),
         b'V' => listing(case, machine, true),
         b'S' => calling(case, machine),
-        b'P' => printing(case, machine),
+        b'P' => printing(case, machine, false),
+        b'O' => printing(case, machine, true),
+        b'E' => printing_at_once(case, machine),
         _ => return None,
     };
     Some(format!("{label}: {result}"))

@@ -13,7 +13,7 @@ fn every_case_gives_its_result_by_both_machines() {
         let (record, rest) = rest.split_at(u32::from_le_bytes(*length) as usize);
         let lines = cases::line(record, &calls::TUNED).unwrap();
         assert_eq!(cases::line(record, &calls::PLAIN).as_ref(), Some(&lines));
-        // As many lines as the peer has for the case, which is one but for a sheet.
+        // As many lines as the peer has for the case, which is one but where it prints some.
         let count = lines.split('\n').count();
         let end: usize = to_come
             .split_inclusive('\n')

@@ -105,6 +105,8 @@ fn run_case(record: &[u8]) {
         b'S' => called::one(case),
         b'V' => called::each(case),
         b'P' => printed::list(case),
+        b'O' => printed::from_state(case),
+        b'E' => printed::many(case),
         _ => print::text(b"no such case"),
     }
     print::text(b"\n");

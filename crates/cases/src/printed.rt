@@ -1,10 +1,11 @@
-// Calls of three bytes and their lines. A plan file stands at the front of the case, its length in two bytes before it; then comes
-// how many bytes are lent for each line.
+// Calls of three bytes and their lines. A plan file stands at the front of the case, its length in two bytes before it; then comes a
+// state, where one is given, and how many bytes are lent.
 use crate::called;
 use crate::given;
 use crate::print;
 use crate::same;
 use state::State;
+use transcript::Batch;
 use transcript::CallLine;
 
 // Makes a call, with so many bytes of the buffer lent for its line.
@@ -35,15 +36,11 @@ fn next(file: &[u8], state: State, room: usize, bytes: &[u8]) -> State {
     after
 }
 
-// The calls of a list, each made on the state that the last one returned.
-pub fn list(case: &[u8]) {
-    let file = called::file(case);
-    let rest = called::behind(case);
+// Calls, each made on the state that the last one returned; how many bytes are lent for each line stands before them.
+fn each(file: &[u8], start: State, rest: &[u8]) {
     let room = given::size(given::byte(rest, 0) as u16);
     let calls = given::part(rest, 1, rest.len());
-    let started = machine::start(file);
-    let mut state = started.state;
-    print::text(b"start");
+    let mut state = start;
     let n = calls.len() / 3;
     let mut x = 0;
     while x < n {
@@ -51,4 +48,54 @@ pub fn list(case: &[u8]) {
         state = after;
         x += 1;
     }
+}
+
+// The calls of a list, from a fresh machine on.
+pub fn list(case: &[u8]) {
+    let file = called::file(case);
+    print::text(b"start");
+    each(file, machine::start(file).state, called::behind(case));
+}
+
+// The same from a given state on.
+pub fn from_state(case: &[u8]) {
+    let rest = called::behind(case);
+    print::text(b"state");
+    each(
+        called::file(case),
+        given::state(rest),
+        given::part(rest, 336, rest.len()),
+    );
+}
+
+// Makes calls from a given state on in one go, with so many bytes of the buffer lent for their lines as two bytes behind the state say.
+fn make(case: &[u8], state: State, buf: &mut [u8]) -> Batch {
+    let rest = called::behind(case);
+    let lent = given::at_most(given::size(given::word(rest, 336)), buf.len());
+    let calls = given::part(rest, 338, rest.len());
+    transcript::lines(called::file(case), state, calls, &mut buf[0..lent])
+}
+
+// What came of many calls: how many of their bytes were made, how long the lines are, whether what lies behind them is as it was, and
+// what the state shows; then the lines. Or why nothing was made.
+pub fn many(case: &[u8]) {
+    let state = given::state(called::behind(case));
+    let mut buf = [170u8; 1024];
+    let batch = make(case, state, &mut buf);
+    let after = batch.state;
+    if batch.refusal != 0 {
+        print::refused(batch.refusal);
+        let as_before = same::untouched(&buf) & same::states(after, state);
+        let none = (batch.used == 0) & (batch.length == 0);
+        print::which(as_before & none, b" unchanged", b" changed");
+        return;
+    }
+    print::text(b"lines");
+    print::number(batch.used as u64);
+    print::number(batch.length as u64);
+    let behind = given::part(&buf, batch.length, 1024);
+    print::which(same::untouched(behind), b" right", b" wrong");
+    called::shown(called::file(case), after);
+    print::which(batch.length == 0, b"", b"\n");
+    print::text(given::without_end(&buf, batch.length));
 }

@@ -6,6 +6,7 @@ use mathlib.Core.Path.{_≡_, refl, sym, ap, _∙_}
 use native.Mathlib.Omega.{arith}
 use borrow.Author.Tests.{ne-eqb}
 use Rattle.folds.specs.Below.{countBelow}
+use Rattle.folds.proofs.Tests.{first-zero}
 use Rattle.folds.proofs.WordLaws.{word-ones}
 use Rattle.folds.proofs.Arrays.{by-eq}
 use Rattle.plan.specs.Reading.{refusal}
@@ -64,19 +65,10 @@ module _ (f : List ℕ) (s : State) where
 
   -- a call that is not refused is on a plan and a state that are not
   pub state-refusal : (c : Call) → callRefusal f s c ≡ 0 → stateRefusal f s ≡ 0
-  unfolding callRefusal stateRefusal
-  state-refusal c =
-      by-eq (λ (b : Bool). IsZero (cond b (cond (sound (planOf f) s) (callCode (planOf f) (shows (planOf f) s) c) 19) (refusal f))
-      → IsZero (cond b (cond (sound (planOf f) s) 0 19) (refusal f))) (refusal f) 0
-      (λ _. go (sound (planOf f) s))
-      (λ _ z. z)
-    where
-      go : (b : Bool) → IsZero (cond b (callCode (planOf f) (shows (planOf f) s) c) 19) → IsZero (cond b 0 19)
-      go true z = refl
-      go false z = z
+  unfolding callRefusal
+  state-refusal c e = first-zero (stateRefusal f s) _ e
 
   pub state-accepted : stateRefusal f s ≡ 0 → (refusal f ≡ 0) × (sound (planOf f) s ≡ true)
-  unfolding stateRefusal
   state-accepted =
       by-eq (λ (b : Bool). IsZero (cond b (cond (sound (planOf f) s) 0 19) (refusal f)) → (refusal f ≡ 0) × (sound (planOf f) s ≡ true)) (refusal f) 0
       (λ e z. (e, go (sound (planOf f) s) z))
@@ -89,7 +81,7 @@ module _ (f : List ℕ) (s : State) where
   -- a plan that is refused
   pub plan-refused : (c : Call) {k : ℕ} → k ≡ refusal f → (k ≡ 0 → ⊥) → callRefusal f s c ≡ k
   unfolding callRefusal
-  plan-refused c e d = rw (← e, ne-eqb _ _ d)
+  plan-refused c e d = rw (← e, ne-eqb _ _ d, ne-eqb _ _ d)
 
   -- a call that is refused
   pub reply-refused : (c : Call) {k : ℕ} → callRefusal f s c ≡ k → (k ≡ 0 → ⊥) → Refused k ≡ reply f s c

@@ -20,14 +20,13 @@ use Rattle.state.specs.Shows.{shows}
 use Rattle.state.specs.Sound.{sound}
 
 -- "Each operation given a plan file first gives 1 to 9 as reading does; each call given a state then gives 19 if that state is not
--- sound."
-unfoldable pub stateRefusal : List ℕ → State → ℕ
+-- sound"; 0 for neither
+abbrev pub stateRefusal : List ℕ → State → ℕ
 stateRefusal f s = cond (eqb (refusal f) 0) (cond (sound (planOf f) s) 0 19) (refusal f)
 
 -- "After these" the call's own; 0 where it is not refused
 unfoldable pub callRefusal : List ℕ → State → Call → ℕ
-callRefusal f s c =
-    cond (eqb (refusal f) 0) (cond (sound (planOf f) s) (callCode (planOf f) (shows (planOf f) s) c) 19) (refusal f)
+callRefusal f s c = cond (eqb (stateRefusal f s) 0) (callCode (planOf f) (shows (planOf f) s) c) (stateRefusal f s)
 
 -- what the call is answered: by the rules on what the state shows, or the refusal
 unfoldable pub reply : List ℕ → State → Call → Answer

@@ -7,7 +7,7 @@ use state::State;
 ghost use Prim.Native.Nat.{_-_, _≤_};
 ghost use lib.ListN.{length};
 
-// What came of some calls: how many of their bytes were made, whether all lines could be written, and the state.
+// What came of some calls: how many of their bytes were made, whether all lines could be made and written, and the state.
 struct Served {
     used: usize,
     written: bool,
@@ -38,9 +38,9 @@ fn print_end(left: usize) {
     io::write_all(STDOUT_FILENO, &out[0..end]);
 }
 
-// Makes all whole calls, and writes their lines in pieces as large as the buffer.
+// Makes all whole calls, and writes their lines in pieces as large as the buffer; a refusal, which the plan and the states of this
+// program never give, ends it.
 fn serve(file: &[u8], start: State, calls: &[u8], out: &mut [u8]) -> Served
-    requires { ⌜ 96 ≤ length (now out) ⌝ }
     ensures { λ r. ⌜ r .used ≤ length (now (calls .entry)) ⌝ }
 {
     let mut state = start;
@@ -49,7 +49,7 @@ fn serve(file: &[u8], start: State, calls: &[u8], out: &mut [u8]) -> Served
     while written & (3 <= calls.len() - used) {
         let batch = transcript::lines(file, state, &calls[used..], out);
         let end = batch.length;
-        written = io::write_all(STDOUT_FILENO, &out[0..end]);
+        written = io::write_all(STDOUT_FILENO, &out[0..end]) & (batch.refusal == 0);
         state = batch.state;
         used += batch.used;
     }

@@ -26,14 +26,6 @@ module _ (text l : List ℕ) where
   unfolding lineFor lineIn
   long-line h p = (rw (le-leb _ _ h, p .ends, zero-add), rw (le-leb _ _ h, ← zero-add (length text)) (p .held))
 
-  pub fitting : length text ≤ length l → lineFor text (length l) .refusal ≡ 0
-  unfolding lineFor
-  fitting h = rw (le-leb _ _ h)
-
-  pub too-short : length l < length text → lineFor text (length l) .refusal ≡ 10
-  unfolding lineFor
-  too-short h = rw (lt-leb _ _ h)
-
 -- a line is no longer than the buffer that it is for, nor than its text
 module _ (text : List ℕ) (n : ℕ) {r : Line} (e : r ≡ lineFor text n) where
   pub line-fits : r .length ≤ n

@@ -1,22 +1,23 @@
 -- The lines of many calls, one more at a time.
 use Prim.Native.Nat.{ℕ, suc, _+_, _-_, _<_, _≤_}
-use mathlib.Core.Bool.{Bool, true, false, _&&_, true≢false}
+use mathlib.Core.Bool.{Bool, true, false, cond, _&&_, true≢false}
 use mathlib.Core.List.{List, [], _∷_, _++_, append-assoc}
 use mathlib.Core.Logic.{_⊎_, inl, inr}
 use mathlib.Core.Path.{_≡_, refl, sym, ap, _∙_}
 use native.Mathlib.Numerals.{add-one}
 use native.Mathlib.Omega.{arith}
-use borrow.Author.Tests.{leb-true, leb-false}
-use lib.Dec.{leb}
+use borrow.Author.Tests.{leb-true, leb-false, le-leb, ltb-false}
+use lib.Dec.{leb, ltb}
 use lib.ListN.{length, getD, take, drop}
 use lib.Seq.{take-suc, drop-drop, length-take-le}
-use Rattle.folds.proofs.Tests.{and-parts}
+use Rattle.folds.proofs.Tests.{and-parts, then-zero}
 use Rattle.state.specs.declared.State.{State}
 use Rattle.text.specs.Text.{Put}
 use Rattle.text.proofs.TextLaws.{put-front, put-behind}
+use Rattle.machine.specs.Replies.{stateRefusal}
 use Rattle.transcript.specs.declared.Step.{Step}
 use Rattle.transcript.specs.Calls.{callLine}
-use Rattle.transcript.specs.Buffers.{Printed, none, more, Written}
+use Rattle.transcript.specs.Buffers.{Printed, none, more, linesCode, linesRefusal, Written, Told}
 use Rattle.transcript.specs.Inner.{Stepped}
 
 -- nothing yet
@@ -83,8 +84,47 @@ unfolding Begun
 begun used end = inr (omega arith)
 
 -- so where there is a call, and room for it, one is made
-pub one-made : {n m : ℕ} (u e : ℕ) → Begun u e → (n < u + 3) ⊎ (m < e + 96) → 3 ≤ n → 96 ≤ m → 3 ≤ u
+one-made : {n m : ℕ} (u e : ℕ) → Begun u e → (n < u + 3) ⊎ (m < e + 96) → 3 ≤ n → 96 ≤ m → 3 ≤ u
 unfolding Begun
 one-made u e (inl (z, y)) (inl l) a b = let bad : ⊥ = omega arith in absurd bad
 one-made u e (inl (z, y)) (inr l) a b = let bad : ⊥ = omega arith in absurd bad
 one-made u e (inr l) h a b = l
+
+-- where nothing is refused, a call that is there has room
+room-for : (first n room : ℕ) → linesCode first n room ≡ 0 → 3 ≤ n → 96 ≤ room
+unfolding linesCode
+room-for first n room e l = go (ltb room 96) refl (rw (le-leb 3 n l) at (then-zero first _ e))
+  where
+    go : (b : Bool) → ltb room 96 ≡ b → cond {A = ℕ} b 10 0 ≡ 0 → 96 ≤ room
+    go true h z = let bad : ⊥ = omega arith in absurd bad
+    go false h z = ltb-false _ _ h
+
+-- what is told, by what the plan and the state gave
+module _ (f : List ℕ) (s : State) (calls before : List ℕ) {first k : ℕ} (a : first ≡ stateRefusal f s)
+    (e : k ≡ linesCode first (length calls) (length before)) where
+  number-told : k ≡ linesRefusal f s (length calls) (length before)
+  number-told = e ∙ ap (λ (x : ℕ). linesCode x (length calls) (length before)) a
+
+  pub told-none : (k ≡ 0 → ⊥) → Told f s calls before before (record { refusal = k; used = 0; length = 0; state = s })
+  told-none d =
+      record {
+        number = number-told;
+        unmade = λ n. record { used = refl; length = refl; state = refl; buffer = refl };
+        written = written-none f s calls before;
+        ended = λ z. absurd (d z);
+        some = λ z. absurd (d z);
+      }
+
+  pub told-lines : {now : List ℕ} {used end : ℕ} {t : State} → k ≡ 0
+      → Written f s calls before now used end t
+      → Begun used end
+      → (length calls < used + 3) ⊎ (length before < end + 96)
+      → Told f s calls before now (record { refusal = 0; used = used; length = end; state = t })
+  told-lines {used = used} {end} z w b x =
+      record {
+        number = sym z ∙ number-told;
+        unmade = λ n. absurd (n refl);
+        written = w;
+        ended = λ y. x;
+        some = λ y l. one-made used end b x l (room-for first (length calls) (length before) (sym e ∙ z) l);
+      }

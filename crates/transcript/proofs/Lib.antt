@@ -1,4 +1,3 @@
-pub mod Buffers
 pub mod Naming
 pub mod Calls
 pub mod Batches

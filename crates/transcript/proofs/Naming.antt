@@ -18,8 +18,7 @@ use Rattle.protocol.specs.declared.Answer.the-variants.{Refused}
 use Rattle.protocol.specs.Machine.{Lines, terms, busy, requestCode, releaseCode, callCode, requestTold, releaseTold, told}
 use Rattle.state.specs.declared.State.{State}
 use Rattle.state.specs.Shows.{shows}
-use Rattle.state.specs.Sound.{sound}
-use Rattle.machine.specs.Replies.{callRefusal, reply}
+use Rattle.machine.specs.Replies.{stateRefusal, callRefusal, reply}
 use Rattle.machine.specs.Promise.{callOf}
 use Rattle.wording.specs.Naming.{Nameable, Names}
 
@@ -51,7 +50,7 @@ module _ (f : List ℕ) (bytes : (k : ℕ) → k < length f → getD f k 0 < 256
   unfolding reply callRefusal
   reply-names c q n =
       by-eq (λ (b : Bool). Names f q (cond b (told (planOf f) (shows (planOf f) s) c) (Refused (callRefusal f s c)))) (callRefusal f s c) 0
-      (λ e. let k = then-zero (refusal f) (cond (sound (planOf f) s) (callCode (planOf f) (shows (planOf f) s) c) 19) e in n (code-next (sound (planOf f) s) _ _ k) (record { none = first-zero (refusal f) _ e; bytes = bytes }))
+      (λ e. n (then-zero (stateRefusal f s) _ e) (record { none = first-zero (refusal f) _ (first-zero (stateRefusal f s) _ e); bytes = bytes }))
       (λ d. tt)
 
   -- three bytes that are a call

@@ -6,12 +6,13 @@ ghost use mathlib.Core.Path.{_≡_};
 ghost use Prim.Native.Nat.{_+_, _≤_};
 ghost use lib.ListN.{length};
 ghost use Rattle.machine.specs.Inner.{Surveyed};
+ghost use Rattle.machine.specs.Replies.{stateRefusal};
 ghost use Rattle.machine.specs.Promise.{callOf, AfterBytes};
 ghost use Rattle.wording.specs.Lines.{planLine};
 ghost use Rattle.transcript.specs.Calls.{callLine};
 ghost use Rattle.transcript.specs.Output.{endLine};
-ghost use Rattle.text.specs.Buffers.{lineFor, lineIn};
-ghost use Rattle.transcript.specs.Buffers.{StateBeside, Told};
+ghost use Rattle.text.specs.Buffers.{lineFor, lineIn, lineUnless, lineInUnless};
+ghost use Rattle.transcript.specs.Buffers.{StateBeside, linesCode, Told};
 ghost use Rattle.transcript.specs.Inner.{Stepped};
 
 // A line, and the state after its call.
@@ -20,8 +21,10 @@ pub struct CallLine {
     pub state: State,
 }
 
-// The lines of many calls: how many bytes of calls were made, how long the lines are, and the state after them.
+// The lines of many calls: how many bytes of calls were made, how long the lines are, and the state after them; or the refusal, and
+// then none was made.
 pub struct Batch {
+    pub refusal: u8,
     pub used: usize,
     pub length: usize,
     pub state: State,
@@ -86,7 +89,17 @@ pub fn plan_line(counts: Counts, out: &mut [u8]) -> Line
     text::hand_over(&line[0..end], out)
 }
 
-// Makes a call of three bytes on a state: its line, and the next state. Where the buffer is too short for the line, nothing is done.
+// No line, and the call not made.
+fn no_line(refusal: u8, state: State) -> CallLine
+    ensures { λ r. ⌜ r ≡ record { line = record { refusal = refusal; length = 0 }; state = state } ⌝ }
+{
+    let line = Line { refusal, length: 0 };
+    CallLine { line, state }
+}
+
+// Makes a call of three bytes on a state: its line, and the next state. What the call itself is refused, 11 to 16 or 21, is its line.
+// A plan that is refused, a state that is not sound (19), then a buffer that is too short for the line (10) are refusals here: there
+// is no line, and buffer and state are as they were.
 pub fn call_line(
     file: &[u8],
     state: State,
@@ -95,13 +108,17 @@ pub fn call_line(
     resource: u8,
     out: &mut [u8],
 ) -> CallLine
-    ensures { λ r. ⌜ r .line ≡ lineFor (callLine (now (file .entry)) state letter tag resource) (length (now (out .entry))) ⌝ }
-    ensures { λ r. ⌜ now (out .exit) ≡ lineIn (callLine (now (file .entry)) state letter tag resource) (now (out .entry)) ⌝ }
-    ensures { λ r. ⌜ StateBeside (callLine (now (file .entry)) state letter tag resource) (length (now (out .entry))) state (r .state) (AfterBytes (now (file .entry)) state (callOf letter tag resource)) ⌝ }
+    ensures { λ r. ⌜ r .line ≡ lineUnless (stateRefusal (now (file .entry)) state) (callLine (now (file .entry)) state letter tag resource) (length (now (out .entry))) ⌝ }
+    ensures { λ r. ⌜ now (out .exit) ≡ lineInUnless (stateRefusal (now (file .entry)) state) (callLine (now (file .entry)) state letter tag resource) (now (out .entry)) ⌝ }
+    ensures { λ r. ⌜ StateBeside (r .line .refusal) state (r .state) (AfterBytes (now (file .entry)) state (callOf letter tag resource)) ⌝ }
 {
     let mut holds = [0u16; 1024];
     let mut budgets = [0u16; 128];
     let code = machine::surveyed::look(file, &mut holds, &mut budgets);
+    let first = machine::surveyed::state_code(file, code, &holds, &budgets, state);
+    if first != 0 {
+        return no_line(first, state);
+    }
     let mut buf = [0u8; 96];
     let step = put_call(
         &mut buf,
@@ -117,21 +134,53 @@ pub fn call_line(
     );
     let end = step.end;
     let line = text::hand_over(&buf[0..end], out);
+    let next = step.state;
     if line.refusal != 0 {
         return CallLine { line, state };
     }
-    let next = step.state;
     CallLine { line, state: next }
 }
 
+// What stands before the lines of so many bytes of calls in so much room: the number of the plan or of the state, then 10, where there
+// is a call and no room for every line.
+fn lines_code(first: u8, calls: usize, room: usize) -> u8
+    ensures { λ r. ⌜ r ≡ linesCode first calls room ⌝ }
+{
+    if first != 0 {
+        return first;
+    }
+    if (3 <= calls) & (room < 96) {
+        return 10;
+    }
+    0
+}
+
+// No call made.
+fn none_made(refusal: u8, state: State) -> Batch
+    ensures { λ r. ⌜ r ≡ record { refusal = refusal; used = 0; length = 0; state = state } ⌝ }
+{
+    Batch {
+        refusal,
+        used: 0,
+        length: 0,
+        state,
+    }
+}
+
 // Makes calls of three bytes, one after the other, and puts their lines one behind the other: as many as there are, or until fewer
-// than 96 bytes are left, which no line needs.
+// than 96 bytes are left, which no line needs. A plan that is refused, a state that is not sound (19), then a buffer of fewer than 96
+// bytes where there is a call (10) are refusals: nothing is made, and buffer and state are as they were.
 pub fn lines(file: &[u8], state: State, calls: &[u8], out: &mut [u8]) -> Batch
     ensures { λ r. ⌜ Told (now (file .entry)) state (now (calls .entry)) (now (out .entry)) (now (out .exit)) r ⌝ }
 {
     let mut holds = [0u16; 1024];
     let mut budgets = [0u16; 128];
     let code = machine::surveyed::look(file, &mut holds, &mut budgets);
+    let first = machine::surveyed::state_code(file, code, &holds, &budgets, state);
+    let refusal = lines_code(first, calls.len(), out.len());
+    if refusal != 0 {
+        return none_made(refusal, state);
+    }
     let mut current = state;
     let mut used = 0;
     let mut end = 0;
@@ -153,6 +202,7 @@ pub fn lines(file: &[u8], state: State, calls: &[u8], out: &mut [u8]) -> Batch
         used += 3;
     }
     Batch {
+        refusal: 0,
         used,
         length: end,
         state: current,

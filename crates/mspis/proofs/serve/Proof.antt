@@ -1,11 +1,13 @@
--- Each turn makes a call at least, since there is one and the buffer has room for its line.
-use Prim.Native.Nat.{_+_, _-_, _≤_}
+-- Each turn makes a call at least, since there is one; or it is refused, and the last.
+use Prim.Native.Nat.{ℕ, _+_, _-_, _<_, _≤_}
+use mathlib.Core.Bool.{Bool, true, false, cond, _&&_}
 use mathlib.Core.Path.{_≡_, refl, ap, _∙_}
 use native.Mathlib.Omega.{arith}
 use borrow.Author.Needs.{needs}
 use borrow.Author.Tests.{leb-true}
-use lib.Dec.{leb}
+use lib.Dec.{eqb, leb}
 use lib.ListN.{length, length-drop}
+use Rattle.folds.proofs.Arrays.{by-eq}
 use Rattle.folds.proofs.Parts.{part-rest}
 use Rattle.folds.proofs.Tests.{and-parts}
 use Rattle.mspis.proofs.serve.Statement.{statement}
@@ -15,84 +17,46 @@ abbrev Inv-loop : tie.InvT-loop
 Inv-loop file calls out₀ state₀ used₀ written₀ out state used written = (used ≤ length calls) × (length out ≡ length out₀)
 
 abbrev μ-loop : tie.MeasureT-loop
-μ-loop file calls out₀ state₀ used₀ written₀ out state used written = length calls - used
+μ-loop file calls out₀ state₀ used₀ written₀ out state used written = (length calls - used) + cond written 1 0
+
+-- of n bytes u were made before a turn and m in it, with the refusal k
+fewer : (n u m k : ℕ) (w : Bool) → (k ≡ 0 → 3 ≤ m) → u + m ≤ n → (n - (u + m)) + cond (w && eqb k 0) 1 0 < (n - u) + 1
+fewer n u m k false h l = omega arith
+fewer n u m k true h l =
+    by-eq (λ (b : Bool). (n - (u + m)) + cond b 1 0 < (n - u) + 1) k 0 (λ e. let x = h e in omega arith) (λ d. omega arith)
 
 -- how many bytes of calls a turn makes
-made : (c : tie.After-struct-known Inv-loop μ-loop)
-    → let u = c .before .before .before .before .before .before .before .lines .result .used in let i = c .before .before .before .before .before .before .before .before .before .before .before .loop in
-    (3 ≤ u) × (i .used + u ≤ length (c .before .before .before .before .before .before .before .before .before .before .before .before .before .before .before .args .calls .now))
+made : (c : tie.After-struct-known2 Inv-loop μ-loop)
+    → let r = c .before .before .before .before .before .before .before .before .lines .result in let i = c .before .before .before .before .before .before .before .before .before .before .before .before .loop in
+    (r .refusal ≡ 0 → 3 ≤ r .used) × (i .used + r .used ≤ length (c .before .before .before .before .before .before .before .before .before .before .before .before .before .before .before .before .args .calls .now))
 made c =
-    let h = c .before .before .before .before .before .before .before .lines .ensures in
-    let i = c .before .before .before .before .before .before .before .before .before .before .before .loop in
-    let a = c .before .before .before .before .before .before .before .before .before .before .before .before .before .before .before in
-    let n = length (a .args .calls .now) in
-    let part = ap length (part-rest (i .used) (a .args .calls .now)) ∙ length-drop (i .used) (a .args .calls .now) in
-    let more = leb-true 3 (n - i .used) (and-parts (i .written) (leb 3 (n - i .used)) (c .before .before .before .before .before .before .before .before .before .before .loop-test .taken) .1) in
-    (h .some (omega (arith, part)) (omega (arith, a .pre, i .inv .1)), omega (arith, h .written .within, part, i .inv .0))
-
-loop-holds : tie.Need-loop-holds Inv-loop μ-loop
-loop-holds c = (omega arith, refl)
-
-sub-loop : tie.Need-sub-loop Inv-loop μ-loop
-sub-loop c = c .loop .inv .0
-
-sub-lines : tie.Need-sub-lines Inv-loop μ-loop
-sub-lines c = c .before .loop .inv .0
-
-part-lines-start : tie.Need-part-lines-start Inv-loop μ-loop
-part-lines-start c = c .before .loop .inv .0
-
-part-lines-end : tie.Need-part-lines-end Inv-loop μ-loop
-part-lines-end c = search needs
-
-lines-requires : tie.Need-lines-requires Inv-loop μ-loop
-lines-requires c κs = search needs
-
-sub-write-all : tie.Need-sub-write-all Inv-loop μ-loop
-sub-write-all c = search needs
-
-part-write-all-start : tie.Need-part-write-all-start Inv-loop μ-loop
-part-write-all-start c = search needs
+    let h = c .before .before .before .before .before .before .before .before .lines .ensures in
+    let i = c .before .before .before .before .before .before .before .before .before .before .before .before .loop in
+    let a = c .before .before .before .before .before .before .before .before .before .before .before .before .before .before .before .before .args in
+    let n = length (a .calls .now) in
+    let part = ap length (part-rest (i .used) (a .calls .now)) ∙ length-drop (i .used) (a .calls .now) in
+    let more = leb-true 3 (n - i .used) (and-parts (i .written) (leb 3 (n - i .used)) (c .before .before .before .before .before .before .before .before .before .before .before .loop-test .taken) .1) in
+    (λ z. h .some z (omega (arith, part)), omega (arith, h .written .within, part, i .inv .0))
 
 part-write-all-end : tie.Need-part-write-all-end Inv-loop μ-loop
-part-write-all-end c = omega (arith, c .before .before .before .lines .ensures .written .fits, c .before .before .before .lines .ensures .written .long)
-
-write-all-requires : tie.Need-write-all-requires Inv-loop μ-loop
-write-all-requires c κs = search needs
-
-add-used : tie.Need-add-used Inv-loop μ-loop
-add-used c = let m = made c in omega (arith, m .1)
+part-write-all-end c = let w = c .before .before .before .lines .ensures .written in omega (arith, w .fits, w .long)
 
 loop-less : tie.Need-loop-less Inv-loop μ-loop
-loop-less c = let m = made c in omega (arith, m .0, m .1)
+loop-less c =
+    let m = made c in
+    let i = c .before .before .before .before .before .before .before .before .before .before .before .before .loop in
+    let n = length (c .before .before .before .before .before .before .before .before .before .before .before .before .before .before .before .before .args .calls .now) in
+    rw (and-parts (i .written) (leb 3 (n - i .used)) (c .before .before .before .before .before .before .before .before .before .before .before .loop-test .taken) .0) (fewer _ (i .used) _ _ (c .before .before .before .write-all .result) (m .0) (m .1))
 
 loop-again : tie.Need-loop-again Inv-loop μ-loop
-loop-again c = let m = made c in (omega (arith, m .1), c .before .before .before .before .before .before .before .lines .ensures .written .long ∙ c .before .before .before .before .before .before .before .before .before .before .before .loop .inv .1)
-
-same-length : tie.Need-same-length Inv-loop μ-loop
-same-length c = c .before .loop .inv .1
-
-returns : tie.Need-returns Inv-loop μ-loop
-returns c = c .before .loop .inv .0
+loop-again c =
+    let m = made c in
+    (omega (arith, m .1), c .before .before .before .before .before .before .before .before .lines .ensures .written .long ∙ c .before .before .before .before .before .before .before .before .before .before .before .before .loop .inv .1)
 
 pub serve-spec : {M : Type 1} → statement M
 serve-spec =
     tie.close
-    (tie.spec
-    Inv-loop
-    μ-loop
-    loop-holds
-    sub-loop
-    sub-lines
-    part-lines-start
-    part-lines-end
-    lines-requires
-    sub-write-all
-    part-write-all-start
-    part-write-all-end
-    write-all-requires
-    add-used
-    loop-less
-    loop-again
-    same-length
-    returns)
+    (tie.spec Inv-loop μ-loop
+    (λ c. (omega arith, refl)) (λ c. c .loop .inv .0) (λ c. c .before .loop .inv .0) (λ c. c .before .loop .inv .0)
+    (λ c. search needs) (λ c κs. search needs) (λ c. search needs) (λ c. search needs) part-write-all-end (λ c κs. search needs)
+    (λ c. let m = made c in omega (arith, m .1)) loop-less loop-again (λ c. c .before .loop .inv .1) (λ c. c .before .loop .inv .0))

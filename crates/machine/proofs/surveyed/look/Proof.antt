@@ -1,5 +1,5 @@
 -- The number of the reading, or the tables of a plan that passed every check.
-use mathlib.Core.Path.{sym, _∙_}
+use mathlib.Core.Path.{refl, sym, _∙_}
 use borrow.Author.Needs.{needs}
 use Rattle.machine.proofs.surveyed.look.Statement.{statement}
 use Rattle.machine.proofs.surveyed.look.Tie as tie
@@ -10,7 +10,7 @@ check-requires c κs = search needs
 returns : tie.Need-returns
 returns c =
     let bad = c .if1 .taken in
-    record { told = c .before .check .ensures; holds = λ z. absurd (bad z); budgets = λ z. absurd (bad z) }
+    (record { told = c .before .check .ensures; holds = λ z. absurd (bad z); budgets = λ z. absurd (bad z) }, λ d. (refl, refl))
 
 hold-table-requires : tie.Need-hold-table-requires
 hold-table-requires c κs =
@@ -28,7 +28,7 @@ returns-2 : tie.Need-returns-2
 returns-2 c =
     let h = c .before .before .before .before in
     let i = h .before .before .before in
-    record { told = sym (i .if1 .left) ∙ i .before .check .ensures; holds = λ z. h .hold-table .ensures .0; budgets = λ z. h .hold-table .ensures .1 }
+    (record { told = sym (i .if1 .left) ∙ i .before .check .ensures; holds = λ z. h .hold-table .ensures .0; budgets = λ z. h .hold-table .ensures .1 }, λ d. absurd (d refl))
 
 pub look-spec : {M : Type 1} → statement M
 look-spec = tie.close (tie.spec check-requires returns hold-table-requires same-length same-length-2 returns-2)

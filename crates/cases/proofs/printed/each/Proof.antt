@@ -1,0 +1,19 @@
+-- `cases::printed::each` is safe and ends: the measure is the calls that are left. Assumes nothing.
+use Prim.Native.Nat.{_≤_, _-_}
+use borrow.Author.Needs.{needs}
+use Rattle.cases.proofs.printed.each.Statement.{statement}
+use Rattle.cases.proofs.printed.each.Tie as tie
+
+abbrev Inv-loop : tie.InvT-loop
+Inv-loop file rest room calls state₀ n x₀ state x = x ≤ n
+
+abbrev μ-loop : tie.MeasureT-loop
+μ-loop file rest room calls state₀ n x₀ state x = n - x
+
+pub each-spec : {M : Type 1} → statement M
+each-spec =
+    tie.close
+    (tie.spec Inv-loop μ-loop
+    (λ c κs. search needs) (λ c. search needs) (λ c κs. search needs) (λ c κs. search needs) (λ c. search needs)
+    (λ c. search needs) (λ c. search needs) (λ c. search needs) (λ c κs. search needs) (λ c κs. search needs) (λ c. search needs)
+    (λ c. search needs) (λ c. search needs) (λ c. search needs))
