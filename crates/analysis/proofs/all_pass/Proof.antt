@@ -21,9 +21,6 @@ abbrev μ-loop : tie.MeasureT-loop
 counts-requires : tie.Need-counts-requires Inv-loop μ-loop
 counts-requires c κs = c .before .before .before .before .before .pre .0
 
-wide-requires : tie.Need-wide-requires Inv-loop μ-loop
-wide-requires c κs = search needs
-
 loop-holds : tie.Need-loop-holds Inv-loop μ-loop
 unfolding allBelow
 loop-holds c = (omega arith, c .wide .ensures .0 ∙ c .before .counts .ensures .1, refl)
@@ -37,12 +34,6 @@ returns : tie.Need-returns Inv-loop μ-loop
 unfolding admitted
 returns c =
     all-left _ (c .before .before .before .loop .i) _ (omega (arith, c .before .before .before .loop .inv .1)) (failed (c .before .passes .ensures) (c .if1 .taken))
-
-add-i : tie.Need-add-i Inv-loop μ-loop
-add-i c = omega arith
-
-loop-less : tie.Need-loop-less Inv-loop μ-loop
-loop-less c = omega arith
 
 loop-again : tie.Need-loop-again Inv-loop μ-loop
 loop-again c =
@@ -59,14 +50,5 @@ pub all-pass-spec : {M : Type 1} → statement M
 all-pass-spec =
     tie.close
     (tie.spec
-    Inv-loop
-    μ-loop
-    counts-requires
-    wide-requires
-    loop-holds
-    passes-requires
-    returns
-    add-i
-    loop-less
-    loop-again
-    returns-2)
+    Inv-loop μ-loop counts-requires (λ c κs. search needs) loop-holds passes-requires returns (λ c. omega arith)
+    (λ c. omega arith) loop-again returns-2)

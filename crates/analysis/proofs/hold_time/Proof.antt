@@ -8,23 +8,11 @@ use Rattle.analysis.proofs.Users.{user-task, user-resource, user-hold, 
 use Rattle.analysis.proofs.hold_time.Statement.{statement}
 use Rattle.analysis.proofs.hold_time.Tie as tie
 
-slice-aggregate-user-of : tie.Need-slice-aggregate-user-of
-slice-aggregate-user-of c = search needs
-
-slice-aggregate-user-of-2 : tie.Need-slice-aggregate-user-of-2
-slice-aggregate-user-of-2 c = search needs
-
-user-of-requires : tie.Need-user-of-requires
-user-of-requires c κs = search needs
-
 returns : tie.Need-returns
 returns c = figure-told _ _ (figure-refused _ (c .before .before .before .before .user-of .ensures .code) (c .if1 .taken))
 
 mul-t12 : tie.Need-mul-t12
 mul-t12 c = omega (arith, user-task (c .before .before .before .before .before .user-of .ensures .user (c .before .if1 .left)))
-
-wide-requires : tie.Need-wide-requires
-wide-requires c κs = search needs
 
 add-t14 : tie.Need-add-t14
 add-t14 c = omega (arith, user-task (c .before .before .before .before .before .before .user-of .ensures .user (c .before .before .if1 .left)))
@@ -49,14 +37,5 @@ pub hold-time-spec : {M : Type 1} → statement M
 hold-time-spec =
     tie.close
     (tie.spec
-    slice-aggregate-user-of
-    slice-aggregate-user-of-2
-    user-of-requires
-    returns
-    mul-t12
-    wide-requires
-    add-t14
-    mul-t15
-    array-read-t18
-    cast-t19
-    returns-2)
+    (λ c. search needs) (λ c. search needs) (λ c κs. search needs) returns mul-t12 (λ c κs. search needs) add-t14 mul-t15
+    array-read-t18 cast-t19 returns-2)

@@ -6,9 +6,6 @@ use Rattle.analysis.proofs.Told.{checked-file, times-refused, times-giv
 use Rattle.analysis.proofs.hold_times.Statement.{statement}
 use Rattle.analysis.proofs.hold_times.Tie as tie
 
-check-requires : tie.Need-check-requires
-check-requires c κs = search needs
-
 returns : tie.Need-returns
 returns c = times-refused _ (c .before .check .ensures) (c .if1 .taken)
 
@@ -16,12 +13,6 @@ returns c = times-refused _ (c .before .check .ensures) (c .if1 .taken)
 checked : (c : tie.Else1) → Checked (c .before .before .before .args .file .now)
 checked c =
     checked-file _ (sym (c .before .check .ensures) ∙ c .if1 .left) (λ i. c .before .before .shared-slice-known .given i .fits)
-
-slice-aggregate-hold-table : tie.Need-slice-aggregate-hold-table
-slice-aggregate-hold-table c = search needs
-
-slice-aggregate-hold-table-2 : tie.Need-slice-aggregate-hold-table-2
-slice-aggregate-hold-table-2 c = search needs
 
 hold-table-requires : tie.Need-hold-table-requires
 hold-table-requires c κs = (checked (c .before .before), refl, refl)
@@ -33,9 +24,4 @@ pub hold-times-spec : {M : Type 1} → statement M
 hold-times-spec =
     tie.close
     (tie.spec
-    check-requires
-    returns
-    slice-aggregate-hold-table
-    slice-aggregate-hold-table-2
-    hold-table-requires
-    returns-2)
+    (λ c κs. search needs) returns (λ c. search needs) (λ c. search needs) hold-table-requires returns-2)

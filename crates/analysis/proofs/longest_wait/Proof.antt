@@ -8,26 +8,8 @@ use Rattle.analysis.proofs.Users.{user-resource}
 use Rattle.analysis.proofs.longest_wait.Statement.{statement}
 use Rattle.analysis.proofs.longest_wait.Tie as tie
 
-slice-aggregate-user-of : tie.Need-slice-aggregate-user-of
-slice-aggregate-user-of c = search needs
-
-slice-aggregate-user-of-2 : tie.Need-slice-aggregate-user-of-2
-slice-aggregate-user-of-2 c = search needs
-
-user-of-requires : tie.Need-user-of-requires
-user-of-requires c κs = search needs
-
 returns : tie.Need-returns
 returns c = figure-told _ _ (figure-refused _ (c .before .before .before .before .user-of .ensures .code) (c .if1 .taken))
-
-slice-aggregate-longest-of : tie.Need-slice-aggregate-longest-of
-slice-aggregate-longest-of c = search needs
-
-slice-aggregate-longest-of-2 : tie.Need-slice-aggregate-longest-of-2
-slice-aggregate-longest-of-2 c = search needs
-
-wide-requires : tie.Need-wide-requires
-wide-requires c κs = search needs
 
 longest-of-requires : tie.Need-longest-of-requires
 longest-of-requires c κs =
@@ -44,12 +26,5 @@ pub longest-wait-spec : {M : Type 1} → statement M
 longest-wait-spec =
     tie.close
     (tie.spec
-    slice-aggregate-user-of
-    slice-aggregate-user-of-2
-    user-of-requires
-    returns
-    slice-aggregate-longest-of
-    slice-aggregate-longest-of-2
-    wide-requires
-    longest-of-requires
-    returns-2)
+    (λ c. search needs) (λ c. search needs) (λ c κs. search needs) returns (λ c. search needs) (λ c. search needs)
+    (λ c κs. search needs) longest-of-requires returns-2)

@@ -8,26 +8,8 @@ use Rattle.analysis.proofs.Told.{requirement-given, requirement-refused
 use Rattle.analysis.proofs.requirement_question.Statement.{statement}
 use Rattle.analysis.proofs.requirement_question.Tie as tie
 
-counts-requires : tie.Need-counts-requires
-counts-requires c κs = search needs
-
-task-number-requires : tie.Need-task-number-requires
-task-number-requires c κs = search needs
-
-wide-requires : tie.Need-wide-requires
-wide-requires c κs = search needs
-
 returns : tie.Need-returns
 returns c = requirement-refused _ (no-task-asked _ _ (omega arith)) (λ e. omega arith)
-
-globals-requires : tie.Need-globals-requires
-globals-requires c κs = search needs
-
-global-counts-requires : tie.Need-global-counts-requires
-global-counts-requires c κs = search needs
-
-mul-if2 : tie.Need-mul-if2
-mul-if2 c = search needs
 
 array-read-if2 : tie.Need-array-read-if2
 array-read-if2 c = omega (arith, valid-plan _ (c .before .before .before .before .before .before .before .pre) .tasks)
@@ -38,12 +20,6 @@ returns-2 c =
     requirement-refused _
     (not-asked _ _ (u .before .before .before .before .task-number .ensures) (omega arith) (u .global-counts .ensures .at _ (array-read-if2 u)) (c .if2 .taken))
     (λ e. omega arith)
-
-slice-aggregate-requirement-at : tie.Need-slice-aggregate-requirement-at
-slice-aggregate-requirement-at c = search needs
-
-requirement-at-requires : tie.Need-requirement-at-requires
-requirement-at-requires c κs = search needs
 
 returns-3 : tie.Need-returns-3
 returns-3 c =
@@ -57,15 +33,5 @@ pub requirement-question-spec : {M : Type 1} → statement M
 requirement-question-spec =
     tie.close
     (tie.spec
-    counts-requires
-    task-number-requires
-    wide-requires
-    returns
-    globals-requires
-    global-counts-requires
-    mul-if2
-    array-read-if2
-    returns-2
-    slice-aggregate-requirement-at
-    requirement-at-requires
-    returns-3)
+    (λ c κs. search needs) (λ c κs. search needs) (λ c κs. search needs) returns (λ c κs. search needs) (λ c κs. search needs)
+    (λ c. search needs) array-read-if2 returns-2 (λ c. search needs) (λ c κs. search needs) returns-3)

@@ -7,38 +7,11 @@ use Rattle.equations.specs.HoldTimes.{waitTime}
 use Rattle.analysis.proofs.shares_of.Statement.{statement}
 use Rattle.analysis.proofs.shares_of.Tie as tie
 
-slice-aggregate-hold-table : tie.Need-slice-aggregate-hold-table
-slice-aggregate-hold-table c = search needs
-
-slice-aggregate-hold-table-2 : tie.Need-slice-aggregate-hold-table-2
-slice-aggregate-hold-table-2 c = search needs
-
-hold-table-requires : tie.Need-hold-table-requires
-hold-table-requires c κs = search needs
-
-wide-requires : tie.Need-wide-requires
-wide-requires c κs = search needs
-
-wide-requires-2 : tie.Need-wide-requires-2
-wide-requires-2 c κs = search needs
-
-mul-budget : tie.Need-mul-budget
-mul-budget c = search needs
-
-add-budget : tie.Need-add-budget
-add-budget c = search needs
-
-mul-budget-2 : tie.Need-mul-budget-2
-mul-budget-2 c = search needs
-
 array-read-budget : tie.Need-array-read-budget
 array-read-budget c =
     let h = c .before .before .before .before .before .before .before .before .pre in
     let v = valid-plan _ (h .0) in
     omega (arith, v .processors, v .resources, h .1, h .2, c .wide2 .ensures .0, c .before .wide .ensures .0)
-
-slice-aggregate-wait-in : tie.Need-slice-aggregate-wait-in
-slice-aggregate-wait-in c = search needs
 
 wait-in-requires : tie.Need-wait-in-requires
 wait-in-requires c κs =
@@ -58,15 +31,5 @@ pub shares-of-spec : {M : Type 1} → statement M
 shares-of-spec =
     tie.close
     (tie.spec
-    slice-aggregate-hold-table
-    slice-aggregate-hold-table-2
-    hold-table-requires
-    wide-requires
-    wide-requires-2
-    mul-budget
-    add-budget
-    mul-budget-2
-    array-read-budget
-    slice-aggregate-wait-in
-    wait-in-requires
-    returns)
+    (λ c. search needs) (λ c. search needs) (λ c κs. search needs) (λ c κs. search needs) (λ c κs. search needs)
+    (λ c. search needs) (λ c. search needs) (λ c. search needs) array-read-budget (λ c. search needs) wait-in-requires returns)

@@ -34,35 +34,11 @@ hold : (c : tie.After-slice-known5) → getD (c .before .before .before .before 
 hold c =
     cell-at _ _ (c .before .before .before .before .before .before .hold-table .ensures .0) (c .before .wide2 .ensures .0) (omega (arith, valid c .tasks, below c)) (omega (arith, valid c .resources, resource c))
 
-counts-requires : tie.Need-counts-requires
-counts-requires c κs = search needs
-
-task-number-requires : tie.Need-task-number-requires
-task-number-requires c κs = search needs
-
-wide-requires : tie.Need-wide-requires
-wide-requires c κs = search needs
-
 returns : tie.Need-returns
 returns c = user-refused (no-task _ _ _ (omega arith)) (λ e. omega arith)
 
 returns-2 : tie.Need-returns-2
 returns-2 c = user-refused (no-resource-used _ _ _ (omega arith) (omega arith)) (λ e. omega arith)
-
-hold-table-requires : tie.Need-hold-table-requires
-hold-table-requires c κs = search needs
-
-mul-if3 : tie.Need-mul-if3
-mul-if3 c = search needs
-
-wide-requires-2 : tie.Need-wide-requires-2
-wide-requires-2 c κs = search needs
-
-add-if3 : tie.Need-add-if3
-add-if3 c = search needs
-
-mul-if3-2 : tie.Need-mul-if3-2
-mul-if3-2 c = search needs
 
 slice-read-if3 : tie.Need-slice-read-if3
 slice-read-if3 c = omega (arith, c .before .before .before .before .before .before .hold-table .ensures .0 .long, valid c .tasks, valid c .resources, below c, resource c, c .before .wide2 .ensures .0)
@@ -70,22 +46,10 @@ slice-read-if3 c = omega (arith, c .before .before .before .before .before .befo
 sharing-code-requires : tie.Need-sharing-code-requires
 sharing-code-requires c κs = (start (c .before) .pre .0, below (c .before), sym (hold (c .before)) ∙ c .if3 .taken)
 
-same-length : tie.Need-same-length
-same-length c = search needs
-
-same-length-2 : tie.Need-same-length-2
-same-length-2 c = search needs
-
 returns-3 : tie.Need-returns-3
 returns-3 c =
     let a = c .before .before in
     user-unshared _ (start a .pre .0) _ _ _ (a .before .before .before .before .before .before .before .before .before .before .before .before .before .task-number .ensures) (below a) (resource a) (c .sharing-code .ensures .0) (c .sharing-code .ensures .1)
-
-same-length-3 : tie.Need-same-length-3
-same-length-3 c = search needs
-
-same-length-4 : tie.Need-same-length-4
-same-length-4 c = search needs
 
 returns-4 : tie.Need-returns-4
 returns-4 c =
@@ -96,21 +60,6 @@ pub user-in-spec : {M : Type 1} → statement M
 user-in-spec =
     tie.close
     (tie.spec
-    counts-requires
-    task-number-requires
-    wide-requires
-    returns
-    returns-2
-    hold-table-requires
-    mul-if3
-    wide-requires-2
-    add-if3
-    mul-if3-2
-    slice-read-if3
-    sharing-code-requires
-    same-length
-    same-length-2
-    returns-3
-    same-length-3
-    same-length-4
-    returns-4)
+    (λ c κs. search needs) (λ c κs. search needs) (λ c κs. search needs) returns returns-2 (λ c κs. search needs)
+    (λ c. search needs) (λ c κs. search needs) (λ c. search needs) (λ c. search needs) slice-read-if3 sharing-code-requires
+    (λ c. search needs) (λ c. search needs) returns-3 (λ c. search needs) (λ c. search needs) returns-4)

@@ -5,18 +5,6 @@ use borrow.Author.Needs.{needs}
 use Rattle.analysis_c.proofs.plan_admission.Statement.{statement}
 use Rattle.analysis_c.proofs.plan_admission.Tie as tie
 
-admission-requires : tie.Need-admission-requires
-admission-requires c κs = search needs
-
-enum-known-b : tie.Need-enum-known-b
-enum-known-b c = search needs
-
-enum-known-k : tie.Need-enum-known-k
-enum-known-k c = search needs
-
-byte-requires : tie.Need-byte-requires
-byte-requires c κs = search needs
-
 returns : tie.Need-returns
 returns c =
     let a = c .before .before .before .before .admission .ensures .0 in
@@ -36,10 +24,4 @@ pub plan-admission-spec : {M : Type 1} → statement M
 plan-admission-spec =
     tie.close
     (tie.spec
-    admission-requires
-    enum-known-b
-    enum-known-k
-    byte-requires
-    returns
-    returns-2
-    returns-3)
+    (λ c κs. search needs) (λ c. search needs) (λ c. search needs) (λ c κs. search needs) returns returns-2 returns-3)

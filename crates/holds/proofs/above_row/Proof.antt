@@ -20,38 +20,11 @@ loop-holds : tie.Need-loop-holds Inv-loop μ-loop
 unfolding placedBelow
 loop-holds c = (omega arith, refl)
 
-mul-row : tie.Need-mul-row Inv-loop μ-loop
-mul-row c = omega arith
-
-array-read-row : tie.Need-array-read-row Inv-loop μ-loop
-array-read-row c = omega arith
-
 add-row : tie.Need-add-row Inv-loop μ-loop
 add-row c = omega (arith, c .before .before .pre .1 (c .before .loop .q) (omega arith))
 
-mul-excess : tie.Need-mul-excess Inv-loop μ-loop
-mul-excess c = omega arith
-
-array-read-excess : tie.Need-array-read-excess Inv-loop μ-loop
-array-read-excess c = omega arith
-
-excess-requires : tie.Need-excess-requires Inv-loop μ-loop
-excess-requires c κs = search needs
-
 sub-row : tie.Need-sub-row Inv-loop μ-loop
 sub-row c = omega (arith, c .before .before .before .pre .2 (c .before .before .loop .q) (omega arith), c .excess .ensures)
-
-mul-row-2 : tie.Need-mul-row-2 Inv-loop μ-loop
-mul-row-2 c = omega arith
-
-array-write-row : tie.Need-array-write-row Inv-loop μ-loop
-array-write-row c = omega arith
-
-add-q : tie.Need-add-q Inv-loop μ-loop
-add-q c = omega arith
-
-loop-less : tie.Need-loop-less Inv-loop μ-loop
-loop-less c = omega arith
 
 loop-again : tie.Need-loop-again Inv-loop μ-loop
 loop-again c = let l = c .before .before .loop in (omega arith, placed-step (l .q) _ _ (l .inv .1) (minus-same _ (c .excess .ensures)))
@@ -63,19 +36,5 @@ pub above-row-spec : {M : Type 1} → statement M
 above-row-spec =
     tie.close
     (tie.spec
-    Inv-loop
-    μ-loop
-    loop-holds
-    mul-row
-    array-read-row
-    add-row
-    mul-excess
-    array-read-excess
-    excess-requires
-    sub-row
-    mul-row-2
-    array-write-row
-    add-q
-    loop-less
-    loop-again
-    returns)
+    Inv-loop μ-loop loop-holds (λ c. omega arith) (λ c. omega arith) add-row (λ c. omega arith) (λ c. omega arith)
+    (λ c κs. search needs) sub-row (λ c. omega arith) (λ c. omega arith) (λ c. omega arith) (λ c. omega arith) loop-again returns)

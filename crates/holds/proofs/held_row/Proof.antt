@@ -24,44 +24,11 @@ loop-holds : tie.Need-loop-holds Inv-loop μ-loop
 unfolding placedBelow
 loop-holds c = (omega arith, refl)
 
-mul-chosen : tie.Need-mul-chosen Inv-loop μ-loop
-mul-chosen c = omega arith
-
-array-read-chosen : tie.Need-array-read-chosen Inv-loop μ-loop
-array-read-chosen c = omega arith
-
-mul-chosen-2 : tie.Need-mul-chosen-2 Inv-loop μ-loop
-mul-chosen-2 c = omega arith
-
-array-read-chosen-2 : tie.Need-array-read-chosen-2 Inv-loop μ-loop
-array-read-chosen-2 c = omega arith
-
-mul-chosen-3 : tie.Need-mul-chosen-3 Inv-loop μ-loop
-mul-chosen-3 c = omega arith
-
-array-read-chosen-3 : tie.Need-array-read-chosen-3 Inv-loop μ-loop
-array-read-chosen-3 c = omega arith
-
 add-chosen : tie.Need-add-chosen Inv-loop μ-loop
 add-chosen c =
     let l = c .before .loop in
     let h = c .before .before .pre in
     omega (arith, h .0 (l .q) (omega arith), h .1 (l .q) (omega arith))
-
-chosen-requires : tie.Need-chosen-requires Inv-loop μ-loop
-chosen-requires c κs = search needs
-
-mul-row : tie.Need-mul-row Inv-loop μ-loop
-mul-row c = omega arith
-
-array-write-row : tie.Need-array-write-row Inv-loop μ-loop
-array-write-row c = omega arith
-
-add-q : tie.Need-add-q Inv-loop μ-loop
-add-q c = omega arith
-
-loop-less : tie.Need-loop-less Inv-loop μ-loop
-loop-less c = omega arith
 
 loop-again : tie.Need-loop-again Inv-loop μ-loop
 loop-again c = let l = c .before .before .loop in (omega arith, placed-step (l .q) _ _ (l .inv .1) (c .chosen .ensures))
@@ -73,20 +40,6 @@ pub held-row-spec : {M : Type 1} → statement M
 held-row-spec =
     tie.close
     (tie.spec
-    Inv-loop
-    μ-loop
-    loop-holds
-    mul-chosen
-    array-read-chosen
-    mul-chosen-2
-    array-read-chosen-2
-    mul-chosen-3
-    array-read-chosen-3
-    add-chosen
-    chosen-requires
-    mul-row
-    array-write-row
-    add-q
-    loop-less
-    loop-again
-    returns)
+    Inv-loop μ-loop loop-holds (λ c. omega arith) (λ c. omega arith) (λ c. omega arith) (λ c. omega arith) (λ c. omega arith)
+    (λ c. omega arith) add-chosen (λ c κs. search needs) (λ c. omega arith) (λ c. omega arith) (λ c. omega arith)
+    (λ c. omega arith) loop-again returns)

@@ -19,15 +19,6 @@ Inv-loop file holds₀ budgets₀ order tops m flags k₀ holds budgets k =
 abbrev μ-loop : tie.MeasureT-loop
 μ-loop file holds₀ budgets₀ order tops m flags k₀ holds budgets k = m - k
 
-counts-requires : tie.Need-counts-requires Inv-loop μ-loop
-counts-requires c κs = search needs
-
-wide-requires : tie.Need-wide-requires Inv-loop μ-loop
-wide-requires c κs = search needs
-
-shared-flags-requires : tie.Need-shared-flags-requires Inv-loop μ-loop
-shared-flags-requires c κs = search needs
-
 loop-holds : tie.Need-loop-holds Inv-loop μ-loop
 loop-holds c =
     let h = c .before .before .before .before .before .before .before .before .pre in
@@ -44,12 +35,6 @@ set-row-requires : tie.Need-set-row-requires Inv-loop μ-loop
 set-row-requires c κs =
     let i = c .before .before .before .before .before .before .loop .inv in
     (omega (arith, i .6 .wide, valid-plan _ (i .2) .processors, i .1), omega (arith, i .6 .wide))
-
-add-k : tie.Need-add-k Inv-loop μ-loop
-add-k c = omega arith
-
-loop-less : tie.Need-loop-less Inv-loop μ-loop
-loop-less c = omega arith
 
 loop-again : tie.Need-loop-again Inv-loop μ-loop
 loop-again c =
@@ -71,17 +56,5 @@ pub hold-all-spec : {M : Type 1} → statement M
 hold-all-spec =
     tie.close
     (tie.spec
-    Inv-loop
-    μ-loop
-    counts-requires
-    wide-requires
-    shared-flags-requires
-    loop-holds
-    hold-rows-requires
-    set-row-requires
-    add-k
-    loop-less
-    loop-again
-    same-length
-    same-length-2
-    returns)
+    Inv-loop μ-loop (λ c κs. search needs) (λ c κs. search needs) (λ c κs. search needs) loop-holds hold-rows-requires
+    set-row-requires (λ c. omega arith) (λ c. omega arith) loop-again same-length same-length-2 returns)

@@ -20,28 +20,13 @@ Inv-loop file rows₀ order tops flags k n above₀ most₀ x₀ rows above most
 abbrev μ-loop : tie.MeasureT-loop
 μ-loop file rows₀ order tops flags k n above₀ most₀ x₀ rows above most x = n - x
 
-counts-requires : tie.Need-counts-requires Inv-loop μ-loop
-counts-requires c κs = search needs
-
-wide-requires : tie.Need-wide-requires Inv-loop μ-loop
-wide-requires c κs = search needs
-
 loop-holds : tie.Need-loop-holds Inv-loop μ-loop
 loop-holds c =
     let h = c .before .before .before .before .before .before .pre in
     (omega arith, c .wide .ensures .0 ∙ c .before .counts .ensures .1, h .0, h .1, h .2, h .3, h .4, h .6, held-none _ _ _ _ (h .5))
 
-mul-wide : tie.Need-mul-wide Inv-loop μ-loop
-mul-wide c = omega arith
-
-add-wide : tie.Need-add-wide Inv-loop μ-loop
-add-wide c = omega arith
-
 shared-slice-read-wide : tie.Need-shared-slice-read-wide Inv-loop μ-loop
 shared-slice-read-wide c = let i = c .before .before .loop .inv in omega (arith, i .3 .long, valid-plan _ (i .2) .tasks, i .1)
-
-wide-requires-2 : tie.Need-wide-requires-2 Inv-loop μ-loop
-wide-requires-2 c κs = search needs
 
 same-length : tie.Need-same-length Inv-loop μ-loop
 same-length c = c .before .before .before .before .loop .inv .8 .long ∙ sym (c .before .before .before .before .before .before .before .before .before .before .before .pre .5)
@@ -54,9 +39,6 @@ returns c =
     let p = planOf (a .file .now) in
     let v = valid-plan _ (i .2) in
     held-done p v (a .k) _ (l .x) _ _ _ (i .8) (last-sits p (a .order .now) (a .k) (l .x) (i .3) (i .6) (omega (arith, v .tasks, i .1)) (c .before .wide2 .ensures .0) (c .if1 .taken))
-
-sub-i : tie.Need-sub-i Inv-loop μ-loop
-sub-i c = omega arith
 
 shared-row-requires : tie.Need-shared-row-requires Inv-loop μ-loop
 shared-row-requires c κs =
@@ -99,9 +81,6 @@ longer-row-requires c κs =
     let s = next-sits p (a .order .now) (a .k) (l .x) (i .3) (i .6) (omega (arith, v .tasks, i .1)) (c .before .before .before .before .before .before .before .before .before .wide2 .ensures .0) (omega arith) in
     (c .before .before .before .set-row .ensures .0 ∙ i .8 .long, omega (arith, v .tasks, s .below))
 
-mul-above-row : tie.Need-mul-above-row Inv-loop μ-loop
-mul-above-row c = omega arith
-
 shared-slice-read-above-row : tie.Need-shared-slice-read-above-row Inv-loop μ-loop
 shared-slice-read-above-row c =
     let l = c .before .before .before .before .before .before .before .before .before .before .before .before .before .before .loop in
@@ -111,12 +90,6 @@ shared-slice-read-above-row c =
     let v = valid-plan _ (i .2) in
     let s = next-sits p (a .order .now) (a .k) (l .x) (i .3) (i .6) (omega (arith, v .tasks, i .1)) (c .before .before .before .before .before .before .before .before .before .before .before .wide2 .ensures .0) (omega arith) in
     omega (arith, i .4 .long, v .tasks, s .below)
-
-add-above-row : tie.Need-add-above-row Inv-loop μ-loop
-add-above-row c = omega arith
-
-mul-above-row-2 : tie.Need-mul-above-row-2 Inv-loop μ-loop
-mul-above-row-2 c = omega arith
 
 shared-slice-read-above-row-2 : tie.Need-shared-slice-read-above-row-2 Inv-loop μ-loop
 shared-slice-read-above-row-2 c =
@@ -138,12 +111,6 @@ above-row-requires c κs =
     let s = next-sits p (a .order .now) (a .k) (l .x) (i .3) (i .6) (omega (arith, v .tasks, i .1)) (c .before .before .before .before .before .before .before .before .before .before .before .before .wide2 .ensures .0) (omega arith) in
     let o = own-row p v (a .k) _ (l .x) _ _ _ _ (a .flags) (a .tops .now) (i .8) s (i .5) (i .4) (i .7) (c .before .before .before .before .before .before .before .before .before .shared-row .ensures) in
     (top-high p v (a .tops .now) _ (i .4) (omega (arith, v .tasks, s .below)), above-high p v (a .k) _ (l .x) (i .8), own-top p v (a .k) _ (l .x) _ _ _ _ (a .flags) (a .tops .now) (i .8) s (i .5) (i .4) (i .7) o)
-
-add-x : tie.Need-add-x Inv-loop μ-loop
-add-x c = omega arith
-
-loop-less : tie.Need-loop-less Inv-loop μ-loop
-loop-less c = omega arith
 
 loop-again : tie.Need-loop-again Inv-loop μ-loop
 loop-again c =
@@ -181,30 +148,7 @@ pub hold-rows-spec : {M : Type 1} → statement M
 hold-rows-spec =
     tie.close
     (tie.spec
-    Inv-loop
-    μ-loop
-    counts-requires
-    wide-requires
-    loop-holds
-    mul-wide
-    add-wide
-    shared-slice-read-wide
-    wide-requires-2
-    same-length
-    returns
-    sub-i
-    shared-row-requires
-    held-row-requires
-    set-row-requires
-    longer-row-requires
-    mul-above-row
-    shared-slice-read-above-row
-    add-above-row
-    mul-above-row-2
-    shared-slice-read-above-row-2
-    above-row-requires
-    add-x
-    loop-less
-    loop-again
-    same-length-2
-    returns-2)
+    Inv-loop μ-loop (λ c κs. search needs) (λ c κs. search needs) loop-holds (λ c. omega arith) (λ c. omega arith)
+    shared-slice-read-wide (λ c κs. search needs) same-length returns (λ c. omega arith) shared-row-requires held-row-requires
+    set-row-requires longer-row-requires (λ c. omega arith) shared-slice-read-above-row (λ c. omega arith) (λ c. omega arith)
+    shared-slice-read-above-row-2 above-row-requires (λ c. omega arith) (λ c. omega arith) loop-again same-length-2 returns-2)

@@ -21,30 +21,12 @@ abbrev μ-loop : tie.MeasureT-loop
 counts-requires : tie.Need-counts-requires Inv-loop μ-loop
 counts-requires c κs = c .before .pre
 
-cast-n : tie.Need-cast-n Inv-loop μ-loop
-cast-n c = omega arith
-
 loop-holds : tie.Need-loop-holds Inv-loop μ-loop
 unfolding maxBelow
 loop-holds c = (omega arith, c .before .counts .ensures .3, refl)
 
 section-requires : tie.Need-section-requires Inv-loop μ-loop
 section-requires c κs = (c .before .before .before .before .before .pre, omega arith)
-
-wide-requires : tie.Need-wide-requires Inv-loop μ-loop
-wide-requires c κs = search needs
-
-chosen-requires : tie.Need-chosen-requires Inv-loop μ-loop
-chosen-requires c κs = search needs
-
-longer-requires : tie.Need-longer-requires Inv-loop μ-loop
-longer-requires c κs = search needs
-
-add-s : tie.Need-add-s Inv-loop μ-loop
-add-s c = omega arith
-
-loop-less : tie.Need-loop-less Inv-loop μ-loop
-loop-less c = omega arith
 
 loop-again : tie.Need-loop-again Inv-loop μ-loop
 loop-again c =
@@ -63,16 +45,5 @@ pub longest-on-spec : {M : Type 1} → statement M
 longest-on-spec =
     tie.close
     (tie.spec
-    Inv-loop
-    μ-loop
-    counts-requires
-    cast-n
-    loop-holds
-    section-requires
-    wide-requires
-    chosen-requires
-    longer-requires
-    add-s
-    loop-less
-    loop-again
-    returns)
+    Inv-loop μ-loop counts-requires (λ c. omega arith) loop-holds section-requires (λ c κs. search needs) (λ c κs. search needs)
+    (λ c κs. search needs) (λ c. omega arith) (λ c. omega arith) loop-again returns)

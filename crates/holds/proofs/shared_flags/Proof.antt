@@ -25,26 +25,8 @@ loop-holds : tie.Need-loop-holds Inv-loop μ-loop
 unfolding placedBelow
 loop-holds c = (omega arith, refl)
 
-mul-flags : tie.Need-mul-flags Inv-loop μ-loop
-mul-flags c = omega arith
-
-array-read-flags : tie.Need-array-read-flags Inv-loop μ-loop
-array-read-flags c = omega arith
-
 add-flags : tie.Need-add-flags Inv-loop μ-loop
 add-flags c = let h = c .before .before .pre in omega (arith, users-high _ (valid-plan _ (h .0)) (c .before .loop .q) (h .1) (omega arith))
-
-mul-flags-2 : tie.Need-mul-flags-2 Inv-loop μ-loop
-mul-flags-2 c = omega arith
-
-array-write-flags : tie.Need-array-write-flags Inv-loop μ-loop
-array-write-flags c = omega arith
-
-add-q : tie.Need-add-q Inv-loop μ-loop
-add-q c = omega arith
-
-loop-less : tie.Need-loop-less Inv-loop μ-loop
-loop-less c = omega arith
 
 loop-again : tie.Need-loop-again Inv-loop μ-loop
 loop-again c = let l = c .before .loop in let h = c .before .before .pre in (omega arith, placed-step (l .q) _ _ (l .inv .1) (flag-at _ (valid-plan _ (h .0)) (l .q) (h .1) (omega arith)))
@@ -56,15 +38,5 @@ pub shared-flags-spec : {M : Type 1} → statement M
 shared-flags-spec =
     tie.close
     (tie.spec
-    Inv-loop
-    μ-loop
-    loop-holds
-    mul-flags
-    array-read-flags
-    add-flags
-    mul-flags-2
-    array-write-flags
-    add-q
-    loop-less
-    loop-again
-    returns)
+    Inv-loop μ-loop loop-holds (λ c. omega arith) (λ c. omega arith) add-flags (λ c. omega arith) (λ c. omega arith)
+    (λ c. omega arith) (λ c. omega arith) loop-again returns)

@@ -21,38 +21,8 @@ loop-holds : tie.Need-loop-holds Inv-loop μ-loop
 unfolding placedBelow
 loop-holds c = (omega arith, refl)
 
-mul-row : tie.Need-mul-row Inv-loop μ-loop
-mul-row c = omega arith
-
-add-row : tie.Need-add-row Inv-loop μ-loop
-add-row c = omega arith
-
-mul-row-2 : tie.Need-mul-row-2 Inv-loop μ-loop
-mul-row-2 c = omega arith
-
-shared-slice-read-row : tie.Need-shared-slice-read-row Inv-loop μ-loop
-shared-slice-read-row c = omega arith
-
-mul-row-3 : tie.Need-mul-row-3 Inv-loop μ-loop
-mul-row-3 c = omega arith
-
-array-read-row : tie.Need-array-read-row Inv-loop μ-loop
-array-read-row c = omega arith
-
 mul-row-4 : tie.Need-mul-row-4 Inv-loop μ-loop
 mul-row-4 c = omega (arith, c .before .before .before .pre .2 (c .before .before .loop .q) (omega arith))
-
-mul-row-5 : tie.Need-mul-row-5 Inv-loop μ-loop
-mul-row-5 c = omega arith
-
-array-write-row : tie.Need-array-write-row Inv-loop μ-loop
-array-write-row c = omega arith
-
-add-q : tie.Need-add-q Inv-loop μ-loop
-add-q c = omega arith
-
-loop-less : tie.Need-loop-less Inv-loop μ-loop
-loop-less c = omega arith
 
 loop-again : tie.Need-loop-again Inv-loop μ-loop
 loop-again c = let l = c .before .before .loop in (omega arith, placed-step (l .q) _ _ (l .inv .1) refl)
@@ -64,19 +34,5 @@ pub shared-row-spec : {M : Type 1} → statement M
 shared-row-spec =
     tie.close
     (tie.spec
-    Inv-loop
-    μ-loop
-    loop-holds
-    mul-row
-    add-row
-    mul-row-2
-    shared-slice-read-row
-    mul-row-3
-    array-read-row
-    mul-row-4
-    mul-row-5
-    array-write-row
-    add-q
-    loop-less
-    loop-again
-    returns)
+    Inv-loop μ-loop loop-holds (λ c. omega arith) (λ c. omega arith) (λ c. omega arith) (λ c. omega arith) (λ c. omega arith)
+    (λ c. omega arith) mul-row-4 (λ c. omega arith) (λ c. omega arith) (λ c. omega arith) (λ c. omega arith) loop-again returns)

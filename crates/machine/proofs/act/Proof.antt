@@ -44,32 +44,11 @@ made c =
     let g = k .before .before .before .before .before .pre in
     record { plan = g .0; holds = g .1; budgets = g .2; keys = k .key-table .ensures; seats = c .fill-seats .ensures }
 
-key-table-requires : tie.Need-key-table-requires
-key-table-requires c κs = search needs
-
-slice-aggregate-fill-seats : tie.Need-slice-aggregate-fill-seats
-slice-aggregate-fill-seats c = search needs
-
-slice-aggregate-fill-seats-2 : tie.Need-slice-aggregate-fill-seats-2
-slice-aggregate-fill-seats-2 c = search needs
-
-fill-seats-requires : tie.Need-fill-seats-requires
-fill-seats-requires c κs = search needs
-
-slice-aggregate-passes : tie.Need-slice-aggregate-passes
-slice-aggregate-passes c = search needs
-
-slice-aggregate-passes-2 : tie.Need-slice-aggregate-passes-2
-slice-aggregate-passes-2 c = search needs
-
 passes-requires : tie.Need-passes-requires
 passes-requires c κs =
     let m = made (c .before .before .before) in
     let v = valid-plan _ (m .plan) in
     (m .holds .long, m .budgets .long, m .keys .long, m .seats .long, m .seats .low, keys-low _ v _ _ (m .keys))
-
-refuse-requires : tie.Need-refuse-requires
-refuse-requires c κs = search needs
 
 returns : tie.Need-returns
 returns c =
@@ -77,41 +56,17 @@ returns c =
     let m = made (t .before .before .before .before) in
     rw (c .refuse .ensures) (unsound-reply _ (m .plan .none) _ _ (not-passed m (t .passes .ensures) (c .before .if1 .taken)))
 
-enum-known-call : tie.Need-enum-known-call
-enum-known-call c = search needs
-
-slice-aggregate-request-on : tie.Need-slice-aggregate-request-on
-slice-aggregate-request-on c = search needs
-
 request-on-requires : tie.Need-request-on-requires
 request-on-requires c κs =
     let i = c .before .before .before .before in
     let m = made (i .before .before .before .before .before) in
     (m .plan, m .holds, m .budgets, m .seats, passed m (i .before .passes .ensures) (i .if1 .left))
 
-enum-known-call-2 : tie.Need-enum-known-call-2
-enum-known-call-2 c = search needs
-
-slice-aggregate-release-on : tie.Need-slice-aggregate-release-on
-slice-aggregate-release-on c = search needs
-
-slice-aggregate-release-on-2 : tie.Need-slice-aggregate-release-on-2
-slice-aggregate-release-on-2 c = search needs
-
 release-on-requires : tie.Need-release-on-requires
 release-on-requires c κs =
     let i = c .before .before .before .before .before in
     let m = made (i .before .before .before .before .before) in
     (m .plan, m .holds, m .budgets, m .keys, m .seats, passed m (i .before .passes .ensures) (i .if1 .left))
-
-enum-told : tie.Need-enum-told
-enum-told c = search needs
-
-slice-aggregate-tick-on : tie.Need-slice-aggregate-tick-on
-slice-aggregate-tick-on c = search needs
-
-slice-aggregate-tick-on-2 : tie.Need-slice-aggregate-tick-on-2
-slice-aggregate-tick-on-2 c = search needs
 
 tick-on-requires : tie.Need-tick-on-requires
 tick-on-requires c κs =
@@ -144,26 +99,7 @@ pub act-spec : {M : Type 1} → statement M
 act-spec =
     tie.close
     (tie.spec
-    key-table-requires
-    slice-aggregate-fill-seats
-    slice-aggregate-fill-seats-2
-    fill-seats-requires
-    slice-aggregate-passes
-    slice-aggregate-passes-2
-    passes-requires
-    refuse-requires
-    returns
-    enum-known-call
-    slice-aggregate-request-on
-    request-on-requires
-    enum-known-call-2
-    slice-aggregate-release-on
-    slice-aggregate-release-on-2
-    release-on-requires
-    enum-told
-    slice-aggregate-tick-on
-    slice-aggregate-tick-on-2
-    tick-on-requires
-    returns-2
-    returns-3
-    returns-4)
+    (λ c κs. search needs) (λ c. search needs) (λ c. search needs) (λ c κs. search needs) (λ c. search needs) (λ c. search needs)
+    passes-requires (λ c κs. search needs) returns (λ c. search needs) (λ c. search needs) request-on-requires (λ c. search needs)
+    (λ c. search needs) (λ c. search needs) release-on-requires (λ c. search needs) (λ c. search needs) (λ c. search needs)
+    tick-on-requires returns-2 returns-3 returns-4)

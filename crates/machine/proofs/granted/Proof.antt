@@ -14,24 +14,6 @@ returns : tie.Need-returns
 unfolding grantedTold
 returns c = rw (eq-eqb _ _ (c .if1 .taken))
 
-array-read-k : tie.Need-array-read-k
-array-read-k c = search needs
-
-mul-first : tie.Need-mul-first
-mul-first c = search needs
-
-wide-requires : tie.Need-wide-requires
-wide-requires c κs = search needs
-
-add-first : tie.Need-add-first
-add-first c = search needs
-
-mul-first-2 : tie.Need-mul-first-2
-mul-first-2 c = search needs
-
-cast-first : tie.Need-cast-first
-cast-first c = search needs
-
 add-first-2 : tie.Need-add-first-2
 add-first-2 c =
     let a = c .before .before .before .before .before .before in
@@ -43,9 +25,6 @@ shared-slice-read-first c =
     let a = c .before .before .before .before .before .before .before in
     let head = a .pre .3 (omega (arith, c .before .before .before .if1 .left)) in
     omega (arith, head .placed, a .pre .1, a .pre .2, c .before .wide .ensures .0, flag-low (eqb (slot (a .args .line) 0) (a .args .gone)))
-
-wide-requires-2 : tie.Need-wide-requires-2
-wide-requires-2 c κs = search needs
 
 sub-task : tie.Need-sub-task
 sub-task c =
@@ -70,16 +49,5 @@ pub granted-spec : {M : Type 1} → statement M
 granted-spec =
     tie.close
     (tie.spec
-    returns
-    array-read-k
-    mul-first
-    wide-requires
-    add-first
-    mul-first-2
-    cast-first
-    add-first-2
-    shared-slice-read-first
-    wide-requires-2
-    sub-task
-    task-requires
-    returns-2)
+    returns (λ c. search needs) (λ c. search needs) (λ c κs. search needs) (λ c. search needs) (λ c. search needs)
+    (λ c. search needs) add-first-2 shared-slice-read-first (λ c κs. search needs) sub-task task-requires returns-2)

@@ -40,15 +40,6 @@ passed c =
       resource = omega (arith, c .if2 .left, n .2);
     }
 
-counts-requires : tie.Need-counts-requires
-counts-requires c κs = search needs
-
-task-number-requires : tie.Need-task-number-requires
-task-number-requires c κs = search needs
-
-wide-requires : tie.Need-wide-requires
-wide-requires c κs = search needs
-
 returns : tie.Need-returns
 returns c =
     let a = c .before .before .before .before .before .before .args in
@@ -67,44 +58,17 @@ returns-2 c =
     let r : planOf (a .file .now) .resources ≤ a .q = omega (arith, c .if2 .taken, n .2) in
     release-past _ _ _ _ l r
 
-mul-line : tie.Need-mul-line
-mul-line c = search needs
-
 element-copy-out-line : tie.Need-element-copy-out-line
 element-copy-out-line c = let a = passed c in omega (arith, a .resource, a .valid .resources)
 
 returns-3 : tie.Need-returns-3
 returns-3 c = release-free (passed (c .before .before .before)) (c .if3 .taken)
 
-wide-requires-2 : tie.Need-wide-requires-2
-wide-requires-2 c κs = search needs
-
-mul-first : tie.Need-mul-first
-mul-first c = search needs
-
-array-read-wide : tie.Need-array-read-wide
-array-read-wide c = search needs
-
-wide-requires-3 : tie.Need-wide-requires-3
-wide-requires-3 c κs = search needs
-
-add-first : tie.Need-add-first
-add-first c = search needs
-
-mul-first-2 : tie.Need-mul-first-2
-mul-first-2 c = search needs
-
 shared-slice-read-first : tie.Need-shared-slice-read-first
 shared-slice-read-first c =
     let a = passed (c .before .before .before .before .before .before .before) in
     let l = head-seat a (c .before .before .before .before .if3 .left) in
     omega (arith, l, c .before .before .wide2 .ensures .0, c .before .wide3 .ensures .0, a .seats-at .long)
-
-wide-requires-4 : tie.Need-wide-requires-4
-wide-requires-4 c κs = search needs
-
-add-if4 : tie.Need-add-if4
-add-if4 c = search needs
 
 returns-4 : tie.Need-returns-4
 returns-4 c =
@@ -124,22 +88,7 @@ pub release-code-spec : {M : Type 1} → statement M
 release-code-spec =
     tie.close
     (tie.spec
-    counts-requires
-    task-number-requires
-    wide-requires
-    returns
-    returns-2
-    mul-line
-    element-copy-out-line
-    returns-3
-    wide-requires-2
-    mul-first
-    array-read-wide
-    wide-requires-3
-    add-first
-    mul-first-2
-    shared-slice-read-first
-    wide-requires-4
-    add-if4
-    returns-4
+    (λ c κs. search needs) (λ c κs. search needs) (λ c κs. search needs) returns returns-2 (λ c. search needs)
+    element-copy-out-line returns-3 (λ c κs. search needs) (λ c. search needs) (λ c. search needs) (λ c κs. search needs)
+    (λ c. search needs) (λ c. search needs) shared-slice-read-first (λ c κs. search needs) (λ c. search needs) returns-4
     returns-5)

@@ -50,22 +50,10 @@ right c =
       copy = c .wide .ensures .0;
     }
 
-release-code-requires : tie.Need-release-code-requires
-release-code-requires c κs = search needs
-
-refuse-requires : tie.Need-refuse-requires
-refuse-requires c κs = search needs
-
 returns : tie.Need-returns
 returns c =
     let p = c .before .before .before .before .before .before .before .before .pre in
     rw (c .refuse .ensures) (free-refused _ _ _ _ (p .5) (c .before .before .release-code .ensures) (c .before .if1 .taken))
-
-wide-requires : tie.Need-wide-requires
-wide-requires c κs = search needs
-
-mul-line : tie.Need-mul-line
-mul-line c = search needs
 
 element-copy-out-line : tie.Need-element-copy-out-line
 element-copy-out-line c = free-low (right c)
@@ -73,14 +61,8 @@ element-copy-out-line c = free-low (right c)
 leave-requires : tie.Need-leave-requires
 leave-requires c κs = free-ready (right (c .before .before))
 
-mul-after : tie.Need-mul-after
-mul-after c = search needs
-
 element-copy-out-after : tie.Need-element-copy-out-after
 element-copy-out-after c = free-low (right (c .before .before .before))
-
-array-read-granted : tie.Need-array-read-granted
-array-read-granted c = search needs
 
 granted-requires : tie.Need-granted-requires
 granted-requires c κs =
@@ -95,15 +77,5 @@ pub release-on-spec : {M : Type 1} → statement M
 release-on-spec =
     tie.close
     (tie.spec
-    release-code-requires
-    refuse-requires
-    returns
-    wide-requires
-    mul-line
-    element-copy-out-line
-    leave-requires
-    mul-after
-    element-copy-out-after
-    array-read-granted
-    granted-requires
-    returns-2)
+    (λ c κs. search needs) (λ c κs. search needs) returns (λ c κs. search needs) (λ c. search needs) element-copy-out-line
+    leave-requires (λ c. search needs) element-copy-out-after (λ c. search needs) granted-requires returns-2)

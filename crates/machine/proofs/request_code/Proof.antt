@@ -30,32 +30,11 @@ hold c =
     cell-at _ _ (start c .pre .1) (c .wide2 .ensures .0) (omega (arith, valid c .tasks)) (omega (arith, valid c .resources))
 
 -- ── the needs ──
-counts-requires : tie.Need-counts-requires
-counts-requires c κs = search needs
-
-task-number-requires : tie.Need-task-number-requires
-task-number-requires c κs = search needs
-
-wide-requires : tie.Need-wide-requires
-wide-requires c κs = search needs
-
 returns : tie.Need-returns
 returns c = request-11 _ _ _ _ (c .before .before .task-number .ensures) (omega arith)
 
 returns-2 : tie.Need-returns-2
 returns-2 c = request-12 _ _ _ _ (c .before .before .before .before .task-number .ensures) (omega arith) (omega arith)
-
-mul-if3 : tie.Need-mul-if3
-mul-if3 c = search needs
-
-wide-requires-2 : tie.Need-wide-requires-2
-wide-requires-2 c κs = search needs
-
-add-if3 : tie.Need-add-if3
-add-if3 c = search needs
-
-mul-if3-2 : tie.Need-mul-if3-2
-mul-if3-2 c = search needs
 
 shared-slice-read-if3 : tie.Need-shared-slice-read-if3
 shared-slice-read-if3 c =
@@ -69,9 +48,6 @@ returns-3 : tie.Need-returns-3
 returns-3 c =
     let h = c .sharing-code .ensures in
     request-share _ _ _ _ (found (c .before .before .before) .task-number .ensures) (omega arith) (omega arith) (h .0) (h .1)
-
-mul-standing : tie.Need-mul-standing
-mul-standing c = search needs
 
 element-copy-out-standing : tie.Need-element-copy-out-standing
 element-copy-out-standing c = omega (arith, valid (c .before .before) .tasks)
@@ -92,19 +68,6 @@ pub request-code-spec : {M : Type 1} → statement M
 request-code-spec =
     tie.close
     (tie.spec
-    counts-requires
-    task-number-requires
-    wide-requires
-    returns
-    returns-2
-    mul-if3
-    wide-requires-2
-    add-if3
-    mul-if3-2
-    shared-slice-read-if3
-    sharing-code-requires
-    returns-3
-    mul-standing
-    element-copy-out-standing
-    returns-4
-    returns-5)
+    (λ c κs. search needs) (λ c κs. search needs) (λ c κs. search needs) returns returns-2 (λ c. search needs)
+    (λ c κs. search needs) (λ c. search needs) (λ c. search needs) shared-slice-read-if3 sharing-code-requires returns-3
+    (λ c. search needs) element-copy-out-standing returns-4 returns-5)

@@ -79,33 +79,18 @@ named c =
     }
 
 -- ── the needs ──
-request-code-requires : tie.Need-request-code-requires
-request-code-requires c κs = search needs
-
-refuse-requires : tie.Need-refuse-requires
-refuse-requires c κs = search needs
-
 returns : tie.Need-returns
 returns c =
     let a = c .before .before .before .before .before .before .before in
     rw (c .refuse .ensures) (ask-refused (plan a) (valid a) _ (a .pre .4) _ _ (c .before .before .request-code .ensures) (c .before .if1 .taken))
 
-task-number-requires : tie.Need-task-number-requires
-task-number-requires c κs = search needs
-
 task-requires : tie.Need-task-requires
 task-requires c κs = (start c .pre .0, free c .task)
-
-wide-requires : tie.Need-wide-requires
-wide-requires c κs = search needs
 
 ahead-of-requires : tie.Need-ahead-of-requires
 ahead-of-requires c κs =
     let a = start (c .before .before) in
     (a .pre .1 .long, a .pre .3 .long, low-resource c, low-core (c .before), a .pre .3 .low)
-
-mul-held : tie.Need-mul-held
-mul-held c = search needs
 
 element-copy-out-held : tie.Need-element-copy-out-held
 element-copy-out-held c = low-resource (c .before)
@@ -123,18 +108,6 @@ shared-slice-read-hold : tie.Need-shared-slice-read-hold
 shared-slice-read-hold c =
     let t = c .before .before .before .before .before in
     omega (arith, low-resource (c .before .before .before), low-task t, start t .pre .1 .long)
-
-wide-requires-2 : tie.Need-wide-requires-2
-wide-requires-2 c κs = search needs
-
-mul-budget : tie.Need-mul-budget
-mul-budget c = search needs
-
-add-budget : tie.Need-add-budget
-add-budget c = search needs
-
-mul-budget-2 : tie.Need-mul-budget-2
-mul-budget-2 c = search needs
 
 shared-slice-read-budget : tie.Need-shared-slice-read-budget
 shared-slice-read-budget c =
@@ -158,12 +131,6 @@ wait-in-requires c κs =
     let m = c .before .before .before .before in
     (start (found m) .pre .0, start (found m) .pre .2, low-resource (counted m .before))
 
-cast-t34 : tie.Need-cast-t34
-cast-t34 c = search needs
-
-add-t35 : tie.Need-add-t35
-add-t35 c = search needs
-
 mul-t36 : tie.Need-mul-t36
 mul-t36 c =
     let n = counted (c .before .before .before .before .before .before) in
@@ -185,29 +152,7 @@ pub request-on-spec : {M : Type 1} → statement M
 request-on-spec =
     tie.close
     (tie.spec
-    request-code-requires
-    refuse-requires
-    returns
-    task-number-requires
-    task-requires
-    wide-requires
-    ahead-of-requires
-    mul-held
-    element-copy-out-held
-    mul-hold
-    add-hold
-    mul-hold-2
-    shared-slice-read-hold
-    wide-requires-2
-    mul-budget
-    add-budget
-    mul-budget-2
-    shared-slice-read-budget
-    join-requires
-    returns-2
-    wait-in-requires
-    cast-t34
-    add-t35
-    mul-t36
-    add-t37
-    returns-3)
+    (λ c κs. search needs) (λ c κs. search needs) returns (λ c κs. search needs) task-requires (λ c κs. search needs)
+    ahead-of-requires (λ c. search needs) element-copy-out-held mul-hold add-hold mul-hold-2 shared-slice-read-hold
+    (λ c κs. search needs) (λ c. search needs) (λ c. search needs) (λ c. search needs) shared-slice-read-budget join-requires
+    returns-2 wait-in-requires (λ c. search needs) (λ c. search needs) mul-t36 add-t37 returns-3)

@@ -23,30 +23,6 @@ loop-holds : tie.Need-loop-holds Inv-loop μ-loop
 unfolding lengthRowsOk lengthRows allBelow placedBelow sumBelow
 loop-holds c = (omega arith, refl, refl, refl, omega arith)
 
-resource-at-requires : tie.Need-resource-at-requires Inv-loop μ-loop
-resource-at-requires c κs = omega arith
-
-mul-lengths : tie.Need-mul-lengths Inv-loop μ-loop
-mul-lengths c = omega arith
-
-add-lengths : tie.Need-add-lengths Inv-loop μ-loop
-add-lengths c = omega arith
-
-shared-slice-read-lengths : tie.Need-shared-slice-read-lengths Inv-loop μ-loop
-shared-slice-read-lengths c = omega arith
-
-array-write-lengths : tie.Need-array-write-lengths Inv-loop μ-loop
-array-write-lengths c = omega arith
-
-add-end : tie.Need-add-end Inv-loop μ-loop
-add-end c = omega arith
-
-add-i : tie.Need-add-i Inv-loop μ-loop
-add-i c = omega arith
-
-loop-less : tie.Need-loop-less Inv-loop μ-loop
-loop-less c = omega arith
-
 loop-again : tie.Need-loop-again Inv-loop μ-loop
 unfolding lengthRowsOk lengthRows
 loop-again c = (omega arith, all-step _ _ (c .before .before .before .before .before .before .loop .inv .1) (rw (c .before .before .before .before .resource-at .ensures .0, c .before .before .before .before .resource-at .ensures .4, c .before .before .before .before .before .before .loop .inv .3)), placed-step _ _ _ (c .before .before .before .before .before .before .loop .inv .2) (sym (length-field _ _)), sum-step _ _ (c .before .before .before .before .before .before .loop .inv .3) (c .before .before .before .before .resource-at .ensures .2), omega arith)
@@ -59,16 +35,5 @@ pub load-lengths-spec : {M : Type 1} → statement M
 load-lengths-spec =
     tie.close
     (tie.spec
-    Inv-loop
-    μ-loop
-    loop-holds
-    resource-at-requires
-    mul-lengths
-    add-lengths
-    shared-slice-read-lengths
-    array-write-lengths
-    add-end
-    add-i
-    loop-less
-    loop-again
-    returns)
+    Inv-loop μ-loop loop-holds (λ c κs. omega arith) (λ c. omega arith) (λ c. omega arith) (λ c. omega arith) (λ c. omega arith)
+    (λ c. omega arith) (λ c. omega arith) (λ c. omega arith) loop-again returns)

@@ -15,27 +15,9 @@ Inv-loop part s rows₀ i₀ rows i = (i ≤ s) × (rows ≡ sectionRows i part)
 abbrev μ-loop : tie.MeasureT-loop
 μ-loop part s rows₀ i₀ rows i = s - i
 
-no-section-requires : tie.Need-no-section-requires Inv-loop μ-loop
-no-section-requires c κs = search needs
-
 loop-holds : tie.Need-loop-holds Inv-loop μ-loop
 unfolding sectionRows placedBelow
 loop-holds c = (omega arith, rw (c .no-section .ensures))
-
-section-at-requires : tie.Need-section-at-requires Inv-loop μ-loop
-section-at-requires c κs = omega arith
-
-mul-rows : tie.Need-mul-rows Inv-loop μ-loop
-mul-rows c = omega arith
-
-array-set-from-rows : tie.Need-array-set-from-rows Inv-loop μ-loop
-array-set-from-rows c = omega arith
-
-add-i : tie.Need-add-i Inv-loop μ-loop
-add-i c = omega arith
-
-loop-less : tie.Need-loop-less Inv-loop μ-loop
-loop-less c = omega arith
 
 loop-again : tie.Need-loop-again Inv-loop μ-loop
 unfolding sectionRows
@@ -49,14 +31,5 @@ pub load-sections-spec : {M : Type 1} → statement M
 load-sections-spec =
     tie.close
     (tie.spec
-    Inv-loop
-    μ-loop
-    no-section-requires
-    loop-holds
-    section-at-requires
-    mul-rows
-    array-set-from-rows
-    add-i
-    loop-less
-    loop-again
-    returns)
+    Inv-loop μ-loop (λ c κs. search needs) loop-holds (λ c κs. omega arith) (λ c. omega arith) (λ c. omega arith)
+    (λ c. omega arith) (λ c. omega arith) loop-again returns)

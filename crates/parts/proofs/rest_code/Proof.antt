@@ -19,9 +19,6 @@ names-read c =
     let l = c .before .before .before .before in
     rw (l .load-lengths .ensures .1, l .before .wide .ensures .0) at (c .names-ok .ensures)
 
-wide-requires : tie.Need-wide-requires
-wide-requires c κs = search needs
-
 load-lengths-requires : tie.Need-load-lengths-requires
 load-lengths-requires c κs =
     let f = counts-facts (c .before .before .before .before .before .args .c) (c .before .before .before .before .before .pre .0) in
@@ -40,9 +37,6 @@ returns-2 c =
     let u = c .before in
     sym (names-fail _ _ _ _ _ (held (ok-read (c .before .before .before .before .before)) (c .before .before .before .if1 .left)) (failed (names-read u) (c .if2 .taken)))
 
-cast-s : tie.Need-cast-s
-cast-s c = search needs
-
 section-code-requires : tie.Need-section-code-requires
 section-code-requires c κs =
     let f = counts-facts (c .before .before .before .before .before .before .before .before .before .before .before .before .args .c) (c .before .before .before .before .before .before .before .before .before .before .before .before .pre .0) in
@@ -57,11 +51,5 @@ pub rest-code-spec : {M : Type 1} → statement M
 rest-code-spec =
     tie.close
     (tie.spec
-    wide-requires
-    load-lengths-requires
-    returns
-    names-ok-requires
-    returns-2
-    cast-s
-    section-code-requires
+    (λ c κs. search needs) load-lengths-requires returns names-ok-requires returns-2 (λ c. search needs) section-code-requires
     returns-3)

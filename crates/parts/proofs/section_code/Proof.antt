@@ -16,33 +16,12 @@ Inv-loop tasks part s n r sums₀ i₀ sums i = (i ≤ s) × (sums ≡ sumsBelow
 abbrev μ-loop : tie.MeasureT-loop
 μ-loop tasks part s n r sums₀ i₀ sums i = s - i
 
-section-rows-ok-requires : tie.Need-section-rows-ok-requires Inv-loop μ-loop
-section-rows-ok-requires c κs = omega arith
-
 returns : tie.Need-returns Inv-loop μ-loop
 returns c = code-rows _ _ _ _ _ (c .before .section-rows-ok .ensures) (c .if1 .taken)
 
 loop-holds : tie.Need-loop-holds Inv-loop μ-loop
 unfolding gatheredBelow
 loop-holds c = (omega arith, refl)
-
-section-at-requires : tie.Need-section-at-requires Inv-loop μ-loop
-section-at-requires c κs = omega arith
-
-mul-wide : tie.Need-mul-wide Inv-loop μ-loop
-mul-wide c = omega arith
-
-shared-slice-read-wide : tie.Need-shared-slice-read-wide Inv-loop μ-loop
-shared-slice-read-wide c = omega arith
-
-wide-requires : tie.Need-wide-requires Inv-loop μ-loop
-wide-requires c κs = omega arith
-
-cast-sums : tie.Need-cast-sums Inv-loop μ-loop
-cast-sums c = omega arith
-
-mul-sums : tie.Need-mul-sums Inv-loop μ-loop
-mul-sums c = omega arith
 
 array-read-sums : tie.Need-array-read-sums Inv-loop μ-loop
 array-read-sums c = omega arith
@@ -51,27 +30,12 @@ add-sums : tie.Need-add-sums Inv-loop μ-loop
 add-sums c =
     omega (arith, sums-small _ _ _ (λ k. c .before .before .before .before .before .before .before .before .shared-slice-known2 .given k .fits) (c .before .before .before .before .before .loop .inv .1) (array-read-sums c))
 
-array-write-sums : tie.Need-array-write-sums Inv-loop μ-loop
-array-write-sums c = omega arith
-
-add-i : tie.Need-add-i Inv-loop μ-loop
-add-i c = omega arith
-
-loop-less : tie.Need-loop-less Inv-loop μ-loop
-loop-less c = omega arith
-
 loop-again : tie.Need-loop-again Inv-loop μ-loop
 loop-again c =
     let row = c .before .before .before .section-at .ensures in (
       omega arith,
       gathered-step _ _ _ _ (c .before .before .before .before .before .loop .inv .1) (rw (section-fields, c .before .wide .ensures .0)) (rw row),
     )
-
-wide-requires-2 : tie.Need-wide-requires-2 Inv-loop μ-loop
-wide-requires-2 c κs = omega arith
-
-sums-fit-requires : tie.Need-sums-fit-requires Inv-loop μ-loop
-sums-fit-requires c κs = omega arith
 
 returns-2 : tie.Need-returns-2 Inv-loop μ-loop
 returns-2 c =
@@ -87,24 +51,6 @@ pub section-code-spec : {M : Type 1} → statement M
 section-code-spec =
     tie.close
     (tie.spec
-    Inv-loop
-    μ-loop
-    section-rows-ok-requires
-    returns
-    loop-holds
-    section-at-requires
-    mul-wide
-    shared-slice-read-wide
-    wide-requires
-    cast-sums
-    mul-sums
-    array-read-sums
-    add-sums
-    array-write-sums
-    add-i
-    loop-less
-    loop-again
-    wide-requires-2
-    sums-fit-requires
-    returns-2
-    returns-3)
+    Inv-loop μ-loop (λ c κs. omega arith) returns loop-holds (λ c κs. omega arith) (λ c. omega arith) (λ c. omega arith)
+    (λ c κs. omega arith) (λ c. omega arith) (λ c. omega arith) array-read-sums add-sums (λ c. omega arith) (λ c. omega arith)
+    (λ c. omega arith) loop-again (λ c κs. omega arith) (λ c κs. omega arith) returns-2 returns-3)

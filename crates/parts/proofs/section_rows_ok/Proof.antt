@@ -18,18 +18,6 @@ loop-holds : tie.Need-loop-holds Inv-loop μ-loop
 unfolding sectionRowsOk allBelow
 loop-holds c = (omega arith, refl)
 
-section-at-requires : tie.Need-section-at-requires Inv-loop μ-loop
-section-at-requires c κs = omega arith
-
-section-ok-requires : tie.Need-section-ok-requires Inv-loop μ-loop
-section-ok-requires c κs = omega arith
-
-add-i : tie.Need-add-i Inv-loop μ-loop
-add-i c = omega arith
-
-loop-less : tie.Need-loop-less Inv-loop μ-loop
-loop-less c = omega arith
-
 loop-again : tie.Need-loop-again Inv-loop μ-loop
 unfolding sectionRowsOk
 loop-again c = (omega arith, all-step _ _ (c .before .before .before .loop .inv .1) (rw (c .section-ok .ensures, c .before .section-at .ensures)))
@@ -42,12 +30,5 @@ pub section-rows-ok-spec : {M : Type 1} → statement M
 section-rows-ok-spec =
     tie.close
     (tie.spec
-    Inv-loop
-    μ-loop
-    loop-holds
-    section-at-requires
-    section-ok-requires
-    add-i
-    loop-less
-    loop-again
+    Inv-loop μ-loop loop-holds (λ c κs. omega arith) (λ c κs. omega arith) (λ c. omega arith) (λ c. omega arith) loop-again
     returns)

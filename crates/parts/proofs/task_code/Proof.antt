@@ -32,51 +32,6 @@ loop-holds : tie.Need-loop-holds Inv-loop μ-loop
 unfolding taskRowsOk allBelow markedBelow
 loop-holds c = (omega arith, refl, refl, refl, refl)
 
-mul-at : tie.Need-mul-at Inv-loop μ-loop
-mul-at c = omega arith
-
-task-at-requires : tie.Need-task-at-requires Inv-loop μ-loop
-task-at-requires c κs = omega arith
-
-add-wide : tie.Need-add-wide Inv-loop μ-loop
-add-wide c = omega arith
-
-shared-slice-read-wide : tie.Need-shared-slice-read-wide Inv-loop μ-loop
-shared-slice-read-wide c = omega arith
-
-wide-requires : tie.Need-wide-requires Inv-loop μ-loop
-wide-requires c κs = search needs
-
-shared-slice-read-wide-2 : tie.Need-shared-slice-read-wide-2 Inv-loop μ-loop
-shared-slice-read-wide-2 c = omega arith
-
-wide-requires-2 : tie.Need-wide-requires-2 Inv-loop μ-loop
-wide-requires-2 c κs = search needs
-
-mul-place : tie.Need-mul-place Inv-loop μ-loop
-mul-place c = omega arith
-
-add-wide-2 : tie.Need-add-wide-2 Inv-loop μ-loop
-add-wide-2 c = omega arith
-
-shared-slice-read-wide-3 : tie.Need-shared-slice-read-wide-3 Inv-loop μ-loop
-shared-slice-read-wide-3 c = omega arith
-
-wide-requires-3 : tie.Need-wide-requires-3 Inv-loop μ-loop
-wide-requires-3 c κs = search needs
-
-add-place : tie.Need-add-place Inv-loop μ-loop
-add-place c = omega arith
-
-task-ok-requires : tie.Need-task-ok-requires Inv-loop μ-loop
-task-ok-requires c κs = search needs
-
-add-ok : tie.Need-add-ok Inv-loop μ-loop
-add-ok c = omega arith
-
-shared-slice-read-ok : tie.Need-shared-slice-read-ok Inv-loop μ-loop
-shared-slice-read-ok c = omega arith
-
 array-read-fresh : tie.Need-array-read-fresh Inv-loop μ-loop
 array-read-fresh c = omega (arith, c .before .before .before .before .before .before .wide .ensures .1)
 
@@ -88,12 +43,6 @@ array-write-tags c = omega (arith, c .before .before .before .before .before .be
 
 array-write-places : tie.Need-array-write-places Inv-loop μ-loop
 array-write-places c = omega (arith, c .before .before .wide3 .ensures .1)
-
-add-i : tie.Need-add-i Inv-loop μ-loop
-add-i c = omega arith
-
-loop-less : tie.Need-loop-less Inv-loop μ-loop
-loop-less c = omega arith
 
 loop-again : tie.Need-loop-again Inv-loop μ-loop
 unfolding taskRowsOk
@@ -151,31 +100,8 @@ pub task-code-spec : {M : Type 1} → statement M
 task-code-spec =
     tie.close
     (tie.spec
-    Inv-loop
-    μ-loop
-    loop-holds
-    mul-at
-    task-at-requires
-    add-wide
-    shared-slice-read-wide
-    wide-requires
-    shared-slice-read-wide-2
-    wide-requires-2
-    mul-place
-    add-wide-2
-    shared-slice-read-wide-3
-    wide-requires-3
-    add-place
-    task-ok-requires
-    add-ok
-    shared-slice-read-ok
-    array-read-fresh
-    array-read-fresh-2
-    array-write-tags
-    array-write-places
-    add-i
-    loop-less
-    loop-again
-    returns
-    returns-2
+    Inv-loop μ-loop loop-holds (λ c. omega arith) (λ c κs. omega arith) (λ c. omega arith) (λ c. omega arith)
+    (λ c κs. search needs) (λ c. omega arith) (λ c κs. search needs) (λ c. omega arith) (λ c. omega arith) (λ c. omega arith)
+    (λ c κs. search needs) (λ c. omega arith) (λ c κs. search needs) (λ c. omega arith) (λ c. omega arith) array-read-fresh
+    array-read-fresh-2 array-write-tags array-write-places (λ c. omega arith) (λ c. omega arith) loop-again returns returns-2
     returns-3)

@@ -14,32 +14,17 @@ returns : tie.Need-returns
 unfolding headerCode
 returns c = simp (lt-ltb _ _ (c .if1 .taken))
 
-word-at-requires : tie.Need-word-at-requires
-word-at-requires c κs = search needs
-
 returns-2 : tie.Need-returns-2
 unfolding headerCode
 returns-2 c = simp (le-ltb _ _ (c .before .before .if1 .left), ← c .before .word-at .ensures .0, ne-eqb _ _ (c .if2 .taken))
-
-shared-slice-read-if3 : tie.Need-shared-slice-read-if3
-shared-slice-read-if3 c = search needs
 
 returns-3 : tie.Need-returns-3
 unfolding headerCode
 returns-3 c = simp (le-ltb _ _ (c .before .before .before .before .if1 .left), ← c .before .before .before .word-at .ensures .0, eq-eqb _ _ (c .before .before .if2 .left), ne-eqb _ _ (c .if3 .taken))
 
-counts-at-requires : tie.Need-counts-at-requires
-counts-at-requires c κs = search needs
-
-counts-ok-requires : tie.Need-counts-ok-requires
-counts-ok-requires c κs = search needs
-
 returns-4 : tie.Need-returns-4
 unfolding headerCode
 returns-4 c = simp (le-ltb _ _ (c .before .before .before .before .before .before .before .if1 .left), ← c .before .before .before .before .before .before .word-at .ensures .0, eq-eqb _ _ (c .before .before .before .before .before .if2 .left), eq-eqb _ _ (c .before .before .before .if3 .left), failed (c .before .counts-ok .ensures ∙ ap countsOk (c .before .before .counts-at .ensures)) (c .if4 .taken))
-
-offsets-ok-requires : tie.Need-offsets-ok-requires
-offsets-ok-requires c κs = search needs
 
 returns-5 : tie.Need-returns-5
 unfolding headerCode
@@ -53,14 +38,5 @@ pub header-code-spec : {M : Type 1} → statement M
 header-code-spec =
     tie.close
     (tie.spec
-    returns
-    word-at-requires
-    returns-2
-    shared-slice-read-if3
-    returns-3
-    counts-at-requires
-    counts-ok-requires
-    returns-4
-    offsets-ok-requires
-    returns-5
-    returns-6)
+    returns (λ c κs. search needs) returns-2 (λ c. search needs) returns-3 (λ c κs. search needs) (λ c κs. search needs) returns-4
+    (λ c κs. search needs) returns-5 returns-6)

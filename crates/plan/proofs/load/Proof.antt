@@ -10,21 +10,6 @@ use Rattle.plan.proofs.Laws.{header-facts}
 use Rattle.plan.proofs.load.Statement.{statement}
 use Rattle.plan.proofs.load.Tie as tie
 
-wide-requires : tie.Need-wide-requires
-wide-requires c κs = search needs
-
-wide-requires-2 : tie.Need-wide-requires-2
-wide-requires-2 c κs = search needs
-
-cast-s : tie.Need-cast-s
-cast-s c = search needs
-
-resources-at-requires : tie.Need-resources-at-requires
-resources-at-requires c κs = search needs
-
-sections-at-requires : tie.Need-sections-at-requires
-sections-at-requires c κs = search needs
-
 sub-load-lengths : tie.Need-sub-load-lengths
 sub-load-lengths c =
     let a = c .before .before .before .before .before .before in
@@ -39,9 +24,6 @@ part-load-lengths-start c =
     let e = c .before .resources-at .ensures ∙ ap resourcesAt (a .pre .1) in
     omega (arith, h .ends)
 
-part-load-lengths-end : tie.Need-part-load-lengths-end
-part-load-lengths-end c = search needs
-
 load-lengths-requires : tie.Need-load-lengths-requires
 load-lengths-requires c κs =
     let a = c .before .before .before .before .before .before .before in
@@ -55,9 +37,6 @@ sub-load-tasks c = omega (arith, header-facts _ (c .before .before .before .befo
 
 part-load-tasks-start : tie.Need-part-load-tasks-start
 part-load-tasks-start c = omega (arith, header-facts _ (c .before .before .before .before .before .before .before .before .before .pre .0) .long)
-
-part-load-tasks-end : tie.Need-part-load-tasks-end
-part-load-tasks-end c = search needs
 
 load-tasks-requires : tie.Need-load-tasks-requires
 load-tasks-requires c κs =
@@ -80,9 +59,6 @@ part-load-sections-start c =
     let e = c .before .before .before .before .before .sections-at .ensures ∙ ap sectionsAt (a .pre .1) in
     omega (arith, h .ends)
 
-part-load-sections-end : tie.Need-part-load-sections-end
-part-load-sections-end c = search needs
-
 load-sections-requires : tie.Need-load-sections-requires
 load-sections-requires c κs =
     let a = c .before .before .before .before .before .before .before .before .before .before .before .before in
@@ -98,21 +74,7 @@ pub load-spec : {M : Type 1} → statement M
 load-spec =
     tie.close
     (tie.spec
-    wide-requires
-    wide-requires-2
-    cast-s
-    resources-at-requires
-    sections-at-requires
-    sub-load-lengths
-    part-load-lengths-start
-    part-load-lengths-end
-    load-lengths-requires
-    sub-load-tasks
-    part-load-tasks-start
-    part-load-tasks-end
-    load-tasks-requires
-    sub-load-sections
-    part-load-sections-start
-    part-load-sections-end
-    load-sections-requires
+    (λ c κs. search needs) (λ c κs. search needs) (λ c. search needs) (λ c κs. search needs) (λ c κs. search needs)
+    sub-load-lengths part-load-lengths-start (λ c. search needs) load-lengths-requires sub-load-tasks part-load-tasks-start
+    (λ c. search needs) load-tasks-requires sub-load-sections part-load-sections-start (λ c. search needs) load-sections-requires
     returns)

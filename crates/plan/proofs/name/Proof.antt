@@ -7,18 +7,6 @@ use Rattle.plan.proofs.Laws.{name-answered, plan-resources}
 use Rattle.plan.proofs.name.Statement.{statement}
 use Rattle.plan.proofs.name.Tie as tie
 
-name-refusal-requires : tie.Need-name-refusal-requires
-name-refusal-requires c κs = search needs
-
-sub-result : tie.Need-sub-result
-sub-result c = search needs
-
-part-result-start : tie.Need-part-result-start
-part-result-start c = search needs
-
-part-result-end : tie.Need-part-result-end
-part-result-end c = search needs
-
 returns : tie.Need-returns
 unfolding nameOf
 returns c = rw (ne-eqb _ _ (λ e. c .before .if1 .taken (c .before .before .name-refusal .ensures ∙ e)))
@@ -38,10 +26,4 @@ pub name-spec : {M : Type 1} → statement M
 name-spec =
     tie.close
     (tie.spec
-    name-refusal-requires
-    sub-result
-    part-result-start
-    part-result-end
-    returns
-    name-requires
-    returns-2)
+    (λ c κs. search needs) (λ c. search needs) (λ c. search needs) (λ c. search needs) returns name-requires returns-2)

@@ -8,9 +8,6 @@ use Rattle.plan.proofs.Laws.{header-facts}
 use Rattle.plan.proofs.rows_code.Statement.{statement}
 use Rattle.plan.proofs.rows_code.Tie as tie
 
-names-at-requires : tie.Need-names-at-requires
-names-at-requires c κs = search needs
-
 sub-file-code : tie.Need-sub-file-code
 sub-file-code c =
     let h = header-facts _ (c .before .before .pre .0) in
@@ -22,9 +19,6 @@ part-file-code-start c =
     let h = header-facts _ (c .before .before .pre .0) in
     let e = c .names-at .ensures ∙ ap namesAt (c .before .before .pre .1) in
     omega (arith, h .ends)
-
-part-file-code-end : tie.Need-part-file-code-end
-part-file-code-end c = search needs
 
 file-code-requires : tie.Need-file-code-requires
 file-code-requires c κs =
@@ -39,9 +33,4 @@ pub rows-code-spec : {M : Type 1} → statement M
 rows-code-spec =
     tie.close
     (tie.spec
-    names-at-requires
-    sub-file-code
-    part-file-code-start
-    part-file-code-end
-    file-code-requires
-    returns)
+    (λ c κs. search needs) sub-file-code part-file-code-start (λ c. search needs) file-code-requires returns)

@@ -9,24 +9,6 @@ use borrow.Author.Needs.{needs}
 use Rattle.plan_c.proofs.plan_read.Statement.{statement}
 use Rattle.plan_c.proofs.plan_read.Tie as tie
 
-read-requires : tie.Need-read-requires
-read-requires c κs = search needs
-
-enum-known-answer : tie.Need-enum-known-answer
-enum-known-answer c = search needs
-
-last-rows-requires : tie.Need-last-rows-requires
-last-rows-requires c κs = search needs
-
-mul-result : tie.Need-mul-result
-mul-result c = search needs
-
-enum-known-answer-2 : tie.Need-enum-known-answer-2
-enum-known-answer-2 c = search needs
-
-byte-requires : tie.Need-byte-requires
-byte-requires c κs = search needs
-
 returns : tie.Need-returns
 unfolding readNumber
 returns c =
@@ -47,11 +29,5 @@ pub plan-read-spec : {M : Type 1} → statement M
 plan-read-spec =
     tie.close
     (tie.spec
-    read-requires
-    enum-known-answer
-    last-rows-requires
-    mul-result
-    enum-known-answer-2
-    byte-requires
-    returns
-    returns-2)
+    (λ c κs. search needs) (λ c. search needs) (λ c κs. search needs) (λ c. search needs) (λ c. search needs)
+    (λ c κs. search needs) returns returns-2)

@@ -11,38 +11,11 @@ use Rattle.plan_write.proofs.Values.{header-length}
 use Rattle.plan_write.proofs.put_file.Statement.{statement}
 use Rattle.plan_write.proofs.put_file.Tie as tie
 
-resources-at-requires : tie.Need-resources-at-requires
-resources-at-requires c κs = search needs
-
-sections-at-requires : tie.Need-sections-at-requires
-sections-at-requires c κs = search needs
-
-names-at-requires : tie.Need-names-at-requires
-names-at-requires c κs = search needs
-
-cast-s : tie.Need-cast-s
-cast-s c = search needs
-
-add-put-header : tie.Need-add-put-header
-add-put-header c = search needs
-
 put-header-requires : tie.Need-put-header-requires
 put-header-requires c κs =
     let a = c .before .before .before .before .before .before .before .before .before .before in
     let g = counts-facts (a .args .c) (a .pre .0) in
     (omega arith, omega arith, a .pre .0)
-
-sub-put-tasks : tie.Need-sub-put-tasks
-sub-put-tasks c = search needs
-
-part-put-tasks-start : tie.Need-part-put-tasks-start
-part-put-tasks-start c = search needs
-
-part-put-tasks-end : tie.Need-part-put-tasks-end
-part-put-tasks-end c = search needs
-
-wide-requires : tie.Need-wide-requires
-wide-requires c κs = search needs
 
 put-tasks-requires : tie.Need-put-tasks-requires
 put-tasks-requires c κs =
@@ -50,32 +23,11 @@ put-tasks-requires c κs =
     let g = counts-facts (a .args .c) (a .pre .0) in
     (omega arith, simp (length-take, length-drop) (omega arith), rw (c .wide .ensures .0) (a .pre .1))
 
-sub-put-resources : tie.Need-sub-put-resources
-sub-put-resources c = search needs
-
-part-put-resources-start : tie.Need-part-put-resources-start
-part-put-resources-start c = search needs
-
-part-put-resources-end : tie.Need-part-put-resources-end
-part-put-resources-end c = search needs
-
-wide-requires-2 : tie.Need-wide-requires-2
-wide-requires-2 c κs = search needs
-
 put-resources-requires : tie.Need-put-resources-requires
 put-resources-requires c κs =
     let a = c .before .before .before .before .before .before .before .before .before .before .before .before .before .before .before .before .before .before .before .before in
     let g = counts-facts (a .args .c) (a .pre .0) in
     (omega arith, search needs)
-
-sub-put-sections : tie.Need-sub-put-sections
-sub-put-sections c = search needs
-
-part-put-sections-start : tie.Need-part-put-sections-start
-part-put-sections-start c = search needs
-
-part-put-sections-end : tie.Need-part-put-sections-end
-part-put-sections-end c = search needs
 
 put-sections-requires : tie.Need-put-sections-requires
 put-sections-requires c κs =
@@ -83,21 +35,6 @@ put-sections-requires c κs =
     let a = c .before .before .before .before .before .before .before .before .before .before .before .before .before .before .before .before .before .before .before .before .before .before .before .before in
     let g = counts-facts (a .args .c) (a .pre .0) in
     (omega arith, omega (arith, a .pre .2))
-
-sub-put-names : tie.Need-sub-put-names
-sub-put-names c = search needs
-
-part-put-names-start : tie.Need-part-put-names-start
-part-put-names-start c = search needs
-
-part-put-names-end : tie.Need-part-put-names-end
-part-put-names-end c = search needs
-
-put-names-requires : tie.Need-put-names-requires
-put-names-requires c κs = search needs
-
-same-length : tie.Need-same-length
-same-length c = omega arith
 
 returns : tie.Need-returns
 unfolding fileOf
@@ -129,29 +66,8 @@ pub put-file-spec : {M : Type 1} → statement M
 put-file-spec =
     tie.close
     (tie.spec
-    resources-at-requires
-    sections-at-requires
-    names-at-requires
-    cast-s
-    add-put-header
-    put-header-requires
-    sub-put-tasks
-    part-put-tasks-start
-    part-put-tasks-end
-    wide-requires
-    put-tasks-requires
-    sub-put-resources
-    part-put-resources-start
-    part-put-resources-end
-    wide-requires-2
-    put-resources-requires
-    sub-put-sections
-    part-put-sections-start
-    part-put-sections-end
-    put-sections-requires
-    sub-put-names
-    part-put-names-start
-    part-put-names-end
-    put-names-requires
-    same-length
-    returns)
+    (λ c κs. search needs) (λ c κs. search needs) (λ c κs. search needs) (λ c. search needs) (λ c. search needs)
+    put-header-requires (λ c. search needs) (λ c. search needs) (λ c. search needs) (λ c κs. search needs) put-tasks-requires
+    (λ c. search needs) (λ c. search needs) (λ c. search needs) (λ c κs. search needs) put-resources-requires (λ c. search needs)
+    (λ c. search needs) (λ c. search needs) put-sections-requires (λ c. search needs) (λ c. search needs) (λ c. search needs)
+    (λ c κs. search needs) (λ c. omega arith) returns)

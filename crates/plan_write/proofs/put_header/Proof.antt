@@ -9,21 +9,6 @@ use Rattle.plan_write.specs.Encode.{headerBytes}
 use Rattle.plan_write.proofs.put_header.Statement.{statement}
 use Rattle.plan_write.proofs.put_header.Tie as tie
 
-cast-sections : tie.Need-cast-sections
-cast-sections c = search needs
-
-resources-at-requires : tie.Need-resources-at-requires
-resources-at-requires c κs = search needs
-
-sections-at-requires : tie.Need-sections-at-requires
-sections-at-requires c κs = search needs
-
-names-at-requires : tie.Need-names-at-requires
-names-at-requires c κs = search needs
-
-slice-write-buf : tie.Need-slice-write-buf
-slice-write-buf c = search needs
-
 slice-write-buf-2 : tie.Need-slice-write-buf-2
 slice-write-buf-2 c = simp length-set (omega arith)
 
@@ -33,14 +18,8 @@ slice-write-buf-3 c = simp length-set (omega arith)
 slice-write-buf-4 : tie.Need-slice-write-buf-4
 slice-write-buf-4 c = simp length-set (omega arith)
 
-low-requires : tie.Need-low-requires
-low-requires c κs = search needs
-
 slice-write-buf-5 : tie.Need-slice-write-buf-5
 slice-write-buf-5 c = simp length-set (omega arith)
-
-high-requires : tie.Need-high-requires
-high-requires c κs = search needs
 
 slice-write-buf-6 : tie.Need-slice-write-buf-6
 slice-write-buf-6 c = simp length-set (omega arith)
@@ -51,32 +30,17 @@ slice-write-buf-7 c = simp length-set (omega arith)
 slice-write-buf-8 : tie.Need-slice-write-buf-8
 slice-write-buf-8 c = simp length-set (omega arith)
 
-low-requires-2 : tie.Need-low-requires-2
-low-requires-2 c κs = search needs
-
 slice-write-buf-9 : tie.Need-slice-write-buf-9
 slice-write-buf-9 c = simp length-set (omega arith)
-
-high-requires-2 : tie.Need-high-requires-2
-high-requires-2 c κs = search needs
 
 slice-write-buf-10 : tie.Need-slice-write-buf-10
 slice-write-buf-10 c = simp length-set (omega arith)
 
-low-requires-3 : tie.Need-low-requires-3
-low-requires-3 c κs = search needs
-
 slice-write-buf-11 : tie.Need-slice-write-buf-11
 slice-write-buf-11 c = simp length-set (omega arith)
 
-high-requires-3 : tie.Need-high-requires-3
-high-requires-3 c κs = search needs
-
 slice-write-buf-12 : tie.Need-slice-write-buf-12
 slice-write-buf-12 c = simp length-set (omega arith)
-
-low-requires-4 : tie.Need-low-requires-4
-low-requires-4 c κs = search needs
 
 slice-write-buf-13 : tie.Need-slice-write-buf-13
 slice-write-buf-13 c = simp length-set (omega arith)
@@ -91,14 +55,8 @@ high-requires-4 c κs =
 slice-write-buf-14 : tie.Need-slice-write-buf-14
 slice-write-buf-14 c = simp length-set (omega arith)
 
-low-requires-5 : tie.Need-low-requires-5
-low-requires-5 c κs = search needs
-
 slice-write-buf-15 : tie.Need-slice-write-buf-15
 slice-write-buf-15 c = simp length-set (omega arith)
-
-high-requires-5 : tie.Need-high-requires-5
-high-requires-5 c κs = search needs
 
 slice-write-buf-16 : tie.Need-slice-write-buf-16
 slice-write-buf-16 c = simp length-set (omega arith)
@@ -134,35 +92,9 @@ pub put-header-spec : {M : Type 1} → statement M
 put-header-spec =
     tie.close
     (tie.spec
-    cast-sections
-    resources-at-requires
-    sections-at-requires
-    names-at-requires
-    slice-write-buf
-    slice-write-buf-2
-    slice-write-buf-3
-    slice-write-buf-4
-    low-requires
-    slice-write-buf-5
-    high-requires
-    slice-write-buf-6
-    slice-write-buf-7
-    slice-write-buf-8
-    low-requires-2
-    slice-write-buf-9
-    high-requires-2
-    slice-write-buf-10
-    low-requires-3
-    slice-write-buf-11
-    high-requires-3
-    slice-write-buf-12
-    low-requires-4
-    slice-write-buf-13
-    high-requires-4
-    slice-write-buf-14
-    low-requires-5
-    slice-write-buf-15
-    high-requires-5
-    slice-write-buf-16
-    same-length
-    returns)
+    (λ c. search needs) (λ c κs. search needs) (λ c κs. search needs) (λ c κs. search needs) (λ c. search needs) slice-write-buf-2
+    slice-write-buf-3 slice-write-buf-4 (λ c κs. search needs) slice-write-buf-5 (λ c κs. search needs) slice-write-buf-6
+    slice-write-buf-7 slice-write-buf-8 (λ c κs. search needs) slice-write-buf-9 (λ c κs. search needs) slice-write-buf-10
+    (λ c κs. search needs) slice-write-buf-11 (λ c κs. search needs) slice-write-buf-12 (λ c κs. search needs) slice-write-buf-13
+    high-requires-4 slice-write-buf-14 (λ c κs. search needs) slice-write-buf-15 (λ c κs. search needs) slice-write-buf-16
+    same-length returns)

@@ -9,26 +9,11 @@ use Rattle.parts.specs.Layout.{resourceWidths}
 use Rattle.plan_write.proofs.put_resource.Statement.{statement}
 use Rattle.plan_write.proofs.put_resource.Tie as tie
 
-low-requires : tie.Need-low-requires
-low-requires c κs = search needs
-
-slice-write-buf : tie.Need-slice-write-buf
-slice-write-buf c = search needs
-
-high-requires : tie.Need-high-requires
-high-requires c κs = search needs
-
 slice-write-buf-2 : tie.Need-slice-write-buf-2
 slice-write-buf-2 c = simp length-set (omega arith)
 
 slice-write-buf-3 : tie.Need-slice-write-buf-3
 slice-write-buf-3 c = simp length-set (omega arith)
-
-slice-write-buf-4 : tie.Need-slice-write-buf-4
-slice-write-buf-4 c = search needs
-
-same-length : tie.Need-same-length
-same-length c = search needs
 
 returns : tie.Need-returns
 unfolding rowBytes digits
@@ -40,11 +25,5 @@ pub put-resource-spec : {M : Type 1} → statement M
 put-resource-spec =
     tie.close
     (tie.spec
-    low-requires
-    slice-write-buf
-    high-requires
-    slice-write-buf-2
-    slice-write-buf-3
-    slice-write-buf-4
-    same-length
-    returns)
+    (λ c κs. search needs) (λ c. search needs) (λ c κs. search needs) slice-write-buf-2 slice-write-buf-3 (λ c. search needs)
+    (λ c. search needs) returns)

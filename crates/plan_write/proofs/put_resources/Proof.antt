@@ -22,35 +22,8 @@ loop-holds : tie.Need-loop-holds Inv-loop μ-loop
 unfolding bytesBelow sumBelow
 loop-holds c = (omega arith, put-front refl refl (omega arith), refl, omega arith)
 
-array-read-len : tie.Need-array-read-len Inv-loop μ-loop
-array-read-len c = omega arith
-
-mul-at : tie.Need-mul-at Inv-loop μ-loop
-mul-at c = omega arith
-
-sub-put-resource : tie.Need-sub-put-resource Inv-loop μ-loop
-sub-put-resource c = omega arith
-
-part-put-resource-start : tie.Need-part-put-resource-start Inv-loop μ-loop
-part-put-resource-start c = omega arith
-
-part-put-resource-end : tie.Need-part-put-resource-end Inv-loop μ-loop
-part-put-resource-end c = omega arith
-
 put-resource-requires : tie.Need-put-resource-requires Inv-loop μ-loop
 put-resource-requires c κs = (simp (length-take, length-drop) (omega arith), omega arith)
-
-wide-requires : tie.Need-wide-requires Inv-loop μ-loop
-wide-requires c κs = omega arith
-
-add-start : tie.Need-add-start Inv-loop μ-loop
-add-start c = omega arith
-
-add-i : tie.Need-add-i Inv-loop μ-loop
-add-i c = omega arith
-
-loop-less : tie.Need-loop-less Inv-loop μ-loop
-loop-less c = omega arith
 
 loop-again : tie.Need-loop-again Inv-loop μ-loop
 unfolding resourceBytes
@@ -74,19 +47,6 @@ pub put-resources-spec : {M : Type 1} → statement M
 put-resources-spec =
     tie.close
     (tie.spec
-    Inv-loop
-    μ-loop
-    loop-holds
-    array-read-len
-    mul-at
-    sub-put-resource
-    part-put-resource-start
-    part-put-resource-end
-    put-resource-requires
-    wide-requires
-    add-start
-    add-i
-    loop-less
-    loop-again
-    same-length
+    Inv-loop μ-loop loop-holds (λ c. omega arith) (λ c. omega arith) (λ c. omega arith) (λ c. omega arith) (λ c. omega arith)
+    put-resource-requires (λ c κs. omega arith) (λ c. omega arith) (λ c. omega arith) (λ c. omega arith) loop-again same-length
     returns)

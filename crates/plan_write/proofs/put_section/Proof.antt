@@ -9,29 +9,11 @@ use Rattle.plan_write.specs.Encode.{sectionNumbers}
 use Rattle.plan_write.proofs.put_section.Statement.{statement}
 use Rattle.plan_write.proofs.put_section.Tie as tie
 
-cast-ticks : tie.Need-cast-ticks
-cast-ticks c = search needs
-
-slice-write-buf : tie.Need-slice-write-buf
-slice-write-buf c = search needs
-
 slice-write-buf-2 : tie.Need-slice-write-buf-2
 slice-write-buf-2 c = simp length-set (omega arith)
 
-low-requires : tie.Need-low-requires
-low-requires c κs = search needs
-
 slice-write-buf-3 : tie.Need-slice-write-buf-3
 slice-write-buf-3 c = simp length-set (omega arith)
-
-high-requires : tie.Need-high-requires
-high-requires c κs = search needs
-
-slice-write-buf-4 : tie.Need-slice-write-buf-4
-slice-write-buf-4 c = search needs
-
-same-length : tie.Need-same-length
-same-length c = search needs
 
 returns : tie.Need-returns
 unfolding rowBytes digits
@@ -43,12 +25,5 @@ pub put-section-spec : {M : Type 1} → statement M
 put-section-spec =
     tie.close
     (tie.spec
-    cast-ticks
-    slice-write-buf
-    slice-write-buf-2
-    low-requires
-    slice-write-buf-3
-    high-requires
-    slice-write-buf-4
-    same-length
-    returns)
+    (λ c. search needs) (λ c. search needs) slice-write-buf-2 (λ c κs. search needs) slice-write-buf-3 (λ c κs. search needs)
+    (λ c. search needs) (λ c. search needs) returns)

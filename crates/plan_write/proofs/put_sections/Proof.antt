@@ -19,32 +19,8 @@ loop-holds : tie.Need-loop-holds Inv-loop μ-loop
 unfolding bytesBelow
 loop-holds c = (omega arith, put-front refl refl (omega arith))
 
-mul-section : tie.Need-mul-section Inv-loop μ-loop
-mul-section c = omega arith
-
-array-copy-out-section : tie.Need-array-copy-out-section Inv-loop μ-loop
-array-copy-out-section c = omega arith
-
-mul-at : tie.Need-mul-at Inv-loop μ-loop
-mul-at c = omega arith
-
-sub-put-section : tie.Need-sub-put-section Inv-loop μ-loop
-sub-put-section c = omega arith
-
-part-put-section-start : tie.Need-part-put-section-start Inv-loop μ-loop
-part-put-section-start c = omega arith
-
-part-put-section-end : tie.Need-part-put-section-end Inv-loop μ-loop
-part-put-section-end c = omega arith
-
 put-section-requires : tie.Need-put-section-requires Inv-loop μ-loop
 put-section-requires c κs = simp (length-take, length-drop) (omega arith)
-
-add-i : tie.Need-add-i Inv-loop μ-loop
-add-i c = omega arith
-
-loop-less : tie.Need-loop-less Inv-loop μ-loop
-loop-less c = omega arith
 
 loop-again : tie.Need-loop-again Inv-loop μ-loop
 unfolding sectionBytes
@@ -63,18 +39,5 @@ pub put-sections-spec : {M : Type 1} → statement M
 put-sections-spec =
     tie.close
     (tie.spec
-    Inv-loop
-    μ-loop
-    loop-holds
-    mul-section
-    array-copy-out-section
-    mul-at
-    sub-put-section
-    part-put-section-start
-    part-put-section-end
-    put-section-requires
-    add-i
-    loop-less
-    loop-again
-    same-length
-    returns)
+    Inv-loop μ-loop loop-holds (λ c. omega arith) (λ c. omega arith) (λ c. omega arith) (λ c. omega arith) (λ c. omega arith)
+    (λ c. omega arith) put-section-requires (λ c. omega arith) (λ c. omega arith) loop-again same-length returns)

@@ -19,34 +19,10 @@ loop-holds : tie.Need-loop-holds Inv-loop μ-loop
 unfolding bytesBelow
 loop-holds c = (omega arith, put-front refl refl (omega arith))
 
-mul-task : tie.Need-mul-task Inv-loop μ-loop
-mul-task c = omega arith
-
-array-copy-out-task : tie.Need-array-copy-out-task Inv-loop μ-loop
-array-copy-out-task c = omega arith
-
-mul-at : tie.Need-mul-at Inv-loop μ-loop
-mul-at c = omega arith
-
-sub-put-task : tie.Need-sub-put-task Inv-loop μ-loop
-sub-put-task c = omega arith
-
-part-put-task-start : tie.Need-part-put-task-start Inv-loop μ-loop
-part-put-task-start c = omega arith
-
-part-put-task-end : tie.Need-part-put-task-end Inv-loop μ-loop
-part-put-task-end c = omega arith
-
 put-task-requires : tie.Need-put-task-requires Inv-loop μ-loop
 put-task-requires c κs =
     let a = c .before .before .before .before .before in
     (simp (length-take, length-drop) (omega arith), omega (arith, tag-at _ _ _ (a .pre .2) (c .before .before .loop-test .taken)))
-
-add-i : tie.Need-add-i Inv-loop μ-loop
-add-i c = omega arith
-
-loop-less : tie.Need-loop-less Inv-loop μ-loop
-loop-less c = omega arith
 
 loop-again : tie.Need-loop-again Inv-loop μ-loop
 unfolding taskBytes
@@ -65,18 +41,5 @@ pub put-tasks-spec : {M : Type 1} → statement M
 put-tasks-spec =
     tie.close
     (tie.spec
-    Inv-loop
-    μ-loop
-    loop-holds
-    mul-task
-    array-copy-out-task
-    mul-at
-    sub-put-task
-    part-put-task-start
-    part-put-task-end
-    put-task-requires
-    add-i
-    loop-less
-    loop-again
-    same-length
-    returns)
+    Inv-loop μ-loop loop-holds (λ c. omega arith) (λ c. omega arith) (λ c. omega arith) (λ c. omega arith) (λ c. omega arith)
+    (λ c. omega arith) put-task-requires (λ c. omega arith) (λ c. omega arith) loop-again same-length returns)

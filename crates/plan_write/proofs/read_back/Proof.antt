@@ -12,38 +12,11 @@ use Rattle.plan_write.proofs.Outcome.{was-written, was-refused, code-cl
 use Rattle.plan_write.proofs.read_back.Statement.{statement}
 use Rattle.plan_write.proofs.read_back.Tie as tie
 
-write-requires : tie.Need-write-requires
-write-requires c κs = search needs
-
-enum-known-answer : tie.Need-enum-known-answer
-enum-known-answer c = search needs
-
-cast-end : tie.Need-cast-end
-cast-end c = search needs
-
-sub-read : tie.Need-sub-read
-sub-read c = search needs
-
-part-read-start : tie.Need-part-read-start
-part-read-start c = search needs
-
 part-read-end : tie.Need-part-read-end
 part-read-end c =
     let w = c .before .before .before .before .before .before .write in
     let k = was-written _ _ _ _ (sym (w .ensures .0) ∙ c .before .before .answer .given .1) in
     omega (arith, k .1, code-clear _ _ _ _ (k .0) .1, w .kept .1 .1 .1 .0)
-
-read-requires : tie.Need-read-requires
-read-requires c κs = search needs
-
-enum-known-answer-2 : tie.Need-enum-known-answer-2
-enum-known-answer-2 c = search needs
-
-refused-requires : tie.Need-refused-requires
-refused-requires c κs = search needs
-
-same-length : tie.Need-same-length
-same-length c = search needs
 
 returns : tie.Need-returns
 returns c =
@@ -53,9 +26,6 @@ returns c =
     let front : take (c .before .before .before .before .answer .given .0 .0 - 0) (w .last .1 .1 .1 .0) ≡ fileOf (a .c) (a .rows) (a .names .now) = rw (sub-zero, k .1, w .ensures .1 .0, wrote _ _ _ _ (k .0) .1) (file-front _ _ _ _) in
     let r = back-same _ _ _ _ _ (c .read .ensures .0) front (k .0) in
     (r, (w .ensures .1 .0, ap (λ (x : Reading). readSaid (x .answer)) r ∙ back-told _ _ _ _))
-
-same-length-2 : tie.Need-same-length-2
-same-length-2 c = search needs
 
 returns-2 : tie.Need-returns-2
 returns-2 c =
@@ -68,16 +38,5 @@ pub read-back-spec : {M : Type 1} → statement M
 read-back-spec =
     tie.close
     (tie.spec
-    write-requires
-    enum-known-answer
-    cast-end
-    sub-read
-    part-read-start
-    part-read-end
-    read-requires
-    enum-known-answer-2
-    refused-requires
-    same-length
-    returns
-    same-length-2
-    returns-2)
+    (λ c κs. search needs) (λ c. search needs) (λ c. search needs) (λ c. search needs) (λ c. search needs) part-read-end
+    (λ c κs. search needs) (λ c. search needs) (λ c κs. search needs) (λ c. search needs) returns (λ c. search needs) returns-2)

@@ -18,18 +18,6 @@ loop-holds : tie.Need-loop-holds Inv-loop μ-loop
 unfolding tagsOk allBelow
 loop-holds c = (omega arith, refl)
 
-mul-task : tie.Need-mul-task Inv-loop μ-loop
-mul-task c = omega arith
-
-array-copy-out-task : tie.Need-array-copy-out-task Inv-loop μ-loop
-array-copy-out-task c = omega arith
-
-add-i : tie.Need-add-i Inv-loop μ-loop
-add-i c = omega arith
-
-loop-less : tie.Need-loop-less Inv-loop μ-loop
-loop-less c = omega arith
-
 loop-again : tie.Need-loop-again Inv-loop μ-loop
 unfolding tagsOk
 loop-again c = (omega arith, all-step _ _ (c .before .before .before .loop .inv .1) refl)
@@ -42,12 +30,4 @@ pub tags-ok-spec : {M : Type 1} → statement M
 tags-ok-spec =
     tie.close
     (tie.spec
-    Inv-loop
-    μ-loop
-    loop-holds
-    mul-task
-    array-copy-out-task
-    add-i
-    loop-less
-    loop-again
-    returns)
+    Inv-loop μ-loop loop-holds (λ c. omega arith) (λ c. omega arith) (λ c. omega arith) (λ c. omega arith) loop-again returns)

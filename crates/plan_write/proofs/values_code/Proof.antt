@@ -8,14 +8,8 @@ use Rattle.plan_write.proofs.Values.{parts-values, values-counts, value
 use Rattle.plan_write.proofs.values_code.Statement.{statement}
 use Rattle.plan_write.proofs.values_code.Tie as tie
 
-counts-ok-requires : tie.Need-counts-ok-requires
-counts-ok-requires c κs = search needs
-
 returns : tie.Need-returns
 returns c = sym (values-counts _ _ _ (failed (c .before .counts-ok .ensures) (c .if1 .taken)))
-
-wide-requires : tie.Need-wide-requires
-wide-requires c κs = search needs
 
 tags-ok-requires : tie.Need-tags-ok-requires
 tags-ok-requires c κs = omega (arith, counts-facts (c .before .before .before .before .before .args .c) (held (c .before .before .before .counts-ok .ensures) (c .before .before .if1 .left)) .tasks)
@@ -25,26 +19,11 @@ returns-2 c =
     let ok = held (c .before .before .before .before .before .counts-ok .ensures) (c .before .before .before .before .if1 .left) in
     sym (values-tags _ _ _ ok (rw (c .before .before .wide .ensures .0) at (failed (c .before .tags-ok .ensures) (c .if2 .taken))))
 
-sub-put-file : tie.Need-sub-put-file
-sub-put-file c = search needs
-
-part-put-file-start : tie.Need-part-put-file-start
-part-put-file-start c = search needs
-
-part-put-file-end : tie.Need-part-put-file-end
-part-put-file-end c = search needs
-
-slice-aggregate-put-file : tie.Need-slice-aggregate-put-file
-slice-aggregate-put-file c = search needs
-
 put-file-requires : tie.Need-put-file-requires
 put-file-requires c κs =
     let ok = held (c .before .before .before .before .before .before .before .counts-ok .ensures) (c .before .before .before .before .before .before .if1 .left) in
     let g = counts-facts (c .before .before .before .before .before .before .before .before .before .args .c) ok in
     (ok, rw (c .before .before .before .before .wide .ensures .0) at (held (c .before .before .before .tags-ok .ensures) (c .before .before .if2 .left)), omega arith, omega arith)
-
-slice-aggregate-file-code : tie.Need-slice-aggregate-file-code
-slice-aggregate-file-code c = search needs
 
 file-code-requires : tie.Need-file-code-requires
 file-code-requires c κs =
@@ -61,16 +40,5 @@ pub values-code-spec : {M : Type 1} → statement M
 values-code-spec =
     tie.close
     (tie.spec
-    counts-ok-requires
-    returns
-    wide-requires
-    tags-ok-requires
-    returns-2
-    sub-put-file
-    part-put-file-start
-    part-put-file-end
-    slice-aggregate-put-file
-    put-file-requires
-    slice-aggregate-file-code
-    file-code-requires
-    returns-3)
+    (λ c κs. search needs) returns (λ c κs. search needs) tags-ok-requires returns-2 (λ c. search needs) (λ c. search needs)
+    (λ c. search needs) (λ c. search needs) put-file-requires (λ c. search needs) file-code-requires returns-3)

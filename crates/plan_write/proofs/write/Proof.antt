@@ -12,20 +12,11 @@ use Rattle.plan_write.proofs.Outcome.{code-values, code-short, code-fit
 use Rattle.plan_write.proofs.write.Statement.{statement}
 use Rattle.plan_write.proofs.write.Tie as tie
 
-values-code-requires : tie.Need-values-code-requires
-values-code-requires c κs = search needs
-
 returns : tie.Need-returns
 returns c =
     let e = code-values _ _ _ _ (c .before .values-code .ensures) (c .if1 .taken) in
     let o = kept-back _ _ _ _ e (c .if1 .taken) in
     (sym (o .0), (sym (o .1), ap told (sym (o .0)) ∙ writing-told _ _ _ _))
-
-names-at-requires : tie.Need-names-at-requires
-names-at-requires c κs = search needs
-
-add-len : tie.Need-add-len
-add-len c = search needs
 
 returns-2 : tie.Need-returns-2
 returns-2 c =
@@ -46,9 +37,6 @@ cast-t13 c =
     let z = sized _ _ _ (sym (v .values-code .ensures) ∙ c .before .before .before .before .before .before .if1 .left) in
     omega (arith, c .before .before .before .before .before .names-at .ensures, z .short, z .ranges .tasks, z .ranges .resources, z .ranges .sections)
 
-same-length : tie.Need-same-length
-same-length c = search needs
-
 returns-3 : tie.Need-returns-3
 returns-3 c =
     let v = c .before .before .before .before .before .before .before in
@@ -63,12 +51,5 @@ pub write-spec : {M : Type 1} → statement M
 write-spec =
     tie.close
     (tie.spec
-    values-code-requires
-    returns
-    names-at-requires
-    add-len
-    returns-2
-    put-file-requires
-    cast-t13
-    same-length
-    returns-3)
+    (λ c κs. search needs) returns (λ c κs. search needs) (λ c. search needs) returns-2 put-file-requires cast-t13
+    (λ c. search needs) returns-3)

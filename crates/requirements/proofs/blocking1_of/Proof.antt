@@ -7,9 +7,6 @@ use Rattle.requirements.proofs.Counts.{count-read, blocking1-read}
 use Rattle.requirements.proofs.blocking1_of.Statement.{statement}
 use Rattle.requirements.proofs.blocking1_of.Tie as tie
 
-longest-local-requires : tie.Need-longest-local-requires
-longest-local-requires c κs = search needs
-
 mul-result : tie.Need-mul-result
 mul-result c = let h = c .before .before .before .pre in omega (arith, valid-plan _ (h .0) .tasks, h .4)
 
@@ -21,9 +18,6 @@ cast-result c = let h = c .before .before .before .before .pre in omega (arith, 
 
 add-result : tie.Need-add-result
 add-result c = let h = c .before .before .before .before .pre in omega (arith, count-read _ _ _ (valid-plan _ (h .0)) (h .3) (h .4))
-
-cast-result-2 : tie.Need-cast-result-2
-cast-result-2 c = search needs
 
 mul-result-2 : tie.Need-mul-result-2
 mul-result-2 c =
@@ -38,11 +32,4 @@ pub blocking1-of-spec : {M : Type 1} → statement M
 blocking1-of-spec =
     tie.close
     (tie.spec
-    longest-local-requires
-    mul-result
-    shared-slice-read-result
-    cast-result
-    add-result
-    cast-result-2
-    mul-result-2
-    returns)
+    (λ c κs. search needs) mul-result shared-slice-read-result cast-result add-result (λ c. search needs) mul-result-2 returns)

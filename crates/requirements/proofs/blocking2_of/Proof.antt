@@ -8,15 +8,6 @@ use Rattle.requirements.proofs.Counts.{count-read, blocking2-read}
 use Rattle.requirements.proofs.blocking2_of.Statement.{statement}
 use Rattle.requirements.proofs.blocking2_of.Tie as tie
 
-counts-requires : tie.Need-counts-requires
-counts-requires c κs = search needs
-
-wide-requires : tie.Need-wide-requires
-wide-requires c κs = search needs
-
-mul-sum-under : tie.Need-mul-sum-under
-mul-sum-under c = search needs
-
 shared-slice-read-sum-under : tie.Need-shared-slice-read-sum-under
 shared-slice-read-sum-under c = let h = c .before .before .before .before .before .before .pre in omega (arith, valid-plan _ (h .0) .tasks, h .2 .long, h .3)
 
@@ -48,11 +39,5 @@ pub blocking2-of-spec : {M : Type 1} → statement M
 blocking2-of-spec =
     tie.close
     (tie.spec
-    counts-requires
-    wide-requires
-    mul-sum-under
-    shared-slice-read-sum-under
-    cast-sum-under
-    add-sum-under
-    sum-under-requires
-    returns)
+    (λ c κs. search needs) (λ c κs. search needs) (λ c. search needs) shared-slice-read-sum-under cast-sum-under add-sum-under
+    sum-under-requires returns)

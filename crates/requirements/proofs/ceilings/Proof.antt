@@ -19,9 +19,6 @@ abbrev μ-loop : tie.MeasureT-loop
 counts-requires : tie.Need-counts-requires Inv-loop μ-loop
 counts-requires c κs = c .before .pre
 
-cast-s : tie.Need-cast-s Inv-loop μ-loop
-cast-s c = omega arith
-
 loop-holds : tie.Need-loop-holds Inv-loop μ-loop
 unfolding maxedBelow
 loop-holds c = (omega arith, refl)
@@ -29,40 +26,16 @@ loop-holds c = (omega arith, refl)
 section-requires : tie.Need-section-requires Inv-loop μ-loop
 section-requires c κs = (c .before .before .before .before .before .pre, rw (← c .before .before .before .counts .ensures .3) (c .loop-test .taken))
 
-wide-requires : tie.Need-wide-requires Inv-loop μ-loop
-wide-requires c κs = search needs
-
 task-requires : tie.Need-task-requires Inv-loop μ-loop
 task-requires c κs =
     let h = c .before .before .before .before .before .before .before .pre in
     (h, row-task _ h (c .before .before .before .before .before .counts .ensures .3) (c .before .before .loop-test .taken) (c .before .section .ensures) (c .wide .ensures .0))
 
-wide-requires-2 : tie.Need-wide-requires-2 Inv-loop μ-loop
-wide-requires-2 c κs = search needs
-
-mul-longer : tie.Need-mul-longer Inv-loop μ-loop
-mul-longer c = omega arith
-
 array-read-longer : tie.Need-array-read-longer Inv-loop μ-loop
 array-read-longer c = row-resource _ (c .before .before .before .before .before .before .before .before .before .pre) (c .before .before .before .before .before .before .before .counts .ensures .3) (c .before .before .before .before .loop-test .taken) (c .before .before .before .section .ensures) (c .wide2 .ensures .0)
 
-half-requires : tie.Need-half-requires Inv-loop μ-loop
-half-requires c κs = search needs
-
-longer-requires : tie.Need-longer-requires Inv-loop μ-loop
-longer-requires c κs = search needs
-
-mul-table : tie.Need-mul-table Inv-loop μ-loop
-mul-table c = omega arith
-
 array-write-table : tie.Need-array-write-table Inv-loop μ-loop
 array-write-table c = array-read-longer (c .before .before)
-
-add-i : tie.Need-add-i Inv-loop μ-loop
-add-i c = omega arith
-
-loop-less : tie.Need-loop-less Inv-loop μ-loop
-loop-less c = omega arith
 
 loop-again : tie.Need-loop-again Inv-loop μ-loop
 loop-again c =
@@ -78,22 +51,6 @@ pub ceilings-spec : {M : Type 1} → statement M
 ceilings-spec =
     tie.close
     (tie.spec
-    Inv-loop
-    μ-loop
-    counts-requires
-    cast-s
-    loop-holds
-    section-requires
-    wide-requires
-    task-requires
-    wide-requires-2
-    mul-longer
-    array-read-longer
-    half-requires
-    longer-requires
-    mul-table
-    array-write-table
-    add-i
-    loop-less
-    loop-again
-    returns)
+    Inv-loop μ-loop counts-requires (λ c. omega arith) loop-holds section-requires (λ c κs. search needs) task-requires
+    (λ c κs. search needs) (λ c. omega arith) array-read-longer (λ c κs. search needs) (λ c κs. search needs) (λ c. omega arith)
+    array-write-table (λ c. omega arith) (λ c. omega arith) loop-again returns)

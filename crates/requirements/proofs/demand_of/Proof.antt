@@ -19,12 +19,6 @@ loop-holds : tie.Need-loop-holds Inv-loop μ-loop
 unfolding demandOf sumBelow
 loop-holds c = (omega arith, refl)
 
-mul-period : tie.Need-mul-period Inv-loop μ-loop
-mul-period c = omega arith
-
-shared-slice-read-period : tie.Need-shared-slice-read-period Inv-loop μ-loop
-shared-slice-read-period c = omega arith
-
 sub-begun : tie.Need-sub-begun Inv-loop μ-loop
 sub-begun c =
     omega (arith, c .before .before .before .pre .4 (c .before .before .loop .k) (c .before .loop-test .taken))
@@ -36,12 +30,6 @@ add-begun c =
 div-begun : tie.Need-div-begun Inv-loop μ-loop
 div-begun c =
     omega (arith, c .before .before .before .pre .4 (c .before .before .loop .k) (c .before .loop-test .taken))
-
-mul-sum : tie.Need-mul-sum Inv-loop μ-loop
-mul-sum c = omega arith
-
-shared-slice-read-sum : tie.Need-shared-slice-read-sum Inv-loop μ-loop
-shared-slice-read-sum c = omega arith
 
 mul-sum-2 : tie.Need-mul-sum-2 Inv-loop μ-loop
 mul-sum-2 c =
@@ -59,12 +47,6 @@ add-sum c =
     let one = demand-one (a .args .periods .now) (a .args .times .now) _ _ (a .pre .2) (a .pre .3) (a .pre .4) (c .before .before .before .loop .k) (c .before .before .loop-test .taken) in
     omega (arith, one, demand-high (a .args .periods .now) (a .args .times .now) _ _ (a .pre .2) (a .pre .3) (a .pre .4) (c .before .before .before .loop .k) (c .before .before .before .loop .inv .0))
 
-add-k : tie.Need-add-k Inv-loop μ-loop
-add-k c = omega arith
-
-loop-less : tie.Need-loop-less Inv-loop μ-loop
-loop-less c = omega arith
-
 loop-again : tie.Need-loop-again Inv-loop μ-loop
 unfolding demandOf
 loop-again c = (omega arith, sum-step _ _ (c .before .before .before .loop .inv .1) refl)
@@ -80,20 +62,5 @@ pub demand-of-spec : {M : Type 1} → statement M
 demand-of-spec =
     tie.close
     (tie.spec
-    Inv-loop
-    μ-loop
-    loop-holds
-    mul-period
-    shared-slice-read-period
-    sub-begun
-    add-begun
-    div-begun
-    mul-sum
-    shared-slice-read-sum
-    mul-sum-2
-    cast-sum
-    add-sum
-    add-k
-    loop-less
-    loop-again
-    returns)
+    Inv-loop μ-loop loop-holds (λ c. omega arith) (λ c. omega arith) sub-begun add-begun div-begun (λ c. omega arith)
+    (λ c. omega arith) mul-sum-2 cast-sum add-sum (λ c. omega arith) (λ c. omega arith) loop-again returns)

@@ -21,9 +21,6 @@ abbrev μ-loop : tie.MeasureT-loop
 counts-requires : tie.Need-counts-requires Inv-loop μ-loop
 counts-requires c κs = c .before .pre .0
 
-cast-s : tie.Need-cast-s Inv-loop μ-loop
-cast-s c = omega arith
-
 loop-holds : tie.Need-loop-holds Inv-loop μ-loop
 unfolding gatheredBelow
 loop-holds c = (omega arith, refl)
@@ -31,20 +28,8 @@ loop-holds c = (omega arith, refl)
 section-requires : tie.Need-section-requires Inv-loop μ-loop
 section-requires c κs = (c .before .before .before .before .before .pre .0, rw (← c .before .before .before .counts .ensures .3) (c .loop-test .taken))
 
-wide-requires : tie.Need-wide-requires Inv-loop μ-loop
-wide-requires c κs = search needs
-
 array-read-shared : tie.Need-array-read-shared Inv-loop μ-loop
 array-read-shared c = row-resource _ (c .before .before .before .before .before .before .before .pre .0) (c .before .before .before .before .before .counts .ensures .3) (c .before .before .loop-test .taken) (c .before .section .ensures) (c .wide .ensures .0)
-
-chosen-requires : tie.Need-chosen-requires Inv-loop μ-loop
-chosen-requires c κs = search needs
-
-wide-requires-2 : tie.Need-wide-requires-2 Inv-loop μ-loop
-wide-requires-2 c κs = search needs
-
-mul-table : tie.Need-mul-table Inv-loop μ-loop
-mul-table c = omega arith
 
 array-read-table : tie.Need-array-read-table Inv-loop μ-loop
 array-read-table c =
@@ -59,12 +44,6 @@ add-table c =
 
 array-write-table : tie.Need-array-write-table Inv-loop μ-loop
 array-write-table c = array-read-table c
-
-add-i : tie.Need-add-i Inv-loop μ-loop
-add-i c = omega arith
-
-loop-less : tie.Need-loop-less Inv-loop μ-loop
-loop-less c = omega arith
 
 loop-again : tie.Need-loop-again Inv-loop μ-loop
 loop-again c =
@@ -81,21 +60,6 @@ pub global-counts-spec : {M : Type 1} → statement M
 global-counts-spec =
     tie.close
     (tie.spec
-    Inv-loop
-    μ-loop
-    counts-requires
-    cast-s
-    loop-holds
-    section-requires
-    wide-requires
-    array-read-shared
-    chosen-requires
-    wide-requires-2
-    mul-table
-    array-read-table
-    add-table
-    array-write-table
-    add-i
-    loop-less
-    loop-again
-    returns)
+    Inv-loop μ-loop counts-requires (λ c. omega arith) loop-holds section-requires (λ c κs. search needs) array-read-shared
+    (λ c κs. search needs) (λ c κs. search needs) (λ c. omega arith) array-read-table add-table array-write-table
+    (λ c. omega arith) (λ c. omega arith) loop-again returns)

@@ -45,29 +45,17 @@ loop-holds c =
     let e = c .before .wide .ensures .0 ∙ c .before .before .counts .ensures .1 in
     (omega arith, e, omega (arith, e, valid-plan _ (a .pre .0) .tasks), above-none _ _)
 
-add-place : tie.Need-add-place Inv-loop μ-loop
-add-place c = omega arith
-
-mul-place : tie.Need-mul-place Inv-loop μ-loop
-mul-place c = omega arith
-
 shared-slice-read-place : tie.Need-shared-slice-read-place Inv-loop μ-loop
 shared-slice-read-place c = omega (arith, c .before .before .before .before .before .before .before .before .pre .1 .long)
 
 task-requires : tie.Need-task-requires Inv-loop μ-loop
 task-requires c κs = (c .before .before .before .before .before .before .before .before .before .pre .0, omega arith)
 
-cast-periods : tie.Need-cast-periods Inv-loop μ-loop
-cast-periods c = omega arith
-
 mul-periods : tie.Need-mul-periods Inv-loop μ-loop
 mul-periods c = omega (arith, above-few (c .before .before .before .before .before .loop .inv .3))
 
 array-write-periods : tie.Need-array-write-periods Inv-loop μ-loop
 array-write-periods c = omega (arith, above-few (c .before .before .before .before .before .loop .inv .3))
-
-cast-times : tie.Need-cast-times Inv-loop μ-loop
-cast-times c = omega arith
 
 mul-times : tie.Need-mul-times Inv-loop μ-loop
 mul-times c = omega (arith, above-few (c .before .before .before .before .before .before .loop .inv .3))
@@ -77,12 +65,6 @@ array-write-times c = omega (arith, above-few (c .before .before .before .before
 
 add-count : tie.Need-add-count Inv-loop μ-loop
 add-count c = omega (arith, above-few (c .before .before .before .before .before .before .loop .inv .3))
-
-add-j : tie.Need-add-j Inv-loop μ-loop
-add-j c = omega arith
-
-loop-less : tie.Need-loop-less Inv-loop μ-loop
-loop-less c = omega arith
 
 loop-again : tie.Need-loop-again Inv-loop μ-loop
 loop-again c =
@@ -108,26 +90,6 @@ pub higher-tasks-spec : {M : Type 1} → statement M
 higher-tasks-spec =
     tie.close
     (tie.spec
-    Inv-loop
-    μ-loop
-    counts-requires
-    wide-requires
-    add-mine
-    mul-mine
-    shared-slice-read-mine
-    loop-holds
-    add-place
-    mul-place
-    shared-slice-read-place
-    task-requires
-    cast-periods
-    mul-periods
-    array-write-periods
-    cast-times
-    mul-times
-    array-write-times
-    add-count
-    add-j
-    loop-less
-    loop-again
-    returns)
+    Inv-loop μ-loop counts-requires wide-requires add-mine mul-mine shared-slice-read-mine loop-holds (λ c. omega arith)
+    (λ c. omega arith) shared-slice-read-place task-requires (λ c. omega arith) mul-periods array-write-periods (λ c. omega arith)
+    mul-times array-write-times add-count (λ c. omega arith) (λ c. omega arith) loop-again returns)

@@ -20,9 +20,6 @@ abbrev μ-loop : tie.MeasureT-loop
 counts-requires : tie.Need-counts-requires Inv-loop μ-loop
 counts-requires c κs = c .before .pre .0
 
-cast-n : tie.Need-cast-n Inv-loop μ-loop
-cast-n c = omega arith
-
 task-requires : tie.Need-task-requires Inv-loop μ-loop
 task-requires c κs = let h = c .before .before .before .pre in (h .0, h .3)
 
@@ -33,41 +30,20 @@ loop-holds c = (omega arith, refl)
 section-requires : tie.Need-section-requires Inv-loop μ-loop
 section-requires c κs = (c .before .before .before .before .before .before .pre .0, rw (← c .before .before .before .before .counts .ensures .3) (c .loop-test .taken))
 
-wide-requires : tie.Need-wide-requires Inv-loop μ-loop
-wide-requires c κs = search needs
-
 task-requires-2 : tie.Need-task-requires-2 Inv-loop μ-loop
 task-requires-2 c κs =
     let h = c .before .before .before .before .before .before .before .before .pre .0 in
     (h, row-task _ h (c .before .before .before .before .before .before .counts .ensures .3) (c .before .before .loop-test .taken) (c .before .section .ensures) (c .wide .ensures .0))
 
-wide-requires-2 : tie.Need-wide-requires-2 Inv-loop μ-loop
-wide-requires-2 c κs = search needs
-
 array-read-shared : tie.Need-array-read-shared Inv-loop μ-loop
 array-read-shared c = row-resource _ (c .before .before .before .before .before .before .before .before .before .before .pre .0) (c .before .before .before .before .before .before .before .before .counts .ensures .3) (c .before .before .before .before .loop-test .taken) (c .before .before .before .section .ensures) (c .wide2 .ensures .0)
-
-half-requires : tie.Need-half-requires Inv-loop μ-loop
-half-requires c κs = search needs
-
-mul-reaches : tie.Need-mul-reaches Inv-loop μ-loop
-mul-reaches c = omega arith
 
 array-read-reaches : tie.Need-array-read-reaches Inv-loop μ-loop
 array-read-reaches c = array-read-shared (c .before)
 
-chosen-requires : tie.Need-chosen-requires Inv-loop μ-loop
-chosen-requires c κs = search needs
-
-longer-requires : tie.Need-longer-requires Inv-loop μ-loop
-longer-requires c κs = search needs
-
 add-s : tie.Need-add-s Inv-loop μ-loop
 add-s c =
     omega (arith, c .before .before .before .before .before .before .before .before .before .before .before .loop-test .taken, c .before .before .before .before .before .before .before .before .before .before .before .before .before .before .before .counts .ensures .3, valid-plan _ (c .before .before .before .before .before .before .before .before .before .before .before .before .before .before .before .before .before .pre .0) .sections)
-
-loop-less : tie.Need-loop-less Inv-loop μ-loop
-loop-less c = omega arith
 
 loop-again : tie.Need-loop-again Inv-loop μ-loop
 loop-again c =
@@ -87,23 +63,6 @@ pub longest-local-spec : {M : Type 1} → statement M
 longest-local-spec =
     tie.close
     (tie.spec
-    Inv-loop
-    μ-loop
-    counts-requires
-    cast-n
-    task-requires
-    loop-holds
-    section-requires
-    wide-requires
-    task-requires-2
-    wide-requires-2
-    array-read-shared
-    half-requires
-    mul-reaches
-    array-read-reaches
-    chosen-requires
-    longer-requires
-    add-s
-    loop-less
-    loop-again
-    returns)
+    Inv-loop μ-loop counts-requires (λ c. omega arith) task-requires loop-holds section-requires (λ c κs. search needs)
+    task-requires-2 (λ c κs. search needs) array-read-shared (λ c κs. search needs) (λ c. omega arith) array-read-reaches
+    (λ c κs. search needs) (λ c κs. search needs) add-s (λ c. omega arith) loop-again returns)

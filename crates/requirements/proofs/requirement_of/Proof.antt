@@ -7,18 +7,6 @@ use Rattle.requirements.proofs.Sides.{tolerance-fits, requirement-told}
 use Rattle.requirements.proofs.requirement_of.Statement.{statement}
 use Rattle.requirements.proofs.requirement_of.Tie as tie
 
-blocking1-of-requires : tie.Need-blocking1-of-requires
-blocking1-of-requires c κs = search needs
-
-blocking2-of-requires : tie.Need-blocking2-of-requires
-blocking2-of-requires c κs = search needs
-
-tolerance-of-requires : tie.Need-tolerance-of-requires
-tolerance-of-requires c κs = search needs
-
-waiting-side-requires : tie.Need-waiting-side-requires
-waiting-side-requires c κs = search needs
-
 compared-requires : tie.Need-compared-requires
 compared-requires c κs =
     let h = c .before .before .before .before .before .before .before .before .before .pre in
@@ -34,9 +22,4 @@ pub requirement-of-spec : {M : Type 1} → statement M
 requirement-of-spec =
     tie.close
     (tie.spec
-    blocking1-of-requires
-    blocking2-of-requires
-    tolerance-of-requires
-    waiting-side-requires
-    compared-requires
-    returns)
+    (λ c κs. search needs) (λ c κs. search needs) (λ c κs. search needs) (λ c κs. search needs) compared-requires returns)

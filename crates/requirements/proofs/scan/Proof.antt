@@ -22,38 +22,17 @@ demand-of-requires c κs =
     let a = c .before .before in
     (a .pre .0, a .pre .1, a .pre .2, omega arith, a .pre .6)
 
-add-difference : tie.Need-add-difference Inv-loop μ-loop
-add-difference c = omega arith
-
-difference-requires : tie.Need-difference-requires Inv-loop μ-loop
-difference-requires c κs = omega arith
-
 loop-holds : tie.Need-loop-holds Inv-loop μ-loop
 loop-holds c =
     (omega arith, omega arith, back _ (c .difference .ok) ∙ left-first _ _ _ _ (c .before .demand-of .ensures .0) (c .difference .ensures))
-
-add-next : tie.Need-add-next Inv-loop μ-loop
-add-next c = omega arith
 
 demand-of-requires-2 : tie.Need-demand-of-requires-2 Inv-loop μ-loop
 demand-of-requires-2 c κs =
     let a = c .before .before .before .before .before .before in
     (a .pre .0, a .pre .1, a .pre .2, omega arith, a .pre .6)
 
-add-demand : tie.Need-add-demand Inv-loop μ-loop
-add-demand c = omega arith
-
-cast-difference : tie.Need-cast-difference Inv-loop μ-loop
-cast-difference c = omega arith
-
-difference-requires-2 : tie.Need-difference-requires-2 Inv-loop μ-loop
-difference-requires-2 c κs = omega arith
-
 greater-requires : tie.Need-greater-requires Inv-loop μ-loop
 greater-requires c κs = tt
-
-loop-less : tie.Need-loop-less Inv-loop μ-loop
-loop-less c = omega arith
 
 loop-again : tie.Need-loop-again Inv-loop μ-loop
 loop-again c =
@@ -71,18 +50,5 @@ pub scan-spec : {M : Type 1} → statement M
 scan-spec =
     tie.close
     (tie.spec
-    Inv-loop
-    μ-loop
-    demand-of-requires
-    add-difference
-    difference-requires
-    loop-holds
-    add-next
-    demand-of-requires-2
-    add-demand
-    cast-difference
-    difference-requires-2
-    greater-requires
-    loop-less
-    loop-again
-    returns)
+    Inv-loop μ-loop demand-of-requires (λ c. omega arith) (λ c κs. omega arith) loop-holds (λ c. omega arith) demand-of-requires-2
+    (λ c. omega arith) (λ c. omega arith) (λ c κs. omega arith) greater-requires (λ c. omega arith) loop-again returns)

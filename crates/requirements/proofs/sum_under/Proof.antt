@@ -32,51 +32,12 @@ Here =
 abbrev is-under : List ℕ → ℕ → ℕ → Bool
 is-under t i j = under (getD t (placeAt i) 0) (getD t (placeAt j) 0)
 
-add-mine : tie.Need-add-mine Inv-loop μ-loop
-add-mine c = omega arith
-
-mul-mine : tie.Need-mul-mine Inv-loop μ-loop
-mul-mine c = omega arith
-
-shared-slice-read-mine : tie.Need-shared-slice-read-mine Inv-loop μ-loop
-shared-slice-read-mine c = omega arith
-
 loop-holds : tie.Need-loop-holds Inv-loop μ-loop
 unfolding sumUnder sumBelow
 loop-holds c = (omega arith, omega arith, refl)
 
-add-place : tie.Need-add-place Inv-loop μ-loop
-add-place c = omega arith
-
-mul-place : tie.Need-mul-place Inv-loop μ-loop
-mul-place c = omega arith
-
-shared-slice-read-place : tie.Need-shared-slice-read-place Inv-loop μ-loop
-shared-slice-read-place c = omega arith
-
-mul-chosen : tie.Need-mul-chosen Inv-loop μ-loop
-mul-chosen c = omega arith
-
-shared-slice-read-chosen : tie.Need-shared-slice-read-chosen Inv-loop μ-loop
-shared-slice-read-chosen c = omega arith
-
-chosen-requires : tie.Need-chosen-requires Inv-loop μ-loop
-chosen-requires c κs = search needs
-
-mul-smaller : tie.Need-mul-smaller Inv-loop μ-loop
-mul-smaller c = omega arith
-
-shared-slice-read-smaller : tie.Need-shared-slice-read-smaller Inv-loop μ-loop
-shared-slice-read-smaller c = omega arith
-
 cast-smaller : tie.Need-cast-smaller Inv-loop μ-loop
 cast-smaller c = omega (arith, c .shared-slice-known6 .given (c .before .before .before .before .before .loop .j) .fits)
-
-smaller-requires : tie.Need-smaller-requires Inv-loop μ-loop
-smaller-requires c κs = search needs
-
-cast-sum : tie.Need-cast-sum Inv-loop μ-loop
-cast-sum c = omega arith
 
 -- a figure is small
 figure : (c : Here) → c .smaller .result * c .before .before .chosen .result ≤ 256000
@@ -90,12 +51,6 @@ mul-sum c = omega (arith, figure c)
 
 add-sum : tie.Need-add-sum Inv-loop μ-loop
 add-sum c = omega (arith, figure c)
-
-add-j : tie.Need-add-j Inv-loop μ-loop
-add-j c = omega arith
-
-loop-less : tie.Need-loop-less Inv-loop μ-loop
-loop-less c = omega arith
 
 loop-again : tie.Need-loop-again Inv-loop μ-loop
 unfolding sumUnder
@@ -115,26 +70,7 @@ pub sum-under-spec : {M : Type 1} → statement M
 sum-under-spec =
     tie.close
     (tie.spec
-    Inv-loop
-    μ-loop
-    add-mine
-    mul-mine
-    shared-slice-read-mine
-    loop-holds
-    add-place
-    mul-place
-    shared-slice-read-place
-    mul-chosen
-    shared-slice-read-chosen
-    chosen-requires
-    mul-smaller
-    shared-slice-read-smaller
-    cast-smaller
-    smaller-requires
-    cast-sum
-    mul-sum
-    add-sum
-    add-j
-    loop-less
-    loop-again
+    Inv-loop μ-loop (λ c. omega arith) (λ c. omega arith) (λ c. omega arith) loop-holds (λ c. omega arith) (λ c. omega arith)
+    (λ c. omega arith) (λ c. omega arith) (λ c. omega arith) (λ c κs. search needs) (λ c. omega arith) (λ c. omega arith)
+    cast-smaller (λ c κs. search needs) (λ c. omega arith) mul-sum add-sum (λ c. omega arith) (λ c. omega arith) loop-again
     returns)

@@ -9,24 +9,6 @@ use Rattle.requirements.proofs.Demand.{Above, above-64, above-long, abo
 use Rattle.requirements.proofs.tolerance_of.Statement.{statement}
 use Rattle.requirements.proofs.tolerance_of.Tie as tie
 
-task-requires : tie.Need-task-requires
-task-requires c κs = search needs
-
-higher-tasks-requires : tie.Need-higher-tasks-requires
-higher-tasks-requires c κs = search needs
-
-slice-aggregate-scan : tie.Need-slice-aggregate-scan
-slice-aggregate-scan c = search needs
-
-slice-aggregate-scan-2 : tie.Need-slice-aggregate-scan-2
-slice-aggregate-scan-2 c = search needs
-
-cast-scan : tie.Need-cast-scan
-cast-scan c = search needs
-
-cast-scan-2 : tie.Need-cast-scan-2
-cast-scan-2 c = search needs
-
 scan-requires : tie.Need-scan-requires
 scan-requires c κs =
     let a = c .before .before .before .before .before .before .before .before .before .before in
@@ -54,11 +36,5 @@ pub tolerance-of-spec : {M : Type 1} → statement M
 tolerance-of-spec =
     tie.close
     (tie.spec
-    task-requires
-    higher-tasks-requires
-    slice-aggregate-scan
-    slice-aggregate-scan-2
-    cast-scan
-    cast-scan-2
-    scan-requires
-    returns)
+    (λ c κs. search needs) (λ c κs. search needs) (λ c. search needs) (λ c. search needs) (λ c. search needs) (λ c. search needs)
+    scan-requires returns)

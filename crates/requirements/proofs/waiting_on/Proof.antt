@@ -28,27 +28,6 @@ known c =
     let h = c .before .before .before .before .before .before .before .before .before .before .before .pre in
     waits _ (valid-plan _ (h .0)) _ _ _ _ _ (h .1) (h .2) (h .3) (h .4) (h .5) (h .6) (h .7) (c .before .before .before .before .before .wide .ensures .0 ∙ c .before .before .before .before .before .before .counts .ensures .1) (c .before .before .before .before .task .ensures) (c .before .before .before .wide2 .ensures .0) (c .before .wait-in .ensures .0) (c .sum-beside .ensures .0) (h .8)
 
-counts-requires : tie.Need-counts-requires
-counts-requires c κs = search needs
-
-wide-requires : tie.Need-wide-requires
-wide-requires c κs = search needs
-
-task-requires : tie.Need-task-requires
-task-requires c κs = search needs
-
-wide-requires-2 : tie.Need-wide-requires-2
-wide-requires-2 c κs = search needs
-
-mul-budget : tie.Need-mul-budget
-mul-budget c = search needs
-
-add-budget : tie.Need-add-budget
-add-budget c = search needs
-
-mul-budget-2 : tie.Need-mul-budget-2
-mul-budget-2 c = search needs
-
 shared-slice-read-budget : tie.Need-shared-slice-read-budget
 shared-slice-read-budget c =
     let h = c .before .before .before .before .before .before .before .before .before .pre in
@@ -57,17 +36,11 @@ shared-slice-read-budget c =
 cast-budget : tie.Need-cast-budget
 cast-budget c = omega (arith, c .shared-slice-known5 .given (share (c .before .wide2 .result) (c .before .before .before .before .before .before .before .before .before .args .q)))
 
-wait-in-requires : tie.Need-wait-in-requires
-wait-in-requires c κs = search needs
-
 sum-beside-requires : tie.Need-sum-beside-requires
 sum-beside-requires c κs =
     let h = c .before .before .before .before .before .before .before .before .before .before .pre in
     let n = valid-plan _ (h .0) .tasks in
     (h .1 .long, h .2 .long, omega (arith, n, c .before .before .before .before .wide .ensures .0, c .before .before .before .before .before .counts .ensures .1), omega (arith, n, h .4), h .5)
-
-mul-times : tie.Need-mul-times
-mul-times c = search needs
 
 sub-times : tie.Need-sub-times
 sub-times c = omega (arith, known c .low)
@@ -84,9 +57,6 @@ cast-result c = omega (arith, known c .times)
 mul-result : tie.Need-mul-result
 mul-result c = omega (arith, known c .counted)
 
-cast-result-2 : tie.Need-cast-result-2
-cast-result-2 c = search needs
-
 mul-result-2 : tie.Need-mul-result-2
 mul-result-2 c = omega (arith, known c .high)
 
@@ -97,23 +67,6 @@ pub waiting-on-spec : {M : Type 1} → statement M
 waiting-on-spec =
     tie.close
     (tie.spec
-    counts-requires
-    wide-requires
-    task-requires
-    wide-requires-2
-    mul-budget
-    add-budget
-    mul-budget-2
-    shared-slice-read-budget
-    cast-budget
-    wait-in-requires
-    sum-beside-requires
-    mul-times
-    sub-times
-    add-times
-    div-times
-    cast-result
-    mul-result
-    cast-result-2
-    mul-result-2
-    returns)
+    (λ c κs. search needs) (λ c κs. search needs) (λ c κs. search needs) (λ c κs. search needs) (λ c. search needs)
+    (λ c. search needs) (λ c. search needs) shared-slice-read-budget cast-budget (λ c κs. search needs) sum-beside-requires
+    (λ c. search needs) sub-times add-times div-times cast-result mul-result (λ c. search needs) mul-result-2 returns)

@@ -22,9 +22,6 @@ abbrev μ-loop : tie.MeasureT-loop
 counts-requires : tie.Need-counts-requires Inv-loop μ-loop
 counts-requires c κs = c .before .before .before .before .pre .0
 
-wide-requires : tie.Need-wide-requires Inv-loop μ-loop
-wide-requires c κs = search needs
-
 counts-on-requires : tie.Need-counts-on-requires Inv-loop μ-loop
 counts-on-requires c κs = c .before .before .before .before .before .before .pre .0
 
@@ -37,26 +34,11 @@ loop-holds c =
 array-read-waiting-at : tie.Need-array-read-waiting-at Inv-loop μ-loop
 array-read-waiting-at c = omega arith
 
-mul-waiting-at : tie.Need-mul-waiting-at Inv-loop μ-loop
-mul-waiting-at c = omega arith
-
-array-read-waiting-at-2 : tie.Need-array-read-waiting-at-2 Inv-loop μ-loop
-array-read-waiting-at-2 c = omega arith
-
 waiting-at-requires : tie.Need-waiting-at-requires Inv-loop μ-loop
 waiting-at-requires c κs =
     let h = c .before .before .before .before .before .before .before .before .before .pre in
     let l = array-read-waiting-at c in
     (h .0, h .1, h .2, h .3, h .5, l, h .4 .at _ l, c .before .before .counts-on .ensures .at _ l)
-
-add-side : tie.Need-add-side Inv-loop μ-loop
-add-side c = omega arith
-
-add-q : tie.Need-add-q Inv-loop μ-loop
-add-q c = omega arith
-
-loop-less : tie.Need-loop-less Inv-loop μ-loop
-loop-less c = omega arith
 
 loop-again : tie.Need-loop-again Inv-loop μ-loop
 loop-again c =
@@ -73,18 +55,5 @@ pub waiting-side-spec : {M : Type 1} → statement M
 waiting-side-spec =
     tie.close
     (tie.spec
-    Inv-loop
-    μ-loop
-    counts-requires
-    wide-requires
-    counts-on-requires
-    loop-holds
-    array-read-waiting-at
-    mul-waiting-at
-    array-read-waiting-at-2
-    waiting-at-requires
-    add-side
-    add-q
-    loop-less
-    loop-again
-    returns)
+    Inv-loop μ-loop counts-requires (λ c κs. search needs) counts-on-requires loop-holds array-read-waiting-at (λ c. omega arith)
+    (λ c. omega arith) waiting-at-requires (λ c. omega arith) (λ c. omega arith) (λ c. omega arith) loop-again returns)

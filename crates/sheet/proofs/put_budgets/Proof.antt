@@ -54,13 +54,4 @@ pub put-budgets-spec : {M : Type 1} → statement M
 put-budgets-spec =
     tie.close
     (tie.spec
-    Inv-loop
-    μ-loop
-    counts-requires
-    loop-holds
-    put-budgets-of-requires
-    add-k
-    loop-less
-    loop-again
-    same-length
-    returns)
+    Inv-loop μ-loop counts-requires loop-holds put-budgets-of-requires add-k loop-less loop-again same-length returns)

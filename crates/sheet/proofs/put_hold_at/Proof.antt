@@ -6,9 +6,6 @@ use Rattle.sheet.proofs.Laws.{hold-read, hold-global, hold-out, hold-in
 use Rattle.sheet.proofs.put_hold_at.Statement.{statement}
 use Rattle.sheet.proofs.put_hold_at.Tie as tie
 
-wide-requires : tie.Need-wide-requires
-wide-requires c κs = search needs
-
 mul-hold : tie.Need-mul-hold
 mul-hold c = let h = c .before .before .before .before .before .pre in omega (arith, h .3, valid-plan _ (h .0) .tasks)
 
@@ -28,19 +25,10 @@ returns c =
     let h = c .before .before .before .before .before .before .before .pre in
     (hold-out _ _ (h .0) (h .1) _ _ (h .3) (h .4) (c .before .before .wide .ensures .0) _ _ (c .if1 .taken), omega arith)
 
-task-requires : tie.Need-task-requires
-task-requires c κs = search needs
-
 longest-of-requires : tie.Need-longest-of-requires
 longest-of-requires c κs =
     let h = c .before .before .before .before .before .before .before .before .pre in
     (h .0, h .1, h .2, h .3, omega (arith, c .before .before .before .wide .ensures .0, h .4, valid-plan _ (h .0) .resources), hold-global _ _ (h .0) (h .1) _ _ (h .3) (h .4) (c .before .before .before .wide .ensures .0) (c .before .if1 .left))
-
-put-hold-requires : tie.Need-put-hold-requires
-put-hold-requires c κs = search needs
-
-same-length : tie.Need-same-length
-same-length c = search needs
 
 returns-2 : tie.Need-returns-2
 returns-2 c =
@@ -53,14 +41,5 @@ pub put-hold-at-spec : {M : Type 1} → statement M
 put-hold-at-spec =
     tie.close
     (tie.spec
-    wide-requires
-    mul-hold
-    add-hold
-    mul-hold-2
-    shared-slice-read-hold
-    returns
-    task-requires
-    longest-of-requires
-    put-hold-requires
-    same-length
-    returns-2)
+    (λ c κs. search needs) mul-hold add-hold mul-hold-2 shared-slice-read-hold returns (λ c κs. search needs) longest-of-requires
+    (λ c κs. search needs) (λ c. search needs) returns-2)

@@ -19,9 +19,6 @@ abbrev μ-loop : tie.MeasureT-loop
 counts-requires : tie.Need-counts-requires Inv-loop μ-loop
 counts-requires c κs = c .before .before .before .before .pre .0
 
-wide-requires : tie.Need-wide-requires Inv-loop μ-loop
-wide-requires c κs = search needs
-
 loop-holds : tie.Need-loop-holds Inv-loop μ-loop
 loop-holds c = (omega arith, c .wide .ensures .0 ∙ c .before .counts .ensures .1, turns-none)
 
@@ -58,14 +55,5 @@ pub put-holds-spec : {M : Type 1} → statement M
 put-holds-spec =
     tie.close
     (tie.spec
-    Inv-loop
-    μ-loop
-    counts-requires
-    wide-requires
-    loop-holds
-    put-holds-of-requires
-    add-i
-    loop-less
-    loop-again
-    same-length
+    Inv-loop μ-loop counts-requires (λ c κs. search needs) loop-holds put-holds-of-requires add-i loop-less loop-again same-length
     returns)

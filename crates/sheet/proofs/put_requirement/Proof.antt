@@ -6,38 +6,11 @@ use Rattle.wording.specs.Lines.{signedField}
 use Rattle.sheet.proofs.put_requirement.Statement.{statement}
 use Rattle.sheet.proofs.put_requirement.Tie as tie
 
-slice-aggregate-put : tie.Need-slice-aggregate-put
-slice-aggregate-put c = search needs
-
-put-requires : tie.Need-put-requires
-put-requires c κs = search needs
-
-put-field-requires : tie.Need-put-field-requires
-put-field-requires c κs = search needs
-
-cast-put-field : tie.Need-cast-put-field
-cast-put-field c = search needs
-
-put-field-requires-2 : tie.Need-put-field-requires-2
-put-field-requires-2 c κs = search needs
-
-cast-put-field-2 : tie.Need-cast-put-field-2
-cast-put-field-2 c = search needs
-
-put-field-requires-3 : tie.Need-put-field-requires-3
-put-field-requires-3 c κs = search needs
-
-put-signed-field-requires : tie.Need-put-signed-field-requires
-put-signed-field-requires c κs = search needs
-
 put-signed-field-requires-2 : tie.Need-put-signed-field-requires-2
 put-signed-field-requires-2 c κs = omega (arith, c .before .before .before .before .before .before .before .before .before .before .before .before .before .before .before .before .before .before .before .before .before .before .before .put .ensures .ends, c .before .before .before .before .before .before .before .before .before .before .before .before .before .before .before .before .before .before .before .before .before .before .buf .given, c .before .before .before .before .before .before .before .before .before .before .before .before .before .before .before .before .before .before .before .put-field .ensures .1, c .before .before .before .before .before .before .before .before .before .before .before .before .before .before .before .before .before .before .buf2 .given, c .before .before .before .before .before .before .before .before .before .before .before .before .before .before .put-field2 .ensures .1, c .before .before .before .before .before .before .before .before .before .before .before .before .before .buf3 .given, c .before .before .before .before .before .before .before .before .before .put-field3 .ensures .1, c .before .before .before .before .before .before .before .before .buf4 .given, c .before .before .before .before .put-signed-field .ensures .1, c .before .before .before .buf5 .given, c .before .before .before .before .before .before .before .before .before .before .before .before .before .before .before .before .before .before .before .before .before .before .before .before .before .before .before .pre)
 
 put-field-requires-4 : tie.Need-put-field-requires-4
 put-field-requires-4 c κs = omega (arith, c .before .before .before .before .before .before .before .before .before .before .before .before .before .before .before .before .before .before .before .before .before .before .before .before .before .before .before .put .ensures .ends, c .before .before .before .before .before .before .before .before .before .before .before .before .before .before .before .before .before .before .before .before .before .before .before .before .before .before .buf .given, c .before .before .before .before .before .before .before .before .before .before .before .before .before .before .before .before .before .before .before .before .before .before .before .put-field .ensures .1, c .before .before .before .before .before .before .before .before .before .before .before .before .before .before .before .before .before .before .before .before .before .before .buf2 .given, c .before .before .before .before .before .before .before .before .before .before .before .before .before .before .before .before .before .before .put-field2 .ensures .1, c .before .before .before .before .before .before .before .before .before .before .before .before .before .before .before .before .before .buf3 .given, c .before .before .before .before .before .before .before .before .before .before .before .before .before .put-field3 .ensures .1, c .before .before .before .before .before .before .before .before .before .before .before .before .buf4 .given, c .before .before .before .before .before .before .before .before .put-signed-field .ensures .1, c .before .before .before .before .before .before .before .buf5 .given, c .before .before .before .put-signed-field2 .ensures .1, c .before .before .buf6 .given, c .before .before .before .before .before .before .before .before .before .before .before .before .before .before .before .before .before .before .before .before .before .before .before .before .before .before .before .before .before .before .before .pre)
-
-slice-aggregate-put-2 : tie.Need-slice-aggregate-put-2
-slice-aggregate-put-2 c = search needs
 
 put-requires-2 : tie.Need-put-requires-2
 put-requires-2 c κs = omega (arith, c .before .before .before .before .before .before .before .before .before .before .before .before .before .before .before .before .before .before .before .before .before .before .before .before .before .before .before .before .before .before .before .before .before .put .ensures .ends, c .before .before .before .before .before .before .before .before .before .before .before .before .before .before .before .before .before .before .before .before .before .before .before .before .before .before .before .before .before .before .before .before .buf .given, c .before .before .before .before .before .before .before .before .before .before .before .before .before .before .before .before .before .before .before .before .before .before .before .before .before .before .before .before .before .put-field .ensures .1, c .before .before .before .before .before .before .before .before .before .before .before .before .before .before .before .before .before .before .before .before .before .before .before .before .before .before .before .before .buf2 .given, c .before .before .before .before .before .before .before .before .before .before .before .before .before .before .before .before .before .before .before .before .before .before .before .before .put-field2 .ensures .1, c .before .before .before .before .before .before .before .before .before .before .before .before .before .before .before .before .before .before .before .before .before .before .before .buf3 .given, c .before .before .before .before .before .before .before .before .before .before .before .before .before .before .before .before .before .before .before .put-field3 .ensures .1, c .before .before .before .before .before .before .before .before .before .before .before .before .before .before .before .before .before .before .buf4 .given, c .before .before .before .before .before .before .before .before .before .before .before .before .before .before .put-signed-field .ensures .1, c .before .before .before .before .before .before .before .before .before .before .before .before .before .buf5 .given, c .before .before .before .before .before .before .before .before .before .put-signed-field2 .ensures .1, c .before .before .before .before .before .before .before .before .buf6 .given, c .before .before .before .before .before .put-field4 .ensures .1, c .before .before .before .before .buf7 .given, c .before .before .before .before .before .before .before .before .before .before .before .before .before .before .before .before .before .before .before .before .before .before .before .before .before .before .before .before .before .before .before .before .before .before .before .before .before .pre)
@@ -61,9 +34,6 @@ returns c =
       rw (c .before .before .before .before .before .if1 .taken) (put-then (put-then (put-then (put-then (put-then (put-then (put-then word (tag .0)) (first .0)) (second .0)) t) s) (side .0)) last),
       omega (arith, word .ends, tag .1, first .1, second .1, tolerance .1, slack .1, side .1, last .ends),
     )
-
-slice-aggregate-put-3 : tie.Need-slice-aggregate-put-3
-slice-aggregate-put-3 c = search needs
 
 put-requires-3 : tie.Need-put-requires-3
 put-requires-3 c κs = omega (arith, c .before .before .before .before .before .before .before .before .before .before .before .before .before .before .before .before .before .before .before .before .before .before .before .before .before .before .before .before .before .before .before .before .before .put .ensures .ends, c .before .before .before .before .before .before .before .before .before .before .before .before .before .before .before .before .before .before .before .before .before .before .before .before .before .before .before .before .before .before .before .before .buf .given, c .before .before .before .before .before .before .before .before .before .before .before .before .before .before .before .before .before .before .before .before .before .before .before .before .before .before .before .before .before .put-field .ensures .1, c .before .before .before .before .before .before .before .before .before .before .before .before .before .before .before .before .before .before .before .before .before .before .before .before .before .before .before .before .buf2 .given, c .before .before .before .before .before .before .before .before .before .before .before .before .before .before .before .before .before .before .before .before .before .before .before .before .put-field2 .ensures .1, c .before .before .before .before .before .before .before .before .before .before .before .before .before .before .before .before .before .before .before .before .before .before .before .buf3 .given, c .before .before .before .before .before .before .before .before .before .before .before .before .before .before .before .before .before .before .before .put-field3 .ensures .1, c .before .before .before .before .before .before .before .before .before .before .before .before .before .before .before .before .before .before .buf4 .given, c .before .before .before .before .before .before .before .before .before .before .before .before .before .before .put-signed-field .ensures .1, c .before .before .before .before .before .before .before .before .before .before .before .before .before .buf5 .given, c .before .before .before .before .before .before .before .before .before .put-signed-field2 .ensures .1, c .before .before .before .before .before .before .before .before .buf6 .given, c .before .before .before .before .before .put-field4 .ensures .1, c .before .before .before .before .buf7 .given, c .before .before .before .before .before .before .before .before .before .before .before .before .before .before .before .before .before .before .before .before .before .before .before .before .before .before .before .before .before .before .before .before .before .before .before .before .before .pre)
@@ -92,21 +62,6 @@ pub put-requirement-spec : {M : Type 1} → statement M
 put-requirement-spec =
     tie.close
     (tie.spec
-    slice-aggregate-put
-    put-requires
-    put-field-requires
-    cast-put-field
-    put-field-requires-2
-    cast-put-field-2
-    put-field-requires-3
-    put-signed-field-requires
-    put-signed-field-requires-2
-    put-field-requires-4
-    slice-aggregate-put-2
-    put-requires-2
-    same-length
-    returns
-    slice-aggregate-put-3
-    put-requires-3
-    same-length-2
-    returns-2)
+    (λ c. search needs) (λ c κs. search needs) (λ c κs. search needs) (λ c. search needs) (λ c κs. search needs)
+    (λ c. search needs) (λ c κs. search needs) (λ c κs. search needs) put-signed-field-requires-2 put-field-requires-4
+    (λ c. search needs) put-requires-2 same-length returns (λ c. search needs) put-requires-3 same-length-2 returns-2)

@@ -21,18 +21,6 @@ returns c =
     let l : a .args .i < 64 = omega (arith, valid-plan _ (a .pre .0) .tasks, a .pre .7) in
     requirement-out _ _ (a .pre .4 .at _ l) _ _ (c .if1 .taken)
 
-requirement-of-requires : tie.Need-requirement-of-requires
-requirement-of-requires c κs = search needs
-
-task-requires : tie.Need-task-requires
-task-requires c κs = search needs
-
-put-requirement-requires : tie.Need-put-requirement-requires
-put-requirement-requires c κs = search needs
-
-same-length : tie.Need-same-length
-same-length c = search needs
-
 returns-2 : tie.Need-returns-2
 returns-2 c =
     let a = c .before .before .before .before .before .before .before .before .before .before .before .before .before .before in
@@ -44,11 +32,5 @@ pub put-requirement-at-spec : {M : Type 1} → statement M
 put-requirement-at-spec =
     tie.close
     (tie.spec
-    mul-if1
-    shared-slice-read-if1
-    returns
-    requirement-of-requires
-    task-requires
-    put-requirement-requires
-    same-length
+    mul-if1 shared-slice-read-if1 returns (λ c κs. search needs) (λ c κs. search needs) (λ c κs. search needs) (λ c. search needs)
     returns-2)

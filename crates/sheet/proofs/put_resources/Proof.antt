@@ -26,9 +26,6 @@ counts-requires c κs = c .before .before .pre .0
 loop-holds : tie.Need-loop-holds Inv-loop μ-loop
 loop-holds c = (omega arith, turns-none)
 
-wide-requires : tie.Need-wide-requires Inv-loop μ-loop
-wide-requires c κs = search needs
-
 array-read-put-resource : tie.Need-array-read-put-resource Inv-loop μ-loop
 array-read-put-resource c =
     omega (arith, c .wide .ensures .0, c .before .before .if1 .taken, c .before .before .before .before .before .counts .ensures .2, valid-plan _ (c .before .before .before .before .before .before .before .before .pre .0) .resources)
@@ -68,15 +65,5 @@ pub put-resources-spec : {M : Type 1} → statement M
 put-resources-spec =
     tie.close
     (tie.spec
-    Inv-loop
-    μ-loop
-    counts-requires
-    loop-holds
-    wide-requires
-    array-read-put-resource
-    put-resource-requires
-    add-q
-    loop-less
-    loop-again
-    same-length
-    returns)
+    Inv-loop μ-loop counts-requires loop-holds (λ c κs. search needs) array-read-put-resource put-resource-requires add-q
+    loop-less loop-again same-length returns)

@@ -12,40 +12,13 @@ returns : tie.Need-returns
 unfolding clockTest
 returns c = rw (eq-eqb _ _ (c .if1 .taken))
 
-array-read-wide : tie.Need-array-read-wide
-array-read-wide c = search needs
-
-wide-requires : tie.Need-wide-requires
-wide-requires c κs = search needs
-
-mul-wide : tie.Need-mul-wide
-mul-wide c = search needs
-
-add-wide : tie.Need-add-wide
-add-wide c = search needs
-
-mul-wide-2 : tie.Need-mul-wide-2
-mul-wide-2 c = search needs
-
 shared-slice-read-wide : tie.Need-shared-slice-read-wide
 shared-slice-read-wide c = omega (arith, c .before .before .before .before .before .before .before .before .pre .4 (omega arith))
-
-wide-requires-2 : tie.Need-wide-requires-2
-wide-requires-2 c κs = search needs
 
 sub-first : tie.Need-sub-first
 sub-first c =
     let p = c .before .before .before .before .before .before .before .before .before .pre in
     rw (c .wide2 .ensures .0, c .before .before .wide .ensures .0) (rw add-zero at (p .5 (omega arith)))
-
-mul-most : tie.Need-mul-most
-mul-most c = search needs
-
-add-most : tie.Need-add-most
-add-most c = search needs
-
-mul-most-2 : tie.Need-mul-most-2
-mul-most-2 c = search needs
 
 shared-slice-read-most : tie.Need-shared-slice-read-most
 shared-slice-read-most c =
@@ -54,15 +27,6 @@ shared-slice-read-most c =
     let low : seated .result < 65 =
     rw (seated .ensures .0, c .before .before .before .wide .ensures .0) (rw add-zero at (p .6 (omega arith))) in
     omega arith
-
-mul-budget : tie.Need-mul-budget
-mul-budget c = search needs
-
-add-budget : tie.Need-add-budget
-add-budget c = search needs
-
-mul-budget-2 : tie.Need-mul-budget-2
-mul-budget-2 c = search needs
 
 shared-slice-read-budget : tie.Need-shared-slice-read-budget
 shared-slice-read-budget c =
@@ -79,21 +43,6 @@ pub clock-ok-spec : {M : Type 1} → statement M
 clock-ok-spec =
     tie.close
     (tie.spec
-    returns
-    array-read-wide
-    wide-requires
-    mul-wide
-    add-wide
-    mul-wide-2
-    shared-slice-read-wide
-    wide-requires-2
-    sub-first
-    mul-most
-    add-most
-    mul-most-2
-    shared-slice-read-most
-    mul-budget
-    add-budget
-    mul-budget-2
-    shared-slice-read-budget
-    returns-2)
+    returns (λ c. search needs) (λ c κs. search needs) (λ c. search needs) (λ c. search needs) (λ c. search needs)
+    shared-slice-read-wide (λ c κs. search needs) sub-first (λ c. search needs) (λ c. search needs) (λ c. search needs)
+    shared-slice-read-most (λ c. search needs) (λ c. search needs) (λ c. search needs) shared-slice-read-budget returns-2)

@@ -16,18 +16,9 @@ Inv-loop file keys seats₀ n u₀ seats u = (u ≤ n) × (seats ≡ seatsBelow 
 abbrev μ-loop : tie.MeasureT-loop
 μ-loop file keys seats₀ n u₀ seats u = n - u
 
-counts-requires : tie.Need-counts-requires Inv-loop μ-loop
-counts-requires c κs = search needs
-
-wide-requires : tie.Need-wide-requires Inv-loop μ-loop
-wide-requires c κs = search needs
-
 loop-holds : tie.Need-loop-holds Inv-loop μ-loop
 unfolding stampedBelow
 loop-holds c = (omega arith, c .before .before .before .before .before .pre .2)
-
-mul-at : tie.Need-mul-at Inv-loop μ-loop
-mul-at c = omega arith
 
 shared-slice-read-at : tie.Need-shared-slice-read-at Inv-loop μ-loop
 shared-slice-read-at c =
@@ -39,22 +30,10 @@ cast-at c =
     let a = c .before .before .before .before .before .before .before .before in
     omega (arith, seat-high _ (valid-plan _ (a .pre .0)) _ _ (a .pre .1) (c .before .before .loop .u) (omega arith))
 
-add-seats : tie.Need-add-seats Inv-loop μ-loop
-add-seats c = omega arith
-
-cast-seats : tie.Need-cast-seats Inv-loop μ-loop
-cast-seats c = omega arith
-
 slice-write-seats : tie.Need-slice-write-seats Inv-loop μ-loop
 slice-write-seats c =
     let a = c .before .before .before .before .before .before .before .before in
     rw (c .before .before .loop .inv .1, stamped-length, length-replicate) (seat-high _ (valid-plan _ (a .pre .0)) _ _ (a .pre .1) _ (omega arith))
-
-add-u : tie.Need-add-u Inv-loop μ-loop
-add-u c = omega arith
-
-loop-less : tie.Need-loop-less Inv-loop μ-loop
-loop-less c = omega arith
 
 loop-again : tie.Need-loop-again Inv-loop μ-loop
 loop-again c =
@@ -73,19 +52,5 @@ pub fill-seats-spec : {M : Type 1} → statement M
 fill-seats-spec =
     tie.close
     (tie.spec
-    Inv-loop
-    μ-loop
-    counts-requires
-    wide-requires
-    loop-holds
-    mul-at
-    shared-slice-read-at
-    cast-at
-    add-seats
-    cast-seats
-    slice-write-seats
-    add-u
-    loop-less
-    loop-again
-    same-length
-    returns)
+    Inv-loop μ-loop (λ c κs. search needs) (λ c κs. search needs) loop-holds (λ c. omega arith) shared-slice-read-at cast-at
+    (λ c. omega arith) (λ c. omega arith) slice-write-seats (λ c. omega arith) (λ c. omega arith) loop-again same-length returns)

@@ -20,21 +20,9 @@ Inv-loop file tasks n keys₀ u₀ keys u = (u ≤ n) × (keys ≡ keysBelow (pl
 abbrev μ-loop : tie.MeasureT-loop
 μ-loop file tasks n keys₀ u₀ keys u = n - u
 
-counts-requires : tie.Need-counts-requires Inv-loop μ-loop
-counts-requires c κs = search needs
-
-wide-requires : tie.Need-wide-requires Inv-loop μ-loop
-wide-requires c κs = search needs
-
 loop-holds : tie.Need-loop-holds Inv-loop μ-loop
 unfolding placedBelow
 loop-holds c = (omega arith, refl)
-
-task-requires : tie.Need-task-requires Inv-loop μ-loop
-task-requires c κs = search needs
-
-mul-s : tie.Need-mul-s Inv-loop μ-loop
-mul-s c = omega arith
 
 array-copy-out-s : tie.Need-array-copy-out-s Inv-loop μ-loop
 array-copy-out-s c = omega (arith, valid-plan _ (c .before .before .before .before .before .before .pre) .tasks)
@@ -47,19 +35,10 @@ seat-of-requires c κs =
     let row = row-low (standing (start .args .t2) (l .u)) (c .if1 .taken) in
     (rw (low .task .ensures) (low-processor _ (valid-plan _ (start .pre)) _ (omega arith)), row .0, row .1)
 
-mul-keys : tie.Need-mul-keys Inv-loop μ-loop
-mul-keys c = omega arith
-
 array-write-keys : tie.Need-array-write-keys Inv-loop μ-loop
 array-write-keys c =
     let start = c .before .before .before .before .before .before .before .before .before .before .before in
     omega (arith, valid-plan _ (start .pre) .tasks)
-
-add-u : tie.Need-add-u Inv-loop μ-loop
-add-u c = omega arith
-
-loop-less : tie.Need-loop-less Inv-loop μ-loop
-loop-less c = omega arith
 
 loop-again : tie.Need-loop-again Inv-loop μ-loop
 loop-again c =
@@ -84,18 +63,6 @@ pub key-table-spec : {M : Type 1} → statement M
 key-table-spec =
     tie.close
     (tie.spec
-    Inv-loop
-    μ-loop
-    counts-requires
-    wide-requires
-    loop-holds
-    task-requires
-    mul-s
-    array-copy-out-s
-    seat-of-requires
-    mul-keys
-    array-write-keys
-    add-u
-    loop-less
-    loop-again
+    Inv-loop μ-loop (λ c κs. search needs) (λ c κs. search needs) loop-holds (λ c κs. search needs) (λ c. omega arith)
+    array-copy-out-s seat-of-requires (λ c. omega arith) array-write-keys (λ c. omega arith) (λ c. omega arith) loop-again
     returns)

@@ -9,16 +9,10 @@ use Rattle.state.proofs.Passing.{head-passed, free-line}
 use Rattle.state.proofs.line_ok.Statement.{statement}
 use Rattle.state.proofs.line_ok.Tie as tie
 
-free-ok-requires : tie.Need-free-ok-requires
-free-ok-requires c κs = search needs
-
 returns : tie.Need-returns
 returns c =
     let a = c .before .before .before .before .before .before .args in
     c .free-ok .ensures ∙ free-line (a .holds .now) (a .budgets .now) (a .seats .now) (a .q) (a .line) (c .before .if1 .taken)
-
-queue-ok-requires : tie.Need-queue-ok-requires
-queue-ok-requires c κs = search needs
 
 clock-ok-requires : tie.Need-clock-ok-requires
 clock-ok-requires c κs =
@@ -48,10 +42,4 @@ pub line-ok-spec : {M : Type 1} → statement M
 line-ok-spec =
     tie.close
     (tie.spec
-    free-ok-requires
-    returns
-    queue-ok-requires
-    clock-ok-requires
-    returns-2
-    returns-3
-    returns-4)
+    (λ c κs. search needs) returns (λ c κs. search needs) clock-ok-requires returns-2 returns-3 returns-4)

@@ -21,23 +21,11 @@ loop-holds : tie.Need-loop-holds Inv-loop μ-loop
 unfolding allBelow
 loop-holds c = (omega arith, refl)
 
-mul-line : tie.Need-mul-line Inv-loop μ-loop
-mul-line c = omega arith
-
-array-copy-out-line : tie.Need-array-copy-out-line Inv-loop μ-loop
-array-copy-out-line c = omega arith
-
 line-ok-requires : tie.Need-line-ok-requires Inv-loop μ-loop
 line-ok-requires c κs = let p = c .before .before .before .before .before .before .pre in (p .0, p .1, p .2, omega arith, p .3)
 
 returns : tie.Need-returns Inv-loop μ-loop
 returns c = all-left 16 (c .before .before .before .before .loop .q) _ (omega arith) (failed (c .before .line-ok .ensures) (c .if1 .taken))
-
-add-q : tie.Need-add-q Inv-loop μ-loop
-add-q c = omega arith
-
-loop-less : tie.Need-loop-less Inv-loop μ-loop
-loop-less c = omega arith
 
 loop-again : tie.Need-loop-again Inv-loop μ-loop
 loop-again c =
@@ -51,14 +39,5 @@ pub lines-ok-spec : {M : Type 1} → statement M
 lines-ok-spec =
     tie.close
     (tie.spec
-    Inv-loop
-    μ-loop
-    loop-holds
-    mul-line
-    array-copy-out-line
-    line-ok-requires
-    returns
-    add-q
-    loop-less
-    loop-again
-    returns-2)
+    Inv-loop μ-loop loop-holds (λ c. omega arith) (λ c. omega arith) line-ok-requires returns (λ c. omega arith)
+    (λ c. omega arith) loop-again returns-2)

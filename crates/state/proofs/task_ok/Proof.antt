@@ -47,32 +47,8 @@ returns : tie.Need-returns
 unfolding taskTest
 returns c = rw (eq-eqb _ _ (c .before .before .if1 .taken))
 
-add-hold : tie.Need-add-hold
-add-hold c = search needs
-
-mul-hold : tie.Need-mul-hold
-mul-hold c = search needs
-
-shared-slice-read-hold : tie.Need-shared-slice-read-hold
-shared-slice-read-hold c = search needs
-
-shared-slice-read-own : tie.Need-shared-slice-read-own
-shared-slice-read-own c = search needs
-
-cast-back : tie.Need-cast-back
-cast-back c = search needs
-
-wide-requires : tie.Need-wide-requires
-wide-requires c κs = search needs
-
-add-result : tie.Need-add-result
-add-result c = search needs
-
 sub-result : tie.Need-sub-result
 sub-result c = back-low _ _ refl
-
-shared-slice-read-result : tie.Need-shared-slice-read-result
-shared-slice-read-result c = search needs
 
 returns-2 : tie.Need-returns-2
 unfolding taskTest
@@ -86,14 +62,5 @@ pub task-ok-spec : {M : Type 1} → statement M
 task-ok-spec =
     tie.close
     (tie.spec
-    returns
-    add-hold
-    mul-hold
-    shared-slice-read-hold
-    shared-slice-read-own
-    cast-back
-    wide-requires
-    add-result
-    sub-result
-    shared-slice-read-result
-    returns-2)
+    returns (λ c. search needs) (λ c. search needs) (λ c. search needs) (λ c. search needs) (λ c. search needs)
+    (λ c κs. search needs) (λ c. search needs) sub-result (λ c. search needs) returns-2)

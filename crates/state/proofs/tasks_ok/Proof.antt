@@ -21,32 +21,11 @@ loop-holds : tie.Need-loop-holds Inv-loop μ-loop
 unfolding allBelow
 loop-holds c = (omega arith, omega arith, refl)
 
-mul-s : tie.Need-mul-s Inv-loop μ-loop
-mul-s c = omega arith
-
-array-copy-out-s : tie.Need-array-copy-out-s Inv-loop μ-loop
-array-copy-out-s c = omega arith
-
-mul-task-ok : tie.Need-mul-task-ok Inv-loop μ-loop
-mul-task-ok c = omega arith
-
-shared-slice-read-task-ok : tie.Need-shared-slice-read-task-ok Inv-loop μ-loop
-shared-slice-read-task-ok c = omega arith
-
 task-ok-requires : tie.Need-task-ok-requires Inv-loop μ-loop
 task-ok-requires c κs =
     let l = c .before .before .before .loop in
     let p = c .before .before .before .before .before .before .before .pre in
     (p .0, p .2, omega arith, p .3 (l .u) (omega arith), l .inv .1)
-
-add-u : tie.Need-add-u Inv-loop μ-loop
-add-u c = omega arith
-
-add-base : tie.Need-add-base Inv-loop μ-loop
-add-base c = omega arith
-
-loop-less : tie.Need-loop-less Inv-loop μ-loop
-loop-less c = omega arith
 
 loop-again : tie.Need-loop-again Inv-loop μ-loop
 loop-again c =
@@ -60,16 +39,5 @@ pub tasks-ok-spec : {M : Type 1} → statement M
 tasks-ok-spec =
     tie.close
     (tie.spec
-    Inv-loop
-    μ-loop
-    loop-holds
-    mul-s
-    array-copy-out-s
-    mul-task-ok
-    shared-slice-read-task-ok
-    task-ok-requires
-    add-u
-    add-base
-    loop-less
-    loop-again
-    returns)
+    Inv-loop μ-loop loop-holds (λ c. omega arith) (λ c. omega arith) (λ c. omega arith) (λ c. omega arith) task-ok-requires
+    (λ c. omega arith) (λ c. omega arith) (λ c. omega arith) loop-again returns)

@@ -16,32 +16,8 @@ Inv-loop holds seats q k base sum₀ j₀ sum j = Counted holds seats q k j sum
 abbrev μ-loop : tie.MeasureT-loop
 μ-loop holds seats q k base sum₀ j₀ sum j = 64 - j
 
-mul-base : tie.Need-mul-base Inv-loop μ-loop
-mul-base c = search needs
-
-wide-requires : tie.Need-wide-requires Inv-loop μ-loop
-wide-requires c κs = search needs
-
-add-base : tie.Need-add-base Inv-loop μ-loop
-add-base c = search needs
-
-mul-base-2 : tie.Need-mul-base-2 Inv-loop μ-loop
-mul-base-2 c = search needs
-
 loop-holds : tie.Need-loop-holds Inv-loop μ-loop
 loop-holds c = counted-none _ _ _ _
-
-add-wide : tie.Need-add-wide Inv-loop μ-loop
-add-wide c = search needs
-
-shared-slice-read-wide : tie.Need-shared-slice-read-wide Inv-loop μ-loop
-shared-slice-read-wide c = search needs
-
-wide-requires-2 : tie.Need-wide-requires-2 Inv-loop μ-loop
-wide-requires-2 c κs = search needs
-
-cast-t16 : tie.Need-cast-t16 Inv-loop μ-loop
-cast-t16 c = search needs
 
 returns : tie.Need-returns Inv-loop μ-loop
 returns c =
@@ -53,15 +29,6 @@ returns c =
 
 sub-sum : tie.Need-sub-sum Inv-loop μ-loop
 sub-sum c = omega (arith, c .if1 .left)
-
-mul-sum : tie.Need-mul-sum Inv-loop μ-loop
-mul-sum c = search needs
-
-add-sum : tie.Need-add-sum Inv-loop μ-loop
-add-sum c = search needs
-
-mul-sum-2 : tie.Need-mul-sum-2 Inv-loop μ-loop
-mul-sum-2 c = search needs
 
 shared-slice-read-sum : tie.Need-shared-slice-read-sum Inv-loop μ-loop
 shared-slice-read-sum c =
@@ -82,12 +49,6 @@ add-sum-2 c =
     let i = c .before .before .before .before .before .loop .inv in
     omega (arith, i .few, i .small, c .shared-slice-known4 .given (cell (c .before .before .wide2 .result - 1) q) .fits)
 
-add-j : tie.Need-add-j Inv-loop μ-loop
-add-j c = search needs
-
-loop-less : tie.Need-loop-less Inv-loop μ-loop
-loop-less c = search needs
-
 loop-again : tie.Need-loop-again Inv-loop μ-loop
 loop-again c =
     let a = c .before .before .before .before .before .before .before .before .before .args in
@@ -107,26 +68,7 @@ pub ahead-of-spec : {M : Type 1} → statement M
 ahead-of-spec =
     tie.close
     (tie.spec
-    Inv-loop
-    μ-loop
-    mul-base
-    wide-requires
-    add-base
-    mul-base-2
-    loop-holds
-    add-wide
-    shared-slice-read-wide
-    wide-requires-2
-    cast-t16
-    returns
-    sub-sum
-    mul-sum
-    add-sum
-    mul-sum-2
-    shared-slice-read-sum
-    cast-sum
-    add-sum-2
-    add-j
-    loop-less
-    loop-again
-    returns-2)
+    Inv-loop μ-loop (λ c. search needs) (λ c κs. search needs) (λ c. search needs) (λ c. search needs) loop-holds
+    (λ c. search needs) (λ c. search needs) (λ c κs. search needs) (λ c. search needs) returns sub-sum (λ c. search needs)
+    (λ c. search needs) (λ c. search needs) shared-slice-read-sum cast-sum add-sum-2 (λ c. search needs) (λ c. search needs)
+    loop-again returns-2)

@@ -14,12 +14,6 @@ returns : tie.Need-returns
 unfolding begun
 returns c = rw (eq-eqb _ _ (c .if1 .taken))
 
-array-read-k : tie.Need-array-read-k
-array-read-k c = search needs
-
-cast-hold-of : tie.Need-cast-hold-of
-cast-hold-of c = search needs
-
 hold-of-requires : tie.Need-hold-of-requires
 hold-of-requires c κs =
     let a = c .before .before .before .before in
@@ -34,18 +28,6 @@ hold-of-requires c κs =
       a .pre .4 _ (omega (arith, a .pre .5 some, low)),
     )
 
-wide-requires : tie.Need-wide-requires
-wide-requires c κs = search needs
-
-mul-t20 : tie.Need-mul-t20
-mul-t20 c = search needs
-
-add-t21 : tie.Need-add-t21
-add-t21 c = search needs
-
-mul-t22 : tie.Need-mul-t22
-mul-t22 c = search needs
-
 shared-slice-read-t24 : tie.Need-shared-slice-read-t24
 shared-slice-read-t24 c =
     let p = c .before .before .before .before .before .before .before .pre in
@@ -59,13 +41,5 @@ pub begin-spec : {M : Type 1} → statement M
 begin-spec =
     tie.close
     (tie.spec
-    returns
-    array-read-k
-    cast-hold-of
-    hold-of-requires
-    wide-requires
-    mul-t20
-    add-t21
-    mul-t22
-    shared-slice-read-t24
-    returns-2)
+    returns (λ c. search needs) (λ c. search needs) hold-of-requires (λ c κs. search needs) (λ c. search needs)
+    (λ c. search needs) (λ c. search needs) shared-slice-read-t24 returns-2)

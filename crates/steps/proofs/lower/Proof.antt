@@ -22,15 +22,6 @@ loop-holds : tie.Need-loop-holds Inv-loop μ-loop
 unfolding eachBelow
 loop-holds c = (omega arith, refl)
 
-mul-s : tie.Need-mul-s Inv-loop μ-loop
-mul-s c = omega arith
-
-array-copy-out-s : tie.Need-array-copy-out-s Inv-loop μ-loop
-array-copy-out-s c = omega arith
-
-mul-queue : tie.Need-mul-queue Inv-loop μ-loop
-mul-queue c = omega arith
-
 shared-slice-read-queue : tie.Need-shared-slice-read-queue Inv-loop μ-loop
 shared-slice-read-queue c = omega (arith, c .before .before .before .before .before .before .pre .0)
 
@@ -48,18 +39,6 @@ shared-slice-read-on c =
 fall-requires : tie.Need-fall-requires Inv-loop μ-loop
 fall-requires c κs = tt
 
-mul-next : tie.Need-mul-next Inv-loop μ-loop
-mul-next c = omega arith
-
-array-set-from-next : tie.Need-array-set-from-next Inv-loop μ-loop
-array-set-from-next c = omega arith
-
-add-u : tie.Need-add-u Inv-loop μ-loop
-add-u c = omega arith
-
-loop-less : tie.Need-loop-less Inv-loop μ-loop
-loop-less c = omega arith
-
 loop-again : tie.Need-loop-again Inv-loop μ-loop
 loop-again c = (omega arith, each-step noStanding _ _ _ (c .before .before .before .before .before .loop .inv .1) (c .fall .ensures))
 
@@ -71,19 +50,6 @@ pub lower-spec : {M : Type 1} → statement M
 lower-spec =
     tie.close
     (tie.spec
-    Inv-loop
-    μ-loop
-    loop-holds
-    mul-s
-    array-copy-out-s
-    mul-queue
-    shared-slice-read-queue
-    cast-queue
-    shared-slice-read-on
-    fall-requires
-    mul-next
-    array-set-from-next
-    add-u
-    loop-less
-    loop-again
+    Inv-loop μ-loop loop-holds (λ c. omega arith) (λ c. omega arith) (λ c. omega arith) shared-slice-read-queue cast-queue
+    shared-slice-read-on fall-requires (λ c. omega arith) (λ c. omega arith) (λ c. omega arith) (λ c. omega arith) loop-again
     returns)

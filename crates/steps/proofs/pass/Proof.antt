@@ -9,52 +9,10 @@ use Rattle.steps.proofs.Passing.{seat-read, next-begins, turned-begins}
 use Rattle.steps.proofs.pass.Statement.{statement}
 use Rattle.steps.proofs.pass.Tie as tie
 
-array-read-head : tie.Need-array-read-head
-array-read-head c = search needs
-
-mul-next : tie.Need-mul-next
-mul-next c = search needs
-
-wide-requires : tie.Need-wide-requires
-wide-requires c κs = search needs
-
-add-next : tie.Need-add-next
-add-next c = search needs
-
-mul-next-2 : tie.Need-mul-next-2
-mul-next-2 c = search needs
-
-add-next-2 : tie.Need-add-next-2
-add-next-2 c = search needs
-
 shared-slice-read-next : tie.Need-shared-slice-read-next
 shared-slice-read-next c =
     let p = c .before .before .before .before .before .before .pre in
     omega (arith, p .5 .placed 0 (omega (arith, p .5 .some)))
-
-array-read-t13 : tie.Need-array-read-t13
-array-read-t13 c = search needs
-
-array-read-t24 : tie.Need-array-read-t24
-array-read-t24 c = search needs
-
-array-read-t27 : tie.Need-array-read-t27
-array-read-t27 c = search needs
-
-array-read-t30 : tie.Need-array-read-t30
-array-read-t30 c = search needs
-
-array-read-t33 : tie.Need-array-read-t33
-array-read-t33 c = search needs
-
-array-read-t36 : tie.Need-array-read-t36
-array-read-t36 c = search needs
-
-array-read-t39 : tie.Need-array-read-t39
-array-read-t39 c = search needs
-
-sub-begin : tie.Need-sub-begin
-sub-begin c = search needs
 
 begin-requires : tie.Need-begin-requires
 begin-requires c κs =
@@ -92,15 +50,6 @@ returns-2 c =
     let within = le-leb (c .before .before .hold-of .result) (a .line .«budget_left») (omega arith) in
     rw (some, ← c .before .before .hold-of .ensures, within)
 
-cast-queue : tie.Need-cast-queue
-cast-queue c = search needs
-
-sub-queue : tie.Need-sub-queue
-sub-queue c = search needs
-
-array-write-queue : tie.Need-array-write-queue
-array-write-queue c = search needs
-
 begin-requires-2 : tie.Need-begin-requires-2
 begin-requires-2 c κs =
     let a = c .before .before .before .before .before .before .before .before .before .before .before in
@@ -123,27 +72,7 @@ pub pass-spec : {M : Type 1} → statement M
 pass-spec =
     tie.close
     (tie.spec
-    array-read-head
-    mul-next
-    wide-requires
-    add-next
-    mul-next-2
-    add-next-2
-    shared-slice-read-next
-    array-read-t13
-    array-read-t24
-    array-read-t27
-    array-read-t30
-    array-read-t33
-    array-read-t36
-    array-read-t39
-    sub-begin
-    begin-requires
-    returns
-    hold-of-requires
-    returns-2
-    cast-queue
-    sub-queue
-    array-write-queue
-    begin-requires-2
-    returns-3)
+    (λ c. search needs) (λ c. search needs) (λ c κs. search needs) (λ c. search needs) (λ c. search needs) (λ c. search needs)
+    shared-slice-read-next (λ c. search needs) (λ c. search needs) (λ c. search needs) (λ c. search needs) (λ c. search needs)
+    (λ c. search needs) (λ c. search needs) (λ c. search needs) begin-requires returns hold-of-requires returns-2
+    (λ c. search needs) (λ c. search needs) (λ c. search needs) begin-requires-2 returns-3)

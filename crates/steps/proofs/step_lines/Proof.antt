@@ -34,12 +34,6 @@ loop-holds : tie.Need-loop-holds Inv-loop μ-loop
 unfolding eachBelow stampedBelow wordBelow
 loop-holds c = (omega arith, refl, refl, refl, refl)
 
-mul-line : tie.Need-mul-line Inv-loop μ-loop
-mul-line c = omega arith
-
-array-copy-out-line : tie.Need-array-copy-out-line Inv-loop μ-loop
-array-copy-out-line c = omega arith
-
 ends-requires : tie.Need-ends-requires Inv-loop μ-loop
 ends-requires c κs = tt
 
@@ -51,22 +45,10 @@ step-requires c κs =
     let e = line-kept _ _ _ _ (l .q) (l .inv .1) in
     (p .0, p .1, p .2, lt, p .3, (λ h. rw e (p .4 (l .q) lt (rw e at h))))
 
-mul-next : tie.Need-mul-next Inv-loop μ-loop
-mul-next c = omega arith
-
-array-set-from-next : tie.Need-array-set-from-next Inv-loop μ-loop
-array-set-from-next c = omega arith
-
-bit-requires : tie.Need-bit-requires Inv-loop μ-loop
-bit-requires c κs = omega arith
-
 add-cuts : tie.Need-add-cuts Inv-loop μ-loop
 add-cuts c =
     let l = c .before .before .before .before .before .before .loop in
     record { fits = word-fits _ 16 _ (l .inv .3) (cut-bit _ _ _ _ (l .q) (l .inv .1) (c .before .before .ends .ensures) (c .bit .ensures)) (omega arith) }
-
-bit-requires-2 : tie.Need-bit-requires-2 Inv-loop μ-loop
-bit-requires-2 c κs = omega arith
 
 add-grants : tie.Need-add-grants Inv-loop μ-loop
 add-grants c =
@@ -74,17 +56,8 @@ add-grants c =
     let b = grant-bit _ _ _ _ (l .q) (l .inv .1) (c .before .before .before .before .ends .ensures) (c .before .before .before .step .ensures) (c .bit2 .ensures) in
     record { fits = word-fits _ 16 _ (l .inv .4) b (omega arith) }
 
-mul-lost : tie.Need-mul-lost Inv-loop μ-loop
-mul-lost c = omega arith
-
-array-read-wide : tie.Need-array-read-wide Inv-loop μ-loop
-array-read-wide c = omega arith
-
 wide-requires : tie.Need-wide-requires Inv-loop μ-loop
 wide-requires c κs = tt
-
-add-lost : tie.Need-add-lost Inv-loop μ-loop
-add-lost c = omega arith
 
 array-write-lost : tie.Need-array-write-lost Inv-loop μ-loop
 array-write-lost c =
@@ -95,15 +68,6 @@ array-write-lost c =
     let r = p .4 (l .q) lt e .ready in
     let k = ap (λ (x : Line). slot x 0) (line-kept _ _ _ _ (l .q) (l .inv .1)) in
     omega (arith, c .wide .ensures .0, k, r .placed 0 (r .some))
-
-array-write-lost-2 : tie.Need-array-write-lost-2 Inv-loop μ-loop
-array-write-lost-2 c = omega arith
-
-add-q : tie.Need-add-q Inv-loop μ-loop
-add-q c = omega arith
-
-loop-less : tie.Need-loop-less Inv-loop μ-loop
-loop-less c = omega arith
 
 loop-again : tie.Need-loop-again Inv-loop μ-loop
 loop-again c =
@@ -133,26 +97,6 @@ pub step-lines-spec : {M : Type 1} → statement M
 step-lines-spec =
     tie.close
     (tie.spec
-    Inv-loop
-    μ-loop
-    loop-holds
-    mul-line
-    array-copy-out-line
-    ends-requires
-    step-requires
-    mul-next
-    array-set-from-next
-    bit-requires
-    add-cuts
-    bit-requires-2
-    add-grants
-    mul-lost
-    array-read-wide
-    wide-requires
-    add-lost
-    array-write-lost
-    array-write-lost-2
-    add-q
-    loop-less
-    loop-again
-    returns)
+    Inv-loop μ-loop loop-holds (λ c. omega arith) (λ c. omega arith) ends-requires step-requires (λ c. omega arith)
+    (λ c. omega arith) (λ c κs. omega arith) add-cuts (λ c κs. omega arith) add-grants (λ c. omega arith) (λ c. omega arith)
+    wide-requires (λ c. omega arith) array-write-lost (λ c. omega arith) (λ c. omega arith) (λ c. omega arith) loop-again returns)

@@ -20,9 +20,6 @@ abbrev μ-loop : tie.MeasureT-loop
 counts-requires : tie.Need-counts-requires Inv-loop μ-loop
 counts-requires c κs = c .before .pre
 
-wide-requires : tie.Need-wide-requires Inv-loop μ-loop
-wide-requires c κs = search needs
-
 user-marks-requires : tie.Need-user-marks-requires Inv-loop μ-loop
 user-marks-requires c κs = c .before .before .before .pre
 
@@ -30,22 +27,10 @@ loop-holds : tie.Need-loop-holds Inv-loop μ-loop
 unfolding placedBelow
 loop-holds c = (omega arith, c .before .wide .ensures .0 ∙ c .before .before .counts .ensures .0, valid-plan _ (c .before .before .before .before .pre), refl)
 
-slice-aggregate-user-count : tie.Need-slice-aggregate-user-count Inv-loop μ-loop
-slice-aggregate-user-count c = search needs
-
 user-count-requires : tie.Need-user-count-requires Inv-loop μ-loop
 user-count-requires c κs =
     let l = c .before .before .loop in
     (c .before .before .before .user-marks .ensures .long, omega (arith, l .inv .2 .processors), omega arith)
-
-array-write-globals : tie.Need-array-write-globals Inv-loop μ-loop
-array-write-globals c = omega arith
-
-add-q : tie.Need-add-q Inv-loop μ-loop
-add-q c = omega arith
-
-loop-less : tie.Need-loop-less Inv-loop μ-loop
-loop-less c = omega arith
 
 loop-again : tie.Need-loop-again Inv-loop μ-loop
 loop-again c =
@@ -63,16 +48,5 @@ pub globals-spec : {M : Type 1} → statement M
 globals-spec =
     tie.close
     (tie.spec
-    Inv-loop
-    μ-loop
-    counts-requires
-    wide-requires
-    user-marks-requires
-    loop-holds
-    slice-aggregate-user-count
-    user-count-requires
-    array-write-globals
-    add-q
-    loop-less
-    loop-again
-    returns)
+    Inv-loop μ-loop counts-requires (λ c κs. search needs) user-marks-requires loop-holds (λ c. search needs) user-count-requires
+    (λ c. omega arith) (λ c. omega arith) (λ c. omega arith) loop-again returns)

@@ -17,24 +17,9 @@ Inv-loop file globals s table₀ i₀ table i = (i ≤ s) × (table ≡ longestB
 abbrev μ-loop : tie.MeasureT-loop
 μ-loop file globals s table₀ i₀ table i = s - i
 
-counts-requires : tie.Need-counts-requires Inv-loop μ-loop
-counts-requires c κs = search needs
-
-cast-s : tie.Need-cast-s Inv-loop μ-loop
-cast-s c = omega arith
-
 loop-holds : tie.Need-loop-holds Inv-loop μ-loop
 unfolding maxedBelow
 loop-holds c = (omega arith, refl)
-
-section-requires : tie.Need-section-requires Inv-loop μ-loop
-section-requires c κs = search needs
-
-wide-requires : tie.Need-wide-requires Inv-loop μ-loop
-wide-requires c κs = search needs
-
-wide-requires-2 : tie.Need-wide-requires-2 Inv-loop μ-loop
-wide-requires-2 c κs = search needs
 
 array-read-shared : tie.Need-array-read-shared Inv-loop μ-loop
 array-read-shared c =
@@ -43,9 +28,6 @@ array-read-shared c =
     let below : i < planOf (a .args .file .now) .sections = omega arith in
     omega (arith, row-resource _ (a .pre .0) i below (c .before .before .section .ensures))
 
-mul-longer : tie.Need-mul-longer Inv-loop μ-loop
-mul-longer c = omega arith
-
 array-read-longer : tie.Need-array-read-longer Inv-loop μ-loop
 array-read-longer c =
     let a = c .before .before .before .before .before .before .before .before in
@@ -53,23 +35,8 @@ array-read-longer c =
     let below : i < planOf (a .args .file .now) .sections = omega arith in
     omega (arith, row-task _ (a .pre .0) i below (c .before .before .section .ensures))
 
-chosen-requires : tie.Need-chosen-requires Inv-loop μ-loop
-chosen-requires c κs = search needs
-
-longer-requires : tie.Need-longer-requires Inv-loop μ-loop
-longer-requires c κs = search needs
-
-mul-table : tie.Need-mul-table Inv-loop μ-loop
-mul-table c = omega arith
-
 array-write-table : tie.Need-array-write-table Inv-loop μ-loop
 array-write-table c = array-read-longer (c .before .before)
-
-add-i : tie.Need-add-i Inv-loop μ-loop
-add-i c = omega arith
-
-loop-less : tie.Need-loop-less Inv-loop μ-loop
-loop-less c = omega arith
 
 loop-again : tie.Need-loop-again Inv-loop μ-loop
 loop-again c =
@@ -90,22 +57,6 @@ pub longest-globals-spec : {M : Type 1} → statement M
 longest-globals-spec =
     tie.close
     (tie.spec
-    Inv-loop
-    μ-loop
-    counts-requires
-    cast-s
-    loop-holds
-    section-requires
-    wide-requires
-    wide-requires-2
-    array-read-shared
-    mul-longer
-    array-read-longer
-    chosen-requires
-    longer-requires
-    mul-table
-    array-write-table
-    add-i
-    loop-less
-    loop-again
-    returns)
+    Inv-loop μ-loop (λ c κs. search needs) (λ c. omega arith) loop-holds (λ c κs. search needs) (λ c κs. search needs)
+    (λ c κs. search needs) array-read-shared (λ c. omega arith) array-read-longer (λ c κs. search needs) (λ c κs. search needs)
+    (λ c. omega arith) array-write-table (λ c. omega arith) (λ c. omega arith) loop-again returns)

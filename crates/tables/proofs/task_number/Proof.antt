@@ -22,9 +22,6 @@ abbrev μ-loop : tie.MeasureT-loop
 counts-requires : tie.Need-counts-requires Inv-loop μ-loop
 counts-requires c κs = c .before .pre
 
-wide-requires : tie.Need-wide-requires Inv-loop μ-loop
-wide-requires c κs = search needs
-
 loop-holds : tie.Need-loop-holds Inv-loop μ-loop
 unfolding allBelow
 loop-holds c = (omega arith, c .wide .ensures .0 ∙ c .before .counts .ensures .1, refl)
@@ -37,12 +34,6 @@ unfolding taskNumber
 returns c =
     let l = c .before .before .before .before .loop in
     sym (find-at _ (l .j) _ (omega arith) (l .inv .2) (rw (← c .before .before .task .ensures) (eq-eqb _ _ (c .if1 .taken))))
-
-add-j : tie.Need-add-j Inv-loop μ-loop
-add-j c = omega arith
-
-loop-less : tie.Need-loop-less Inv-loop μ-loop
-loop-less c = omega arith
 
 loop-again : tie.Need-loop-again Inv-loop μ-loop
 loop-again c =
@@ -63,14 +54,5 @@ pub task-number-spec : {M : Type 1} → statement M
 task-number-spec =
     tie.close
     (tie.spec
-    Inv-loop
-    μ-loop
-    counts-requires
-    wide-requires
-    loop-holds
-    task-requires
-    returns
-    add-j
-    loop-less
-    loop-again
-    returns-2)
+    Inv-loop μ-loop counts-requires (λ c κs. search needs) loop-holds task-requires returns (λ c. omega arith) (λ c. omega arith)
+    loop-again returns-2)

@@ -14,47 +14,11 @@ Inv-loop file n table₀ j₀ table j = (j ≤ n) × (PlacesBelow (planOf file) 
 abbrev μ-loop : tie.MeasureT-loop
 μ-loop file n table₀ j₀ table j = n - j
 
-counts-requires : tie.Need-counts-requires Inv-loop μ-loop
-counts-requires c κs = search needs
-
-wide-requires : tie.Need-wide-requires Inv-loop μ-loop
-wide-requires c κs = search needs
-
-longest-globals-requires : tie.Need-longest-globals-requires Inv-loop μ-loop
-longest-globals-requires c κs = search needs
-
 loop-holds : tie.Need-loop-holds Inv-loop μ-loop
 loop-holds c = (omega arith, places-none _ (c .longest-globals .ensures))
 
-task-requires : tie.Need-task-requires Inv-loop μ-loop
-task-requires c κs = search needs
-
-half-requires : tie.Need-half-requires Inv-loop μ-loop
-half-requires c κs = search needs
-
-mul-table : tie.Need-mul-table Inv-loop μ-loop
-mul-table c = omega arith
-
-half-requires-2 : tie.Need-half-requires-2 Inv-loop μ-loop
-half-requires-2 c κs = search needs
-
-add-table : tie.Need-add-table Inv-loop μ-loop
-add-table c = omega arith
-
-add-table-2 : tie.Need-add-table-2 Inv-loop μ-loop
-add-table-2 c = omega arith
-
-mul-table-2 : tie.Need-mul-table-2 Inv-loop μ-loop
-mul-table-2 c = omega arith
-
 array-write-table : tie.Need-array-write-table Inv-loop μ-loop
 array-write-table c = omega (arith, valid-plan _ (c .before .before .before .before .before .before .before .before .before .pre .0) .tasks)
-
-add-j : tie.Need-add-j Inv-loop μ-loop
-add-j c = omega arith
-
-loop-less : tie.Need-loop-less Inv-loop μ-loop
-loop-less c = omega arith
 
 loop-again : tie.Need-loop-again Inv-loop μ-loop
 loop-again c =
@@ -69,21 +33,6 @@ pub task-table-spec : {M : Type 1} → statement M
 task-table-spec =
     tie.close
     (tie.spec
-    Inv-loop
-    μ-loop
-    counts-requires
-    wide-requires
-    longest-globals-requires
-    loop-holds
-    task-requires
-    half-requires
-    mul-table
-    half-requires-2
-    add-table
-    add-table-2
-    mul-table-2
-    array-write-table
-    add-j
-    loop-less
-    loop-again
-    returns)
+    Inv-loop μ-loop (λ c κs. search needs) (λ c κs. search needs) (λ c κs. search needs) loop-holds (λ c κs. search needs)
+    (λ c κs. search needs) (λ c. omega arith) (λ c κs. search needs) (λ c. omega arith) (λ c. omega arith) (λ c. omega arith)
+    array-write-table (λ c. omega arith) (λ c. omega arith) loop-again returns)

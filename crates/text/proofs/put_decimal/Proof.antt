@@ -45,29 +45,8 @@ Inv-loop buf₀ at n count rest₀ k₀ buf rest k =
 abbrev μ-loop : tie.MeasureT-loop
 μ-loop buf₀ at n count rest₀ k₀ buf rest k = k
 
-places-requires : tie.Need-places-requires Inv-loop μ-loop
-places-requires c κs = search needs
-
 loop-holds : tie.Need-loop-holds Inv-loop μ-loop
 loop-holds c = (omega arith, refl, refl)
-
-sub-k : tie.Need-sub-k Inv-loop μ-loop
-sub-k c = omega arith
-
-add-buf : tie.Need-add-buf Inv-loop μ-loop
-add-buf c = omega arith
-
-cast-buf : tie.Need-cast-buf Inv-loop μ-loop
-cast-buf c = omega arith
-
-add-buf-2 : tie.Need-add-buf-2 Inv-loop μ-loop
-add-buf-2 c = omega arith
-
-slice-write-buf : tie.Need-slice-write-buf Inv-loop μ-loop
-slice-write-buf c = omega arith
-
-loop-less : tie.Need-loop-less Inv-loop μ-loop
-loop-less c = omega arith
 
 loop-again : tie.Need-loop-again Inv-loop μ-loop
 loop-again c =
@@ -77,9 +56,6 @@ loop-again c =
       one-more (l .buf) (a .args .at) (l .k - 1) (l .k) (l .rest) (omega arith) (omega arith) ∙ l .inv .1,
       simp length-set (l .inv .2),
     )
-
-add-result : tie.Need-add-result Inv-loop μ-loop
-add-result c = omega arith
 
 same-length : tie.Need-same-length Inv-loop μ-loop
 same-length c = c .before .loop .inv .2
@@ -97,17 +73,5 @@ pub put-decimal-spec : {M : Type 1} → statement M
 put-decimal-spec =
     tie.close
     (tie.spec
-    Inv-loop
-    μ-loop
-    places-requires
-    loop-holds
-    sub-k
-    add-buf
-    cast-buf
-    add-buf-2
-    slice-write-buf
-    loop-less
-    loop-again
-    add-result
-    same-length
-    returns)
+    Inv-loop μ-loop (λ c κs. search needs) loop-holds (λ c. omega arith) (λ c. omega arith) (λ c. omega arith) (λ c. omega arith)
+    (λ c. omega arith) (λ c. omega arith) loop-again (λ c. omega arith) same-length returns)

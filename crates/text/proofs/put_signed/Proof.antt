@@ -46,21 +46,6 @@ module _ (z : ℤ) (s : SFits w64 z) where
   plain : {l m : List ℕ} {at e : ℕ} → ltZ held (pos 0) ≡ false → Put l m at (decimal (natAbs held)) e → Put l m at (signed z) e
   plain t p = put-held signed z s (put-not-below held (not-below held t) p)
 
-slice-aggregate-put : tie.Need-slice-aggregate-put
-slice-aggregate-put c = search needs
-
-put-requires : tie.Need-put-requires
-put-requires c κs = search needs
-
-below-zero-requires : tie.Need-below-zero-requires
-below-zero-requires c κs = search needs
-
-put-decimal-requires : tie.Need-put-decimal-requires
-put-decimal-requires c κs = search needs
-
-same-length : tie.Need-same-length
-same-length c = search needs
-
 returns : tie.Need-returns
 returns c =
     let a = c .before .before .before .before .before .before .before .before .before .before .before .before in
@@ -74,12 +59,6 @@ returns c =
 cast-put-decimal : tie.Need-cast-put-decimal
 cast-put-decimal c = casts _ (c .before .before .before .fits .z) (c .before .if1 .left)
 
-put-decimal-requires-2 : tie.Need-put-decimal-requires-2
-put-decimal-requires-2 c κs = search needs
-
-same-length-2 : tie.Need-same-length-2
-same-length-2 c = search needs
-
 returns-2 : tie.Need-returns-2
 returns-2 c =
     let a = c .before .before .before .before .before .before in
@@ -92,13 +71,5 @@ pub put-signed-spec : {M : Type 1} → statement M
 put-signed-spec =
     tie.close
     (tie.spec
-    slice-aggregate-put
-    put-requires
-    below-zero-requires
-    put-decimal-requires
-    same-length
-    returns
-    cast-put-decimal
-    put-decimal-requires-2
-    same-length-2
-    returns-2)
+    (λ c. search needs) (λ c κs. search needs) (λ c κs. search needs) (λ c κs. search needs) (λ c. search needs) returns
+    cast-put-decimal (λ c κs. search needs) (λ c. search needs) returns-2)

@@ -6,15 +6,6 @@ use Rattle.transcript.proofs.Calls.{stepped-none, stepped-call}
 use Rattle.transcript.proofs.put_call.Statement.{statement}
 use Rattle.transcript.proofs.put_call.Tie as tie
 
-decode-requires : tie.Need-decode-requires
-decode-requires c κs = search needs
-
-put-refused-requires : tie.Need-put-refused-requires
-put-refused-requires c κs = search needs
-
-same-length : tie.Need-same-length
-same-length c = search needs
-
 returns : tie.Need-returns
 returns c =
     let i = c .before .before .before .before in
@@ -22,17 +13,11 @@ returns c =
     let p = c .before .before .put-refused .ensures in
     stepped-none _ _ _ _ _ e (p .0) (p .1)
 
-call-requires : tie.Need-call-requires
-call-requires c κs = search needs
-
 put-answer-requires : tie.Need-put-answer-requires
 put-answer-requires c κs =
     let i = c .before .before .before in
     let e = decoded-call _ (i .before .before .decode .ensures) (i .if1 .left) in
     (rw (c .before .before .call .ensures .0) (call-names _ (λ k l. c .before .before .before .before .before .before .before .before .shared-slice-known .given k .fits) _ _ _ _ _ e), search needs)
-
-same-length-2 : tie.Need-same-length-2
-same-length-2 c = search needs
 
 returns-2 : tie.Need-returns-2
 returns-2 c =
@@ -46,11 +31,5 @@ pub put-call-spec : {M : Type 1} → statement M
 put-call-spec =
     tie.close
     (tie.spec
-    decode-requires
-    put-refused-requires
-    same-length
-    returns
-    call-requires
-    put-answer-requires
-    same-length-2
-    returns-2)
+    (λ c κs. search needs) (λ c κs. search needs) (λ c. search needs) returns (λ c κs. search needs) put-answer-requires
+    (λ c. search needs) returns-2)

@@ -37,9 +37,6 @@ loop-holds c =
 task-requires-2 : tie.Need-task-requires-2 Inv-loop μ-loop
 task-requires-2 c κs = (c .before .before .before .before .before .before .before .pre .0, omega arith)
 
-mul-hold : tie.Need-mul-hold Inv-loop μ-loop
-mul-hold c = omega arith
-
 add-hold : tie.Need-add-hold Inv-loop μ-loop
 add-hold c = omega (arith, c .before .before .before .before .before .before .before .before .pre .3)
 
@@ -57,18 +54,6 @@ add-count c = omega (arith, c .before .before .before .before .before .loop .inv
 
 chosen-requires : tie.Need-chosen-requires Inv-loop μ-loop
 chosen-requires c κs = tt
-
-cast-sum : tie.Need-cast-sum Inv-loop μ-loop
-cast-sum c = search needs
-
-add-sum : tie.Need-add-sum Inv-loop μ-loop
-add-sum c = search needs
-
-add-j : tie.Need-add-j Inv-loop μ-loop
-add-j c = omega arith
-
-loop-less : tie.Need-loop-less Inv-loop μ-loop
-loop-less c = omega arith
 
 loop-again : tie.Need-loop-again Inv-loop μ-loop
 loop-again c =
@@ -93,23 +78,6 @@ pub fellows-of-spec : {M : Type 1} → statement M
 fellows-of-spec =
     tie.close
     (tie.spec
-    Inv-loop
-    μ-loop
-    counts-requires
-    wide-requires
-    task-requires
-    loop-holds
-    task-requires-2
-    mul-hold
-    add-hold
-    mul-hold-2
-    shared-slice-read-hold
-    flag-requires
-    add-count
-    chosen-requires
-    cast-sum
-    add-sum
-    add-j
-    loop-less
-    loop-again
-    returns)
+    Inv-loop μ-loop counts-requires wide-requires task-requires loop-holds task-requires-2 (λ c. omega arith) add-hold mul-hold-2
+    shared-slice-read-hold flag-requires add-count chosen-requires (λ c. search needs) (λ c. search needs) (λ c. omega arith)
+    (λ c. omega arith) loop-again returns)

@@ -11,21 +11,6 @@ use Rattle.waits.proofs.Counting.{longest-made, product-fits, sum-fits}
 use Rattle.waits.proofs.longest_of.Statement.{statement}
 use Rattle.waits.proofs.longest_of.Tie as tie
 
-task-requires : tie.Need-task-requires
-task-requires c κs = search needs
-
-wait-in-requires : tie.Need-wait-in-requires
-wait-in-requires c κs = search needs
-
-fellows-of-requires : tie.Need-fellows-of-requires
-fellows-of-requires c κs = search needs
-
-cast-t10 : tie.Need-cast-t10
-cast-t10 c = search needs
-
-add-t11 : tie.Need-add-t11
-add-t11 c = search needs
-
 mul-t12 : tie.Need-mul-t12
 mul-t12 c = product-fits (let few : _ ≤ 65 = omega (arith, c .fellows-of .ensures .2) in few) (c .before .wait-in .ensures .1)
 
@@ -47,11 +32,5 @@ pub longest-of-spec : {M : Type 1} → statement M
 longest-of-spec =
     tie.close
     (tie.spec
-    task-requires
-    wait-in-requires
-    fellows-of-requires
-    cast-t10
-    add-t11
-    mul-t12
-    add-t13
+    (λ c κs. search needs) (λ c κs. search needs) (λ c κs. search needs) (λ c. search needs) (λ c. search needs) mul-t12 add-t13
     returns)

@@ -12,49 +12,9 @@ Inv-loop s rows₀ i₀ rows i = (i ≤ 255) × (length rows ≡ 255)
 abbrev μ-loop : tie.MeasureT-loop
 μ-loop s rows₀ i₀ rows i = 255 - i
 
-section-requires : tie.Need-section-requires Inv-loop μ-loop
-section-requires c κs = search needs
-
-loop-holds : tie.Need-loop-holds Inv-loop μ-loop
-loop-holds c = search needs
-
-mul-section : tie.Need-mul-section Inv-loop μ-loop
-mul-section c = search needs
-
-section-requires-2 : tie.Need-section-requires-2 Inv-loop μ-loop
-section-requires-2 c κs = search needs
-
-mul-rows : tie.Need-mul-rows Inv-loop μ-loop
-mul-rows c = search needs
-
-array-set-from-rows : tie.Need-array-set-from-rows Inv-loop μ-loop
-array-set-from-rows c = search needs
-
-add-i : tie.Need-add-i Inv-loop μ-loop
-add-i c = search needs
-
-loop-less : tie.Need-loop-less Inv-loop μ-loop
-loop-less c = search needs
-
-loop-again : tie.Need-loop-again Inv-loop μ-loop
-loop-again c = search needs
-
-returns : tie.Need-returns Inv-loop μ-loop
-returns c = search needs
-
 pub sections-spec : {M : Type 1} → statement M
 sections-spec =
     tie.close
     (tie.spec
-    Inv-loop
-    μ-loop
-    section-requires
-    loop-holds
-    mul-section
-    section-requires-2
-    mul-rows
-    array-set-from-rows
-    add-i
-    loop-less
-    loop-again
-    returns)
+    Inv-loop μ-loop (λ c κs. search needs) (λ c. search needs) (λ c. search needs) (λ c κs. search needs) (λ c. search needs)
+    (λ c. search needs) (λ c. search needs) (λ c. search needs) (λ c. search needs) (λ c. search needs))

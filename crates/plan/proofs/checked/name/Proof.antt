@@ -27,9 +27,6 @@ length-said c =
 counts-at-requires : tie.Need-counts-at-requires
 counts-at-requires c κs = asked (c .before) .whole .header .long
 
-resources-at-requires : tie.Need-resources-at-requires
-resources-at-requires c κs = search needs
-
 sub-resource-at : tie.Need-sub-resource-at
 sub-resource-at c =
     let e = c .resources-at .ensures ∙ ap resourcesAt (c .before .counts-at .ensures) in
@@ -40,32 +37,11 @@ part-resource-at-start c =
     let e = c .resources-at .ensures ∙ ap resourcesAt (c .before .counts-at .ensures) in
     omega (arith, asked (c .before .before .before) .whole .header .ends)
 
-part-resource-at-end : tie.Need-part-resource-at-end
-part-resource-at-end c = search needs
-
-wide-requires : tie.Need-wide-requires
-wide-requires c κs = search needs
-
 resource-at-requires : tie.Need-resource-at-requires
 resource-at-requires c κs =
     let n = asked (c .before .before .before .before .before) in
     let e = c .before .before .resources-at .ensures ∙ ap resourcesAt (c .before .before .before .counts-at .ensures) in
     simp (part-rest, length-drop) (omega (arith, n .whole .header .ends, n .below, c .wide .ensures .0, c .wide .ensures .1))
-
-names-at-requires : tie.Need-names-at-requires
-names-at-requires c κs = search needs
-
-add-start : tie.Need-add-start
-add-start c = search needs
-
-add-end : tie.Need-add-end
-add-end c = search needs
-
-sub-result : tie.Need-sub-result
-sub-result c = search needs
-
-part-result-start : tie.Need-part-result-start
-part-result-start c = search needs
 
 part-result-end : tie.Need-part-result-end
 part-result-end c =
@@ -87,17 +63,6 @@ pub name-spec : {M : Type 1} → statement M
 name-spec =
     tie.close
     (tie.spec
-    counts-at-requires
-    resources-at-requires
-    sub-resource-at
-    part-resource-at-start
-    part-resource-at-end
-    wide-requires
-    resource-at-requires
-    names-at-requires
-    add-start
-    add-end
-    sub-result
-    part-result-start
-    part-result-end
-    returns)
+    counts-at-requires (λ c κs. search needs) sub-resource-at part-resource-at-start (λ c. search needs) (λ c κs. search needs)
+    resource-at-requires (λ c κs. search needs) (λ c. search needs) (λ c. search needs) (λ c. search needs) (λ c. search needs)
+    part-result-end returns)

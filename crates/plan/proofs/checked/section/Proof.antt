@@ -13,9 +13,6 @@ use Rattle.plan.proofs.checked.section.Tie as tie
 counts-at-requires : tie.Need-counts-at-requires
 counts-at-requires c κs = whole-facts _ (c .before .pre .0 .none) .header .long
 
-sections-at-requires : tie.Need-sections-at-requires
-sections-at-requires c κs = search needs
-
 sub-section-at : tie.Need-sub-section-at
 sub-section-at c =
     let h = whole-facts _ (c .before .before .before .pre .0 .none) .header in
@@ -27,9 +24,6 @@ part-section-at-start c =
     let h = whole-facts _ (c .before .before .before .pre .0 .none) .header in
     let e = c .sections-at .ensures ∙ ap sectionsAt (c .before .counts-at .ensures) in
     omega (arith, h .ends)
-
-part-section-at-end : tie.Need-part-section-at-end
-part-section-at-end c = search needs
 
 section-at-requires : tie.Need-section-at-requires
 section-at-requires c κs =
@@ -46,10 +40,5 @@ pub section-spec : {M : Type 1} → statement M
 section-spec =
     tie.close
     (tie.spec
-    counts-at-requires
-    sections-at-requires
-    sub-section-at
-    part-section-at-start
-    part-section-at-end
-    section-at-requires
+    counts-at-requires (λ c κs. search needs) sub-section-at part-section-at-start (λ c. search needs) section-at-requires
     returns)

@@ -23,20 +23,8 @@ loop-holds c = (omega arith, refl, refl)
 name-is-new-requires : tie.Need-name-is-new-requires Inv-loop μ-loop
 name-is-new-requires c κs = omega (arith, sum-at _ _ (lengthOf (c .before .before .before .args .t1)) (c .loop-test .taken))
 
-array-read-wide : tie.Need-array-read-wide Inv-loop μ-loop
-array-read-wide c = omega arith
-
-wide-requires : tie.Need-wide-requires Inv-loop μ-loop
-wide-requires c κs = omega arith
-
 add-at : tie.Need-add-at Inv-loop μ-loop
 add-at c = omega (arith, sum-at _ _ (lengthOf (c .before .before .before .before .before .args .t1)) (c .before .before .loop-test .taken))
-
-add-i : tie.Need-add-i Inv-loop μ-loop
-add-i c = omega arith
-
-loop-less : tie.Need-loop-less Inv-loop μ-loop
-loop-less c = omega arith
 
 loop-again : tie.Need-loop-again Inv-loop μ-loop
 loop-again c = (
@@ -53,14 +41,5 @@ pub bytes-differ-spec : {M : Type 1} → statement M
 bytes-differ-spec =
     tie.close
     (tie.spec
-    Inv-loop
-    μ-loop
-    loop-holds
-    name-is-new-requires
-    array-read-wide
-    wide-requires
-    add-at
-    add-i
-    loop-less
-    loop-again
-    returns)
+    Inv-loop μ-loop loop-holds name-is-new-requires (λ c. omega arith) (λ c κs. omega arith) add-at (λ c. omega arith)
+    (λ c. omega arith) loop-again returns)

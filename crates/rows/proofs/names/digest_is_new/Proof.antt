@@ -17,27 +17,9 @@ Inv-loop i found own ok₀ j₀ ok j = (j ≤ i) × (ok ≡ allBelow j (λ k. no
 abbrev μ-loop : tie.MeasureT-loop
 μ-loop i found own ok₀ j₀ ok j = i - j
 
-mul-own : tie.Need-mul-own Inv-loop μ-loop
-mul-own c = omega arith
-
-array-read-own : tie.Need-array-read-own Inv-loop μ-loop
-array-read-own c = omega arith
-
 loop-holds : tie.Need-loop-holds Inv-loop μ-loop
 unfolding allBelow
 loop-holds c = (omega arith, refl)
-
-mul-ok : tie.Need-mul-ok Inv-loop μ-loop
-mul-ok c = omega arith
-
-array-read-ok : tie.Need-array-read-ok Inv-loop μ-loop
-array-read-ok c = omega arith
-
-add-j : tie.Need-add-j Inv-loop μ-loop
-add-j c = omega arith
-
-loop-less : tie.Need-loop-less Inv-loop μ-loop
-loop-less c = omega arith
 
 loop-again : tie.Need-loop-again Inv-loop μ-loop
 loop-again c = (omega arith, all-step _ _ (c .before .loop .inv .1) refl)
@@ -50,14 +32,5 @@ pub digest-is-new-spec : {M : Type 1} → statement M
 digest-is-new-spec =
     tie.close
     (tie.spec
-    Inv-loop
-    μ-loop
-    mul-own
-    array-read-own
-    loop-holds
-    mul-ok
-    array-read-ok
-    add-j
-    loop-less
-    loop-again
-    returns)
+    Inv-loop μ-loop (λ c. omega arith) (λ c. omega arith) loop-holds (λ c. omega arith) (λ c. omega arith) (λ c. omega arith)
+    (λ c. omega arith) loop-again returns)

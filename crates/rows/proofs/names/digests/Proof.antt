@@ -26,32 +26,14 @@ loop-holds : tie.Need-loop-holds Inv-loop μ-loop
 unfolding sumBelow placedBelow
 loop-holds c = (omega arith, refl, refl)
 
-array-read-wide : tie.Need-array-read-wide Inv-loop μ-loop
-array-read-wide c = omega arith
-
 digest-of-requires : tie.Need-digest-of-requires Inv-loop μ-loop
 digest-of-requires c κs =
     let a = c .before .before .before .before in
     let f = length-facts _ _ (a .args .t1) (a .pre .1) (c .before .loop-test .taken) in
     omega (arith, f .low, f .high, c .wide .ensures, sum-at _ _ (lengthOf (a .args .t1)) (c .before .loop-test .taken))
 
-mul-found : tie.Need-mul-found Inv-loop μ-loop
-mul-found c = omega arith
-
-array-write-found : tie.Need-array-write-found Inv-loop μ-loop
-array-write-found c = omega arith
-
-wide-requires : tie.Need-wide-requires Inv-loop μ-loop
-wide-requires c κs = omega arith
-
 add-at : tie.Need-add-at Inv-loop μ-loop
 add-at c = omega (arith, c .before .wide .ensures, sum-at _ _ (lengthOf (c .before .before .before .before .before .args .t1)) (c .before .before .loop-test .taken))
-
-add-i : tie.Need-add-i Inv-loop μ-loop
-add-i c = omega arith
-
-loop-less : tie.Need-loop-less Inv-loop μ-loop
-loop-less c = omega arith
 
 loop-again : tie.Need-loop-again Inv-loop μ-loop
 loop-again c = (
@@ -68,16 +50,5 @@ pub digests-spec : {M : Type 1} → statement M
 digests-spec =
     tie.close
     (tie.spec
-    Inv-loop
-    μ-loop
-    loop-holds
-    array-read-wide
-    wide-requires
-    digest-of-requires
-    mul-found
-    array-write-found
-    add-at
-    add-i
-    loop-less
-    loop-again
-    returns)
+    Inv-loop μ-loop loop-holds (λ c. omega arith) (λ c κs. omega arith) digest-of-requires (λ c. omega arith) (λ c. omega arith)
+    add-at (λ c. omega arith) (λ c. omega arith) loop-again returns)

@@ -25,20 +25,8 @@ loop-holds c = (omega arith, refl, refl)
 differs-requires : tie.Need-differs-requires Inv-loop μ-loop
 differs-requires c κs = omega (arith, sum-at _ _ (lengthOf (c .before .before .before .args .t1)) (c .loop-test .taken))
 
-array-read-wide : tie.Need-array-read-wide Inv-loop μ-loop
-array-read-wide c = omega arith
-
-wide-requires : tie.Need-wide-requires Inv-loop μ-loop
-wide-requires c κs = omega arith
-
 add-other : tie.Need-add-other Inv-loop μ-loop
 add-other c = omega (arith, sum-at _ _ (lengthOf (c .before .before .before .before .before .args .t1)) (c .before .before .loop-test .taken))
-
-add-j : tie.Need-add-j Inv-loop μ-loop
-add-j c = omega arith
-
-loop-less : tie.Need-loop-less Inv-loop μ-loop
-loop-less c = omega arith
 
 loop-again : tie.Need-loop-again Inv-loop μ-loop
 loop-again c = (
@@ -55,14 +43,5 @@ pub name-is-new-spec : {M : Type 1} → statement M
 name-is-new-spec =
     tie.close
     (tie.spec
-    Inv-loop
-    μ-loop
-    loop-holds
-    differs-requires
-    array-read-wide
-    wide-requires
-    add-other
-    add-j
-    loop-less
-    loop-again
-    returns)
+    Inv-loop μ-loop loop-holds differs-requires (λ c. omega arith) (λ c κs. omega arith) add-other (λ c. omega arith)
+    (λ c. omega arith) loop-again returns)

@@ -7,23 +7,14 @@ use borrow.Author.Needs.{needs}
 use Rattle.rows.proofs.names.names_ok.Statement.{statement}
 use Rattle.rows.proofs.names.names_ok.Tie as tie
 
-total-length-requires : tie.Need-total-length-requires
-total-length-requires c κs = search needs
-
 returns : tie.Need-returns
 unfolding namesOk
 returns c = simp (← c .before .total-length .ensures .0, ne-eqb _ _ (c .if1 .taken))
-
-lengths-ok-requires : tie.Need-lengths-ok-requires
-lengths-ok-requires c κs = search needs
 
 returns-2 : tie.Need-returns-2
 unfolding namesOk
 returns-2 c =
     simp (← c .before .before .before .total-length .ensures .0, eq-eqb _ _ (c .before .before .if1 .left), failed (c .before .lengths-ok .ensures) (c .if2 .taken))
-
-bytes-ok-requires : tie.Need-bytes-ok-requires
-bytes-ok-requires c κs = search needs
 
 names-differ-requires : tie.Need-names-differ-requires
 names-differ-requires c κs =
@@ -38,10 +29,4 @@ pub names-ok-spec : {M : Type 1} → statement M
 names-ok-spec =
     tie.close
     (tie.spec
-    total-length-requires
-    returns
-    lengths-ok-requires
-    returns-2
-    bytes-ok-requires
-    names-differ-requires
-    returns-3)
+    (λ c κs. search needs) returns (λ c κs. search needs) returns-2 (λ c κs. search needs) names-differ-requires returns-3)
