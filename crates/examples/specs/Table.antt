@@ -14,7 +14,7 @@ use Rattle.protocol.specs.declared.Call.{Call}
 use Rattle.protocol.specs.declared.Call.the-variants.{Request, Release, Tick}
 use Rattle.protocol.specs.declared.Answer.{Answer}
 use Rattle.protocol.specs.declared.Answer.the-variants.{Granted, Waits, Next, Free, Ticked, Refused}
-use Rattle.protocol.specs.Machine.{Lines, fresh, step, answer, answerTold, run}
+use Rattle.protocol.specs.Machine.{View, fresh, step, answer, answerTold, run}
 use Rattle.protocol.specs.Longest.{longestWait}
 use Rattle.plan.specs.Plan.{Plan}
 use Rattle.examples.specs.Paper.{paper, toThree, toEleven, equal, toLast, bus, seven}
@@ -51,7 +51,7 @@ spelledAll [] = []
 spelledAll (a ∷ rest) = spelled a ++ spelledAll rest
 
 -- what each of the calls is answered, the first made on s
-abbrev pub answersFrom : Plan → Lines → List Call → List Answer
+abbrev pub answersFrom : Plan → View → List Call → List Answer
 answersFrom p s [] = []
 answersFrom p s (c ∷ cs) = answer p s c ∷ answersFrom p (step p s c) cs
 
@@ -98,15 +98,15 @@ unfoldable pub c3 : List Row → List Row
 c3 rest =
     areAnswers (answersFrom (paper 61) fresh toThree) (Granted ∷ Waits 0 7 ∷ Ticked 0 0 ∷ Ticked 0 0 ∷ [])
     ∷ areAnswers (answersFrom (paper 61) (run (paper 61) toThree) (Request 11 0 ∷ Release 12 0 ∷ [])) (Waits 1 24 ∷ Next 11 ∷ [])
-    ∷ isTest (isHead 1 (run (paper 61) (toThree ++ (Request 11 0 ∷ Release 12 0 ∷ [])) 0)) true
+    ∷ isTest (isHead 1 (run (paper 61) (toThree ++ (Request 11 0 ∷ Release 12 0 ∷ [])) .lines 0)) true
     ∷ areAnswers (answersFrom (paper 61) (run (paper 61) toThree) (Release 12 0 ∷ Request 11 0 ∷ [])) (Next 2 ∷ Waits 0 10 ∷ [])
-    ∷ isTest (queued 1 (run (paper 61) (toThree ++ (Release 12 0 ∷ [])) 0)) false
+    ∷ isTest (queued 1 (run (paper 61) (toThree ++ (Release 12 0 ∷ [])) .lines 0)) false
     ∷ rest
 
 -- C4. "The paper's third task of P2 is granted R1 at 11 and has 7 ticks: cut at 18, not released at 19."
 unfoldable pub c4 : List Row → List Row
 c4 rest =
-    isTest (Rules.holds 7 (run (paper 61) toEleven 0)) true
+    isTest (Rules.holds 7 (run (paper 61) toEleven .lines 0)) true
     ∷ areAnswers (answersFrom (paper 61) (run (paper 61) toEleven) (Tick ∷ Tick ∷ Tick ∷ Tick ∷ Tick ∷ Tick ∷ Tick ∷ Release 13 0 ∷ []))
     (Ticked 0 0 ∷ Ticked 0 0 ∷ Ticked 0 0 ∷ Ticked 0 0 ∷ Ticked 0 0 ∷ Ticked 0 0 ∷ Ticked 1 1 ∷ Refused 16 ∷ [])
     ∷ rest
@@ -118,7 +118,7 @@ c5 rest =
     (Granted ∷ Waits 1 7 ∷ Waits 0 3 ∷ Next 2 ∷ [])
     ∷ areAnswers (answersFrom equal fresh (Request 1 0 ∷ Request 2 0 ∷ Request 3 0 ∷ Tick ∷ Release 1 0 ∷ Release 3 0 ∷ []))
     (Granted ∷ Waits 1 7 ∷ Waits 0 3 ∷ Ticked 0 0 ∷ Next 3 ∷ Next 2 ∷ [])
-    ∷ isTest (queued 0 (run equal (Request 1 0 ∷ Request 2 0 ∷ Request 3 0 ∷ Tick ∷ Release 1 0 ∷ []) 0)) true
+    ∷ isTest (queued 0 (run equal (Request 1 0 ∷ Request 2 0 ∷ Request 3 0 ∷ Tick ∷ Release 1 0 ∷ []) .lines 0)) true
     ∷ rest
 
 -- C6. "the second has B2 4, tolerance 44, slack 40, waiting side 3 × 10 + 1 × 10 = 40, met. With T 60: slack 39, not met. The first:
@@ -152,8 +152,8 @@ longest rest =
     ∷ isNumber (longestWait equal 1 0) 7
     ∷ areAnswers (answersFrom equal fresh (toLast ++ (Tick ∷ [])))
     (Granted ∷ Waits 0 2 ∷ Waits 1 7 ∷ Ticked 0 0 ∷ Ticked 1 1 ∷ Waits 0 3 ∷ Ticked 0 0 ∷ Ticked 0 0 ∷ Ticked 1 1 ∷ Ticked 0 0 ∷ Ticked 1 1 ∷ [])
-    ∷ isTest (Rules.holds 1 (run equal toLast 0)) false
-    ∷ isTest (Rules.holds 1 (run equal (toLast ++ (Tick ∷ [])) 0)) true
+    ∷ isTest (Rules.holds 1 (run equal toLast .lines 0)) false
+    ∷ isTest (Rules.holds 1 (run equal (toLast ++ (Tick ∷ [])) .lines 0)) true
     ∷ rest
 
 -- the listing: "granted 20 bus", "waits 10 bus 0 3", "tick 0 0" twice, "tick 1 1", "refused 16", "released 10 bus free"

@@ -18,7 +18,7 @@ use Rattle.protocol.specs.declared.Call.{Call}
 use Rattle.protocol.specs.declared.Call.the-variants.{Request, Release, Tick}
 use Rattle.protocol.specs.declared.Answer.{Answer}
 use Rattle.protocol.specs.declared.Answer.the-variants.{Refused}
-use Rattle.protocol.specs.Machine.{Lines, terms, callCode, requestTold, releaseTold, told, answerTold}
+use Rattle.protocol.specs.Machine.{View, terms, callCode, requestTold, releaseTold, told, answerTold}
 use Rattle.state.specs.declared.State.{State}
 use Rattle.state.specs.Shows.{shows}
 use Rattle.state.specs.Sound.{sound}
@@ -37,9 +37,9 @@ release-number : (p : Plan) (l : Rules.Line) → answerTold (releaseTold p l) .n
 release-number p (line h b []) = refl
 release-number p (line h b (turn k u us ∷ rest)) = refl
 
-told-number : (p : Plan) (s : Lines) (c : Call) → answerTold (told p s c) .number ≡ 0
-told-number p s (Request tag q) = request-number p (taskNumber p tag) q (s q)
-told-number p s (Release tag q) = release-number p (released (terms p q) (s q))
+told-number : (p : Plan) (s : View) (c : Call) → answerTold (told p s c) .number ≡ 0
+told-number p s (Request tag q) = request-number p (taskNumber p tag) q (s .lines q)
+told-number p s (Release tag q) = release-number p (released (terms p q) (s .lines q))
 told-number p s Tick = refl
 
 module _ (f : List ℕ) (s : State) where
@@ -57,10 +57,10 @@ module _ (f : List ℕ) (s : State) where
   pub tick-cuts : cutsIn (reply f s Tick) ≡ cutCount f s
   unfolding reply cutCount
   tick-cuts =
-      let l : Lines = shows (planOf f) s in
+      let l : View = shows (planOf f) s in
       let k : ℕ = callRefusal f s Tick in
-      by-eq (λ (b : Bool). cutsIn (cond b (told (planOf f) l Tick) (Refused k)) ≡ cond b (countBelow 16 (λ q. cut (l q))) 0) k 0
-      (λ e. word-ones 16 (λ q. cut (l q)))
+      by-eq (λ (b : Bool). cutsIn (cond b (told (planOf f) l Tick) (Refused k)) ≡ cond b (countBelow 16 (λ q. cut (l .lines q))) 0) k 0
+      (λ e. word-ones 16 (λ q. cut (l .lines q)))
       (λ d. refl)
 
   -- a call that is not refused is on a plan and a state that are not

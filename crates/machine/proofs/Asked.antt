@@ -19,7 +19,7 @@ use Rattle.equations.proofs.Laws.{hold-low}
 use Rattle.protocol.specs.declared.Answer.{Answer}
 use Rattle.protocol.specs.declared.Answer.the-variants.{Granted, Waits}
 use Rattle.protocol.specs.declared.Call.the-variants.{Request}
-use Rattle.protocol.specs.Machine.{Lines, busy, requestCode, requestTold, answer, step}
+use Rattle.protocol.specs.Machine.{View, busy, requestCode, requestTold, answer, step}
 use Rattle.holds.specs.Holds.{cell, Cells, share, Shares}
 use Rattle.state.specs.declared.State.{State}
 use Rattle.state.specs.Shows.{standing, lineAt, shows, noneInLine}
@@ -34,7 +34,7 @@ use Rattle.steps.proofs.Asking.{taken-is, request-granted, request-waits, busy-
 use Rattle.machine.specs.Inner.{refusedAt, Done}
 
 -- ── the number ──
-module _ (p : Plan) (l : Lines) (tag q : ℕ) {i : ℕ} (e : i ≡ taskNumber p tag) where
+module _ (p : Plan) (l : View) (tag q : ℕ) {i : ℕ} (e : i ≡ taskNumber p tag) where
   -- 11 to 14 are those of the use
   use-refused : {k : ℕ} → k ≡ useCode p tag q → k ≢ 0 → k ≡ requestCode p l tag q
   unfolding requestCode
@@ -170,7 +170,7 @@ module _ {p : Plan} {s : State} {tag q : ℕ} {holds budgets seats : List ℕ} (
   low-core = low-processor p v i (may .task)
 
   -- it joins the line, whatever the answer
-  done : {a : Answer} → a ≡ requestTold p i q (shows p s q) → Done p s (Request tag q) (record { answer = a; state = entering p s i q })
+  done : {a : Answer} → a ≡ requestTold p i q (shows p s .lines q) → Done p s (Request tag q) (record { answer = a; state = entering p s i q })
   unfolding answer step
   done e =
       record {

@@ -17,7 +17,7 @@ use Rattle.line.specs.Rules.{holds}
 use Rattle.protocol.specs.declared.Answer.{Answer}
 use Rattle.protocol.specs.declared.Answer.the-variants.{Next}
 use Rattle.protocol.specs.declared.Call.the-variants.{Release}
-use Rattle.protocol.specs.Machine.{Lines, releaseCode, answer, step}
+use Rattle.protocol.specs.Machine.{View, releaseCode, answer, step}
 use Rattle.folds.proofs.Searches.{on-eq}
 use Rattle.state.specs.declared.Line.{Line}
 use Rattle.state.specs.declared.State.{State}
@@ -33,7 +33,7 @@ use Rattle.steps.proofs.Leaving.{head-low, holder-none, holder-seat, left-whole
 use Rattle.machine.specs.Inner.{refusedAt, Done, firstSeat, NewHead, grantedTold}
 
 -- ── the number, test by test ──
-module _ (p : Plan) (m : Lines) (tag q : ℕ) where
+module _ (p : Plan) (m : View) (tag q : ℕ) where
   pub release-unknown : p .tasks ≤ taskNumber p tag → 11 ≡ releaseCode p m tag q
   unfolding releaseCode
   release-unknown l = rw (le-ltb _ _ l)
@@ -42,12 +42,12 @@ module _ (p : Plan) (m : Lines) (tag q : ℕ) where
   unfolding releaseCode
   release-past l r = rw (lt-ltb _ _ l, le-ltb _ _ r)
 
-  release-by : taskNumber p tag < p .tasks → q < p .resources → releaseCode p m tag q ≡ cond (holds (taskNumber p tag) (m q)) 0 16
+  release-by : taskNumber p tag < p .tasks → q < p .resources → releaseCode p m tag q ≡ cond (holds (taskNumber p tag) (m .lines q)) 0 16
   unfolding releaseCode
   release-by l r = rw (lt-ltb _ _ l, lt-ltb _ _ r)
 
   -- what 0 tells
-  release-zero : releaseCode p m tag q ≡ 0 → (q < p .resources) × (holds (taskNumber p tag) (m q) ≡ true)
+  release-zero : releaseCode p m tag q ≡ 0 → (q < p .resources) × (holds (taskNumber p tag) (m .lines q) ≡ true)
   unfolding releaseCode
   release-zero e =
       let a = code-next (ltb (taskNumber p tag) (p .tasks)) _ 10 e in

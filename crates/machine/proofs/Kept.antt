@@ -11,7 +11,7 @@ use Rattle.plan.specs.Plan.{Plan, planOf, Checked, Valid}
 use Rattle.plan.proofs.Laws.{valid-plan, tags-differ}
 use Rattle.protocol.specs.declared.Call.{Call}
 use Rattle.protocol.specs.declared.Call.the-variants.{Request}
-use Rattle.protocol.specs.Machine.{Lines, fresh, callCode, step, answer, after, run}
+use Rattle.protocol.specs.Machine.{View, fresh, callCode, step, answer, after, run}
 use Rattle.protocol.proofs.OnceLines.{Orderly, orderly-fresh}
 use Rattle.protocol.proofs.Since.{after-last, each-since}
 use Rattle.protocol.proofs.Promise.{all-served}
@@ -37,7 +37,7 @@ module _ (f : List ℕ) (k : Checked f) where
   unfolding callRefusal step
   refused-step s c h d = rw (ne-eqb (callCode (planOf f) (shows (planOf f) s) c) 0 (rw (eq-eqb (refusal f) 0 (k .none), h) at d))
 
-  module _ (start : State) (s : Lines) (h : (sound (planOf f) start ≡ true) × (shows (planOf f) start ≡ s)) where
+  module _ (start : State) (s : View) (h : (sound (planOf f) start ≡ true) × (shows (planOf f) start ≡ s)) where
     -- each returned state is sound, and shows what the rules make of the calls
     pub returned-shows : (cs : List Call) (t : State) → Returned f start cs t
         → (sound (planOf f) t ≡ true) × (shows (planOf f) t ≡ after (planOf f) s cs)
@@ -45,7 +45,7 @@ module _ (f : List ℕ) (k : Checked f) where
     returned-shows _ _ (called {cs = cs} {s = r} {t = t} {c = c} before n) =
         let p : Plan = planOf f in
         let x = returned-shows cs r before in
-        let last : step p (shows p r) c ≡ after p s (cs ++ (c ∷ [])) = ap (λ (l : Lines). step p l c) (x .1) ∙ sym (after-last p s cs c) in
+        let last : step p (shows p r) c ≡ after p s (cs ++ (c ∷ [])) = ap (λ (l : View). step p l c) (x .1) ∙ sym (after-last p s cs c) in
         by-eq (λ (b : Bool). (sound p t ≡ true) × (shows p t ≡ after p s (cs ++ (c ∷ [])))) (callRefusal f r c) 0
         (λ e. (n .sound e, n .shows e ∙ last))
         (λ d. rw (n .unchanged d) (x .0, sym (refused-step r c (x .0) d) ∙ last))
@@ -54,7 +54,7 @@ module _ (f : List ℕ) (k : Checked f) where
     pub returned-answers : (cs : List Call) (t : State) (c : Call) → Returned f start cs t → reply f t c ≡ answer (planOf f) (after (planOf f) s cs) c
     returned-answers cs t c r =
         let x = returned-shows cs t r in
-        sym (sound-answer f (k .none) t c (x .0)) ∙ ap (λ (l : Lines). answer (planOf f) l c) (x .1)
+        sym (sound-answer f (k .none) t c (x .0)) ∙ ap (λ (l : View). answer (planOf f) l c) (x .1)
 
     -- the promise, where the lines are in order
     promised : Orderly (planOf f) s → (calls : List Call) → Promise f start s calls

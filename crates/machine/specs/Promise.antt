@@ -13,7 +13,7 @@ use Rattle.equations.specs.Questions.{taskNumber, useCode}
 use Rattle.protocol.specs.declared.Call.{Call}
 use Rattle.protocol.specs.declared.Call.the-variants.{Request, Release, Tick}
 use Rattle.protocol.specs.declared.Answer.the-variants.{Waits}
-use Rattle.protocol.specs.Machine.{Lines, fresh, answer, after, run}
+use Rattle.protocol.specs.Machine.{View, fresh, answer, after, run}
 use Rattle.protocol.specs.Waiting.{Served, EachSince}
 use Rattle.protocol.specs.Longest.{longestWait, NeverLonger, EachReached}
 use Rattle.state.specs.declared.State.{State}
@@ -28,8 +28,8 @@ pub data Returned (f : List ℕ) (start : State) : List Call → State → Type 
   started : Returned f start [] start
   called : {cs : List Call} {s t : State} {c : Call} → Returned f start cs s → Next f s c t → Returned f start (cs ++ (c ∷ [])) t
 
--- what is promised for a plan file and a list of calls, from a state that shows the lines s
-pub record Promise (f : List ℕ) (start : State) (s : Lines) (calls : List Call) : Type 0 where
+-- what is promised for a plan file and a list of calls, from a state that shows s
+pub record Promise (f : List ℕ) (start : State) (s : View) (calls : List Call) : Type 0 where
   -- nobody who waits is kept past the limit; and so for each core in the queue
   pub waiting : Served (planOf f) s calls
   -- what each call is answered, on the state that the calls before it returned, is what the rules say after these

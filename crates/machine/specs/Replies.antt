@@ -45,4 +45,4 @@ replyTold f s c = answered (callRefusal f s c) (answerTold (told (planOf f) (sho
 
 -- the number of resources whose holds end in a tick; 0 where it is refused
 unfoldable pub cutCount : List ℕ → State → ℕ
-cutCount f s = cond (eqb (callRefusal f s Tick) 0) (countBelow 16 (λ q. cut (shows (planOf f) s q))) 0
+cutCount f s = cond (eqb (callRefusal f s Tick) 0) (countBelow 16 (λ q. cut (shows (planOf f) s .lines q))) 0

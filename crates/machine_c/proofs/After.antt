@@ -23,7 +23,7 @@ use Rattle.machine.specs.Replies.{reply}
 use Rattle.machine.specs.Promise.{FreshRan}
 use Rattle.machine.proofs.Answered.{plan-refused, reply-refused}
 use Rattle.machine.proofs.Kept.{fresh-is, returned-answers}
-use Rattle.machine_c.specs.Number.{answerNumber, answerAfter, callNumber, rowNumber, linesAfter, stateAfter}
+use Rattle.machine_c.specs.Number.{answerNumber, answerAfter, callNumber, rowNumber, viewAfter, stateAfter}
 
 -- states that agree in all rows have the same numbers
 same-number : (s t : State) → SameRows s t → (x : ℕ) → rowNumber s x ≡ rowNumber t x
@@ -52,7 +52,7 @@ module _ (f : List ℕ) (bytes : (i : ℕ) → i < length f → getD f i 0 < 256
 
   -- the rows of the state are told by the rules too
   state-after : SameRows s (stateAfter f before)
-  unfolding linesAfter
+  unfolding viewAfter
   state-after =
       by-eq (λ (b : Bool). SameRows s (stateOf (planOf f) (cond b (run (planOf f) before) fresh))) (refusal f) 0
       (λ z. let k : Checked f = record { none = z; bytes = bytes } in

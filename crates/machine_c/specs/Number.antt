@@ -8,7 +8,7 @@ use Rattle.plan.specs.Plan.{planOf}
 use Rattle.protocol.specs.declared.Call.{Call}
 use Rattle.protocol.specs.declared.Answer.{Answer}
 use Rattle.protocol.specs.declared.Answer.the-variants.{Granted, Waits, Next, Free, Ticked, Refused}
-use Rattle.protocol.specs.Machine.{Lines, fresh, answer, run}
+use Rattle.protocol.specs.Machine.{View, fresh, answer, run}
 use Rattle.state.specs.declared.State.{State}
 use Rattle.state.specs.Shows.{standing, lineAt, slot}
 use Rattle.state.specs.Rows.{stateOf}
@@ -42,10 +42,10 @@ rowNumber s x =
     + 1099511627776 * lineAt s (x % 16) .«budget_left»
     + 72057594037927936 * slot (lineAt s (x % 16)) (x / 16 % 8)
 
--- the lines after a list of calls on a fresh machine: by the rules, or with nobody in line where the plan is refused
-unfoldable pub linesAfter : List ℕ → List Call → Lines
-linesAfter f calls = cond (eqb (refusal f) 0) (run (planOf f) calls) fresh
+-- what is shown after a list of calls on a fresh machine: by the rules, or with nobody in line where the plan is refused
+unfoldable pub viewAfter : List ℕ → List Call → View
+viewAfter f calls = cond (eqb (refusal f) 0) (run (planOf f) calls) fresh
 
--- the state that these lines tell
+-- the state that this tells
 abbrev pub stateAfter : List ℕ → List Call → State
-stateAfter f calls = stateOf (planOf f) (linesAfter f calls)
+stateAfter f calls = stateOf (planOf f) (viewAfter f calls)

@@ -8,7 +8,7 @@ use borrow.Author.Tests.{ne-eqb}
 use lib.Dec.{eqb}
 use Rattle.plan.specs.Plan.{Plan}
 use Rattle.protocol.specs.declared.Call.{Call}
-use Rattle.protocol.specs.Machine.{Lines, step, after}
+use Rattle.protocol.specs.Machine.{View, step, after}
 use Rattle.protocol.specs.Waiting.{isTick, ticks, Event, occurs, Within}
 
 -- the calls up to tick n, n from 1
@@ -17,11 +17,11 @@ upTo n [] = []
 upTo n (c ∷ cs) = cond (eqb n 0) [] (c ∷ upTo (n - isTick c) cs)
 
 module _ (p : Plan) (e : Event p) where
-  occurs-soon : (s : Lines) (early : List Call) (c : Call) (late : List Call) (n : ℕ) → ticks early < n → e (after p s early) c ≡ true
+  occurs-soon : (s : View) (early : List Call) (c : Call) (late : List Call) (n : ℕ) → ticks early < n → e (after p s early) c ≡ true
       → occurs p e s (upTo n (early ++ (c ∷ late))) ≡ true
   occurs-soon s [] c late n l h = rw (ne-eqb n 0 (λ z. omega arith), h)
   occurs-soon s (d ∷ early) c late n l h =
       rw (ne-eqb n 0 (λ z. omega arith), occurs-soon (step p s d) early c late (n - isTick d) (omega arith) h) (or-true (e s d))
 
-  pub within-occurs : {s : Lines} {cs : List Call} {n : ℕ} → Within p e s cs n → occurs p e s (upTo n cs) ≡ true
+  pub within-occurs : {s : View} {cs : List Call} {n : ℕ} → Within p e s cs n → occurs p e s (upTo n cs) ≡ true
   within-occurs {s} {cs} {n} w = rw (w .split) (occurs-soon s (w .early) (w .call) (w .late) n (omega (arith, w .soon)) (w .happens))

@@ -25,7 +25,7 @@ use Rattle.line.proofs.Once.{Once, EachOnce, once-tasks, ahead-among, ahead-onc
 use Rattle.protocol.specs.declared.Answer.the-variants.{Waits, Refused}
 use Rattle.protocol.specs.declared.Call.{Call}
 use Rattle.protocol.specs.declared.Call.the-variants.{Request}
-use Rattle.protocol.specs.Machine.{Lines, terms, requestCode, callCode, requestTold, told, answer, after}
+use Rattle.protocol.specs.Machine.{View, terms, requestCode, callCode, requestTold, told, answer, after}
 use Rattle.protocol.specs.Waiting.{Event, Bounded, Asked}
 use Rattle.protocol.specs.Longest.{fellows, longestWait, NeverLonger}
 use Rattle.protocol.proofs.SoundLines.{known, SoundAt, accepted}
@@ -98,17 +98,17 @@ module _ (p : Plan) (v : Valid p) where
       fellows-most i q (ahead-once i (once-tasks (processorOf p i) o))
       (λ j c. let x = ahead-among i j (tasksOf (processorOf p i) (queueOf l)) c in line-fellows i q w j (x .0) (x .1)) .short
 
-  request-most : (s : Lines) (tag q a m : ℕ) → Orderly p s → answer p s (Request tag q) ≡ Waits a m → AtMost (taskNumber p tag) q a m
+  request-most : (s : View) (tag q a m : ℕ) → Orderly p s → answer p s (Request tag q) ≡ Waits a m → AtMost (taskNumber p tag) q a m
   unfolding answer
   request-most s tag q a m o =
       by-eq
       (λ (d : Bool). cond d (told p s (Request tag q)) (Refused (callCode p s (Request tag q))) ≡ Waits a m → AtMost (taskNumber p tag) q a m)
       (callCode p s (Request tag q)) 0
-      (λ e x. told-most (taskNumber p tag) q a m (s q) (o .sound q) (o .once q) (accepted p s tag q e .new) x)
+      (λ e x. told-most (taskNumber p tag) q a m (s .lines q) (o .sound q) (o .once q) (accepted p s tag q e .new) x)
       (λ n x. absurd (true≢false cc))
 
   -- a request that waits is one of which the question is not refused
-  pub waits-asked : (s : Lines) (tag q a m : ℕ) → answer p s (Request tag q) ≡ Waits a m → useCode p tag q ≡ 0
+  pub waits-asked : (s : View) (tag q a m : ℕ) → answer p s (Request tag q) ≡ Waits a m → useCode p tag q ≡ 0
   unfolding answer requestCode
   waits-asked s tag q a m =
       by-eq
@@ -118,7 +118,7 @@ module _ (p : Plan) (v : Valid p) where
       (λ n x. absurd (true≢false cc))
 
   -- a wait that is bounded is bounded by more
-  bounded-more : {e g : Event p} {s : Lines} {cs : List Call} {m n : ℕ} → m ≤ n → Bounded p e g s cs m → Bounded p e g s cs n
+  bounded-more : {e g : Event p} {s : View} {cs : List Call} {m n : ℕ} → m ≤ n → Bounded p e g s cs m → Bounded p e g s cs n
   bounded-more {m = m} {n = n} l r =
       record {
         lasts = λ h. omega (arith, r .lasts h);
@@ -126,7 +126,7 @@ module _ (p : Plan) (v : Valid p) where
             record { early = w .early; call = w .call; late = w .late; split = w .split; happens = w .happens; soon = omega (arith, w .soon) };
       }
 
-  module _ (s : Lines) (o : Orderly p s) where
+  module _ (s : View) (o : Orderly p s) where
     -- after any list of calls
     pub never-more : (calls : List Call) (tag q a m : ℕ) → answer p (after p s calls) (Request tag q) ≡ Waits a m
         → m ≤ longestWait p (taskNumber p tag) q
@@ -140,7 +140,7 @@ module _ (p : Plan) (v : Valid p) where
           told-ahead = λ tag q w. most tag q w .few;
           told-limit = λ tag q w. most tag q w .short;
           asked = λ tag q w. bounded-more (most tag q w .short) (kept .asked tag q w);
-          start = λ i q w. bounded-more (waiting-most i q (s q) (o .sound q) (o .once q)) (kept .start .task i q w);
+          start = λ i q w. bounded-more (waiting-most i q (s .lines q) (o .sound q) (o .once q)) (kept .start .task i q w);
         }
       where
         most : (tag q : ℕ) (w : Asked p s calls tag q) → AtMost (taskNumber p tag) q (w .ahead) (w .limit)

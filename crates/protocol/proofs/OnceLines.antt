@@ -10,26 +10,26 @@ use Rattle.line.specs.Rules.{queueOf, entered, released}
 use Rattle.line.proofs.Once.{EachOnce, empty, each-entered, each-released, each-ticked}
 use Rattle.protocol.specs.declared.Call.{Call}
 use Rattle.protocol.specs.declared.Call.the-variants.{Request, Release, Tick}
-use Rattle.protocol.specs.Machine.{Lines, fresh, terms, callCode, effect, step, after}
+use Rattle.protocol.specs.Machine.{View, fresh, terms, callCode, effect, step, after}
 use Rattle.protocol.proofs.SoundLines.{SoundLines, change-each, accepted, sound-fresh, sound-step}
 
 module _ (p : Plan) where
-  abbrev pub OnceLines : Lines → Type 0
-  OnceLines s = (q : ℕ) → EachOnce (queueOf (s q))
+  abbrev pub OnceLines : View → Type 0
+  OnceLines s = (q : ℕ) → EachOnce (queueOf (s .lines q))
 
-  once-step : (s : Lines) (c : Call) → OnceLines s → OnceLines (step p s c)
+  once-step : (s : View) (c : Call) → OnceLines s → OnceLines (step p s c)
   unfolding step
   once-step s c w = by-eq (λ (d : Bool). OnceLines (cond d (effect p s c) s)) (callCode p s c) 0 (λ e. go c e) (λ _. w)
     where
       go : (c : Call) → callCode p s c ≡ 0 → OnceLines (effect p s c)
       go (Request tag q) e =
-          change-each (λ r l. EachOnce (queueOf l)) s q (entered (terms p q) (taskNumber p tag))
-          (each-entered (terms p q) (taskNumber p tag) (s q) (accepted p s tag q e .new) (w q)) w
-      go (Release tag q) e = change-each (λ r l. EachOnce (queueOf l)) s q (released (terms p q)) (each-released (terms p q) (s q) (w q)) w
-      go Tick e = λ q. each-ticked (terms p q) (s q) (w q)
+          change-each (λ r l. EachOnce (queueOf l)) (s .lines) q (entered (terms p q) (taskNumber p tag))
+          (each-entered (terms p q) (taskNumber p tag) (s .lines q) (accepted p s tag q e .new) (w q)) w
+      go (Release tag q) e = change-each (λ r l. EachOnce (queueOf l)) (s .lines) q (released (terms p q)) (each-released (terms p q) (s .lines q) (w q)) w
+      go Tick e = λ q. each-ticked (terms p q) (s .lines q) (w q)
 
 -- lines that are sound, with nobody in them twice
-pub record Orderly (p : Plan) (s : Lines) : Type 0 where
+pub record Orderly (p : Plan) (s : View) : Type 0 where
   pub sound : SoundLines p s
   pub once : OnceLines p s
 
@@ -37,9 +37,9 @@ pub orderly-fresh : (p : Plan) → Orderly p fresh
 orderly-fresh p = record { sound = sound-fresh p; once = λ q. empty }
 
 module _ (p : Plan) (v : Valid p) where
-  pub orderly-step : (s : Lines) (c : Call) → Orderly p s → Orderly p (step p s c)
+  pub orderly-step : (s : View) (c : Call) → Orderly p s → Orderly p (step p s c)
   orderly-step s c w = record { sound = sound-step p v s c (w .sound); once = once-step p s c (w .once) }
 
-  pub orderly-after : (s : Lines) (cs : List Call) → Orderly p s → Orderly p (after p s cs)
+  pub orderly-after : (s : View) (cs : List Call) → Orderly p s → Orderly p (after p s cs)
   orderly-after s [] w = w
   orderly-after s (c ∷ cs) w = orderly-after (step p s c) cs (orderly-step s c w)

@@ -12,7 +12,7 @@ use Rattle.line.proofs.Waiting.{entered-stands, entered-waits, entered-ahead}
 use Rattle.protocol.specs.declared.Answer.the-variants.{Waits, Refused}
 use Rattle.protocol.specs.declared.Call.{Call}
 use Rattle.protocol.specs.declared.Call.the-variants.{Request}
-use Rattle.protocol.specs.Machine.{Lines, terms, callCode, requestTold, told, effect, step, answer, after}
+use Rattle.protocol.specs.Machine.{View, terms, callCode, requestTold, told, effect, step, answer, after}
 use Rattle.protocol.specs.Waiting.{TaskKept, afterCall, Asked, Served}
 use Rattle.protocol.proofs.SoundLines.{SoundLines, accepted}
 use Rattle.protocol.proofs.OnceLines.{Orderly, orderly-after}
@@ -33,16 +33,16 @@ module _ (p : Plan) where
         bound = ap (limit (terms p q) i) (entered-ahead (terms p q) i h b (x ∷ rest) new) ∙ cc;
       }
 
-  request-waits : (s : Lines) (tag q a m : ℕ) → answer p s (Request tag q) ≡ Waits a m → WaitsIn (taskNumber p tag) q (step p s (Request tag q) q) m
+  request-waits : (s : View) (tag q a m : ℕ) → answer p s (Request tag q) ≡ Waits a m → WaitsIn (taskNumber p tag) q (step p s (Request tag q) .lines q) m
   unfolding answer step
   request-waits s tag q a m =
       let i : ℕ = taskNumber p tag in
       let c : Call = Request tag q in
-      by-eq (λ (d : Bool). cond d (told p s c) (Refused (callCode p s c)) ≡ Waits a m → WaitsIn i q (cond d (effect p s c) s q) m) (callCode p s c) 0
-      (λ e x. rw (eq-eqb q q refl) (told-waits i q (s q) a m (accepted p s tag q e .new) x))
+      by-eq (λ (d : Bool). cond d (told p s c) (Refused (callCode p s c)) ≡ Waits a m → WaitsIn i q (cond d (effect p s c) s .lines q) m) (callCode p s c) 0
+      (λ e x. rw (eq-eqb q q refl) (told-waits i q (s .lines q) a m (accepted p s tag q e .new) x))
       (λ n x. absurd (true≢false cc))
 
-module _ (p : Plan) (v : Valid p) (s : Lines) (o : Orderly p s) where
+module _ (p : Plan) (v : Valid p) (s : View) (o : Orderly p s) where
   -- lines that are sound wherever the list has come
   later : (cs : List Call) → SoundLines p (after p s cs)
   later cs = orderly-after p v s cs o .sound
@@ -50,8 +50,8 @@ module _ (p : Plan) (v : Valid p) (s : Lines) (o : Orderly p s) where
   asked-kept : {calls : List Call} (tag q : ℕ) (w : Asked p s calls tag q)
       → TaskKept p (taskNumber p tag) q (afterCall p s (w .before) (Request tag q)) (w .since) (w .limit)
   asked-kept tag q w =
-      let here : Lines = afterCall p s (w .before) (Request tag q) in
-      let x : WaitsIn p (taskNumber p tag) q (here q) (w .limit) =
+      let here : View = afterCall p s (w .before) (Request tag q) in
+      let x : WaitsIn p (taskNumber p tag) q (here .lines q) (w .limit) =
       rw (after-last p s (w .before) (Request tag q)) (request-waits p (after p s (w .before)) tag q (w .ahead) (w .limit) (w .told)) in
       rw (x .bound) at (served-from p v here (later (w .before ++ (Request tag q ∷ []))) (w .since) .task (taskNumber p tag) q (x .waits))
 

@@ -24,7 +24,7 @@ use Rattle.line.proofs.Held.{heldBy, held-without, held-tasks, held-entered}
 use Rattle.protocol.specs.declared.Call.{Call}
 use Rattle.protocol.specs.declared.Call.the-variants.{Request}
 use Rattle.protocol.specs.declared.Answer.the-variants.{Waits}
-use Rattle.protocol.specs.Machine.{Lines, fresh, terms, busy, requestCode, requestTold, step, answer, run}
+use Rattle.protocol.specs.Machine.{View, fresh, terms, busy, requestCode, requestTold, step, answer, run}
 use Rattle.protocol.specs.Longest.{fellows, longestWait, Reached, EachReached}
 use Rattle.protocol.proofs.Since.{after-last}
 
@@ -72,25 +72,25 @@ module _ (p : Plan) (q : ℕ) where
   -- ── a request while nobody is in line but for q ──
 
   -- the line of q is l, all others are free
-  record Only (l : Line) (s : Lines) : Type 0 where
-    here : s q ≡ l
-    elsewhere : (r : ℕ) → (r ≡ q → ⊥) → s r ≡ free
+  record Only (l : Line) (s : View) : Type 0 where
+    here : s .lines q ≡ l
+    elsewhere : (r : ℕ) → (r ≡ q → ⊥) → s .lines r ≡ free
 
-  only-code : (l : Line) (s : Lines) (tag : ℕ) → Only l s → useCode p tag q ≡ 0 → inLine (taskNumber p tag) l ≡ false → requestCode p s tag q ≡ 0
+  only-code : (l : Line) (s : View) (tag : ℕ) → Only l s → useCode p tag q ≡ 0 → inLine (taskNumber p tag) l ≡ false → requestCode p s tag q ≡ 0
   unfolding requestCode busy
-  only-code l s tag o u new = rw (u, any-none (p .resources) (λ r. inLine (taskNumber p tag) (s r)) (λ r _. idle r))
+  only-code l s tag o u new = rw (u, any-none (p .resources) (λ r. inLine (taskNumber p tag) (s .lines r)) (λ r _. idle r))
     where
-      idle : (r : ℕ) → inLine (taskNumber p tag) (s r) ≡ false
-      idle r = on-eq (inLine (taskNumber p tag) (s r) ≡ false) r q (λ e. rw (e, o .here) new) (λ d. rw (o .elsewhere r d))
+      idle : (r : ℕ) → inLine (taskNumber p tag) (s .lines r) ≡ false
+      idle r = on-eq (inLine (taskNumber p tag) (s .lines r) ≡ false) r q (λ e. rw (e, o .here) new) (λ d. rw (o .elsewhere r d))
 
-  only-step : (l : Line) (s : Lines) (tag : ℕ) → Only l s → useCode p tag q ≡ 0 → inLine (taskNumber p tag) l ≡ false
+  only-step : (l : Line) (s : View) (tag : ℕ) → Only l s → useCode p tag q ≡ 0 → inLine (taskNumber p tag) l ≡ false
       → Only (entered (terms p q) (taskNumber p tag) l) (step p s (Request tag q))
   unfolding step
   only-step l s tag o u new =
       rw (only-code l s tag o u new)
       (record { here = rw (eq-eqb q q refl, o .here); elsewhere = λ r d. rw (ne-eqb r q d) (o .elsewhere r d) })
 
-  only-told : (l : Line) (s : Lines) (tag : ℕ) → Only l s → useCode p tag q ≡ 0 → inLine (taskNumber p tag) l ≡ false
+  only-told : (l : Line) (s : View) (tag : ℕ) → Only l s → useCode p tag q ≡ 0 → inLine (taskNumber p tag) l ≡ false
       → answer p s (Request tag q) ≡ requestTold p (taskNumber p tag) q l
   unfolding answer
   only-told l s tag o u new = rw (only-code l s tag o u new, o .here)
@@ -111,7 +111,7 @@ module _ (p : Plan) (v : Valid p) (tags : (a b : ℕ) → a < p .tasks → b < p
         rw (tag-task i (u .below), lt-ltb i (p .tasks) (u .below), lt-ltb q (p .resources) r, u .used, u .shared)
 
     -- a user asks that is not in the line of q
-    user-comes : (l : Line) (s : Lines) (i : ℕ) → User p q i → Only p q l s → inLine i l ≡ false
+    user-comes : (l : Line) (s : View) (i : ℕ) → User p q i → Only p q l s → inLine i l ≡ false
         → Only p q (entered (terms p q) i l) (step p s (Request (p .task i .tag) q))
     user-comes l s i u o new =
         let e = tag-task i (u .below) in rw e at (only-step p q l s (p .task i .tag) o (user-code i u) (rw e new))

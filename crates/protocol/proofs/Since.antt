@@ -14,21 +14,21 @@ use Rattle.line.proofs.Stays.{entered-waiting, released-waiting, ticked-waiting
 use Rattle.protocol.specs.declared.Answer.the-variants.{Waits}
 use Rattle.protocol.specs.declared.Call.{Call}
 use Rattle.protocol.specs.declared.Call.the-variants.{Request, Release, Tick}
-use Rattle.protocol.specs.Machine.{Lines, fresh, terms, callCode, requestTold, effect, step, answer, after, run}
+use Rattle.protocol.specs.Machine.{View, fresh, terms, callCode, requestTold, effect, step, answer, after, run}
 use Rattle.protocol.specs.Waiting.{Event, grants, ends, occurs, Asked, Sent, StillWaits, StillWithout, TaskSince, asked-since, task-since-start, CoreSince, sent-since, core-since-start, EachSince}
 use Rattle.protocol.proofs.SoundLines.{known, fits}
 use Rattle.protocol.proofs.OnceLines.{Orderly, orderly-fresh, orderly-step}
 
-pub after-last : (p : Plan) (s : Lines) (cs : List Call) (c : Call) → after p s (cs ++ (c ∷ [])) ≡ step p (after p s cs) c
+pub after-last : (p : Plan) (s : View) (cs : List Call) (c : Call) → after p s (cs ++ (c ∷ [])) ≡ step p (after p s cs) c
 after-last p s [] c = refl
 after-last p s (d ∷ cs) c = after-last p (step p s d) cs c
 
 -- A wait that is seen in a state, which a call ends by event e, and that begins by calls of which `Begins` tells
-module _ (p : Plan) (v : Valid p) (seen : Lines → Bool) (e : Event p) (Begins : Lines → Call → Type 0)
-    (goes-on : (s : Lines) (c : Call) → seen (step p s c) ≡ true → e s c ≡ false)
-    (begins : (s : Lines) (c : Call) → Orderly p s → seen (step p s c) ≡ true → (seen s ≡ true) ⊎ Begins s c) where
+module _ (p : Plan) (v : Valid p) (seen : View → Bool) (e : Event p) (Begins : View → Call → Type 0)
+    (goes-on : (s : View) (c : Call) → seen (step p s c) ≡ true → e s c ≡ false)
+    (begins : (s : View) (c : Call) → Orderly p s → seen (step p s c) ≡ true → (seen s ≡ true) ⊎ Begins s c) where
   -- a call by which it began, and the calls since
-  record Began (s : Lines) (cs : List Call) : Type 0 where
+  record Began (s : View) (cs : List Call) : Type 0 where
     before : List Call
     call : Call
     since : List Call
@@ -37,7 +37,7 @@ module _ (p : Plan) (v : Valid p) (seen : Lines → Bool) (e : Event p) (Begins 
     went : seen (step p (after p s before) call) ≡ true
     still : occurs p e (step p (after p s before) call) since ≡ false
 
-  began : (s : Lines) (cs : List Call) → Orderly p s → seen (after p s cs) ≡ true
+  began : (s : View) (cs : List Call) → Orderly p s → seen (after p s cs) ≡ true
       → ((seen s ≡ true) × (occurs p e s cs ≡ false)) ⊎ Began s cs
   began s [] o w = inl (w, refl)
   began s (c ∷ cs) o w = go (began (step p s c) cs (orderly-step p v s c o) w)
@@ -65,63 +65,63 @@ module _ (p : Plan) (v : Valid p) where
   -- ── tasks ──
 
   -- the call is a request of task i for q that is told to wait
-  data Requests (s : Lines) (i q : ℕ) : Call → Type 0 where
+  data Requests (s : View) (i q : ℕ) : Call → Type 0 where
     requests : {tag a m : ℕ} → taskNumber p tag ≡ i → answer p s (Request tag q) ≡ Waits a m → Requests s i q (Request tag q)
 
   -- a request that makes its task wait is told so
-  told-wait : (s : Lines) (tag q : ℕ) → callCode p s (Request tag q) ≡ 0
-      → waiting (taskNumber p tag) (entered (terms p q) (taskNumber p tag) (s q)) ≡ true → Requests s (taskNumber p tag) q (Request tag q)
+  told-wait : (s : View) (tag q : ℕ) → callCode p s (Request tag q) ≡ 0
+      → waiting (taskNumber p tag) (entered (terms p q) (taskNumber p tag) (s .lines q)) ≡ true → Requests s (taskNumber p tag) q (Request tag q)
   unfolding answer
-  told-wait s tag q e w = go (s q) refl w
+  told-wait s tag q e w = go (s .lines q) refl w
     where
-      told : answer p s (Request tag q) ≡ requestTold p (taskNumber p tag) q (s q)
+      told : answer p s (Request tag q) ≡ requestTold p (taskNumber p tag) q (s .lines q)
       told = rw e
 
       i : ℕ
       i = taskNumber p tag
 
-      go : (l : Line) → s q ≡ l → waiting i (entered (terms p q) i l) ≡ true → Requests s i q (Request tag q)
+      go : (l : Line) → s .lines q ≡ l → waiting i (entered (terms p q) i l) ≡ true → Requests s i q (Request tag q)
       go (line h b []) f x =
           let l : Line = entered (terms p q) i (line h b []) in
           absurd (true≢false (sym (and-parts (inLine i l) (not (holds i l)) x .1) ∙ rw (eq-eqb i i refl)))
       go (line h b (x ∷ rest)) f _ = requests refl (told ∙ ap (requestTold p i q) f)
 
-  task-begins : (i q : ℕ) (s : Lines) (c : Call) → Orderly p s → waiting i (step p s c q) ≡ true → (waiting i (s q) ≡ true) ⊎ Requests s i q c
+  task-begins : (i q : ℕ) (s : View) (c : Call) → Orderly p s → waiting i (step p s c .lines q) ≡ true → (waiting i (s .lines q) ≡ true) ⊎ Requests s i q c
   unfolding step
   task-begins i q s c o =
-      by-eq (λ (d : Bool). waiting i (cond d (effect p s c) s q) ≡ true → (waiting i (s q) ≡ true) ⊎ Requests s i q c) (callCode p s c) 0
+      by-eq (λ (d : Bool). waiting i (cond d (effect p s c) s .lines q) ≡ true → (waiting i (s .lines q) ≡ true) ⊎ Requests s i q c) (callCode p s c) 0
       (go c) (λ _ w. inl w)
     where
       Out : Call → Type 0
-      Out c = (waiting i (s q) ≡ true) ⊎ Requests s i q c
+      Out c = (waiting i (s .lines q) ≡ true) ⊎ Requests s i q c
 
-      came : (tag : ℕ) → callCode p s (Request tag q) ≡ 0 → waiting i (entered (terms p q) (taskNumber p tag) (s q)) ≡ true
-          → (waiting i (s q) ≡ true) ⊎ (taskNumber p tag ≡ i) → Out (Request tag q)
+      came : (tag : ℕ) → callCode p s (Request tag q) ≡ 0 → waiting i (entered (terms p q) (taskNumber p tag) (s .lines q)) ≡ true
+          → (waiting i (s .lines q) ≡ true) ⊎ (taskNumber p tag ≡ i) → Out (Request tag q)
       came tag e w (inl h) = inl h
       came tag e w (inr h) = inr (rw h at (told-wait s tag q e (rw (← h) at w)))
 
-      go : (c : Call) → callCode p s c ≡ 0 → waiting i (effect p s c q) ≡ true → Out c
+      go : (c : Call) → callCode p s c ≡ 0 → waiting i (effect p s c .lines q) ≡ true → Out c
       go (Request tag r) e =
-          by-eq (λ (d : Bool). waiting i (cond d (entered (terms p r) (taskNumber p tag) (s q)) (s q)) ≡ true → Out (Request tag r)) q r
+          by-eq (λ (d : Bool). waiting i (cond d (entered (terms p r) (taskNumber p tag) (s .lines q)) (s .lines q)) ≡ true → Out (Request tag r)) q r
           (λ f w. same tag r (sym f) e (rw (← f) at w))
           (λ _ w. inl w)
         where
-          same : (tag r : ℕ) → r ≡ q → callCode p s (Request tag r) ≡ 0 → waiting i (entered (terms p q) (taskNumber p tag) (s q)) ≡ true → Out (Request tag r)
-          same tag r f e w = rw f (came tag (rw f at e) w (entered-waiting (terms p q) (known p q) (p .processors) i (taskNumber p tag) (s q) w))
+          same : (tag r : ℕ) → r ≡ q → callCode p s (Request tag r) ≡ 0 → waiting i (entered (terms p q) (taskNumber p tag) (s .lines q)) ≡ true → Out (Request tag r)
+          same tag r f e w = rw f (came tag (rw f at e) w (entered-waiting (terms p q) (known p q) (p .processors) i (taskNumber p tag) (s .lines q) w))
       go (Release tag r) e =
-          by-eq (λ (d : Bool). waiting i (cond d (released (terms p r) (s q)) (s q)) ≡ true → Out (Release tag r)) q r
+          by-eq (λ (d : Bool). waiting i (cond d (released (terms p r) (s .lines q)) (s .lines q)) ≡ true → Out (Release tag r)) q r
           (λ f w. inl (released-waiting (terms p q) (known p q) (p .processors) i (fits p v q) (o .sound q) (o .once q) (rw (← f) at w)))
           (λ _ w. inl w)
       go Tick e = λ w. inl (ticked-waiting (terms p q) (known p q) (p .processors) i (fits p v q) (o .sound q) (o .once q) w)
 
   -- each task that waits has asked
-  pub each-task : (s : Lines) (calls : List Call) → Orderly p s → (i q : ℕ) → waiting i (after p s calls q) ≡ true → TaskSince p s calls i q
+  pub each-task : (s : View) (calls : List Call) → Orderly p s → (i q : ℕ) → waiting i (after p s calls .lines q) ≡ true → TaskSince p s calls i q
   each-task s calls o i q w =
-      go (began p v (λ s. waiting i (s q)) (grants p i q) (λ s c. Requests s i q c) goes (task-begins i q) s calls o w)
+      go (began p v (λ s. waiting i (s .lines q)) (grants p i q) (λ s c. Requests s i q c) goes (task-begins i q) s calls o w)
     where
-      goes : (s : Lines) (c : Call) → waiting i (step p s c q) ≡ true → grants p i q s c ≡ false
+      goes : (s : View) (c : Call) → waiting i (step p s c .lines q) ≡ true → grants p i q s c ≡ false
       goes s c x =
-          let y = not-true (holds i (step p s c q)) (and-parts (inLine i (step p s c q)) _ x .1) in rw y (and-false (not (holds i (s q))))
+          let y = not-true (holds i (step p s c .lines q)) (and-parts (inLine i (step p s c .lines q)) _ x .1) in rw y (and-false (not (holds i (s .lines q))))
 
       out : (before since : List Call) (c : Call) → calls ≡ before ++ (c ∷ since) → Requests (after p s before) i q c
           → occurs p (grants p i q) (step p (after p s before) c) since ≡ false → StillWaits p s calls i q
@@ -133,18 +133,18 @@ module _ (p : Plan) (v : Valid p) where
             still = rw (after-last p s before (Request tag q)) n;
           }
 
-      go : ((waiting i (s q) ≡ true) × (occurs p (grants p i q) s calls ≡ false)) ⊎ Began p v _ _ _ goes (task-begins i q) s calls → TaskSince p s calls i q
+      go : ((waiting i (s .lines q) ≡ true) × (occurs p (grants p i q) s calls ≡ false)) ⊎ Began p v _ _ _ goes (task-begins i q) s calls → TaskSince p s calls i q
       go (inl h) = task-since-start (h .0) (h .1)
       go (inr h) = asked-since (out (h .before) (h .since) (h .call) (h .list) (h .begun) (h .still))
 
   -- ── cores ──
 
   -- core k was not queued for q without it
-  abbrev Comes : ℕ → ℕ → Lines → Call → Type 0
-  Comes k q s c = (not (queued k (s q)) || isHead k (s q)) ≡ true
+  abbrev Comes : ℕ → ℕ → View → Call → Type 0
+  Comes k q s c = (not (queued k (s .lines q)) || isHead k (s .lines q)) ≡ true
 
-  core-begins : (k q : ℕ) (s : Lines) (c : Call) → Orderly p s → without k (step p s c q) ≡ true → (without k (s q) ≡ true) ⊎ Comes k q s c
-  core-begins k q s c o w = go (queued k (s q)) (isHead k (s q))
+  core-begins : (k q : ℕ) (s : View) (c : Call) → Orderly p s → without k (step p s c .lines q) ≡ true → (without k (s .lines q) ≡ true) ⊎ Comes k q s c
+  core-begins k q s c o w = go (queued k (s .lines q)) (isHead k (s .lines q))
     where
       go : (a b : Bool) → ((a && not b) ≡ true) ⊎ ((not a || b) ≡ true)
       go true true = inr refl
@@ -152,14 +152,14 @@ module _ (p : Plan) (v : Valid p) where
       go false b = inr refl
 
   -- each core that is without the resource came to the queue, or was sent to its tail
-  pub each-core : (s : Lines) (calls : List Call) → Orderly p s → (k q : ℕ) → without k (after p s calls q) ≡ true → CoreSince p s calls k q
+  pub each-core : (s : View) (calls : List Call) → Orderly p s → (k q : ℕ) → without k (after p s calls .lines q) ≡ true → CoreSince p s calls k q
   each-core s calls o k q w =
-      go (began p v (λ s. without k (s q)) (ends p k q) (Comes k q) goes (core-begins k q) s calls o w)
+      go (began p v (λ s. without k (s .lines q)) (ends p k q) (Comes k q) goes (core-begins k q) s calls o w)
     where
-      goes : (s : Lines) (c : Call) → without k (step p s c q) ≡ true → ends p k q s c ≡ false
+      goes : (s : View) (c : Call) → without k (step p s c .lines q) ≡ true → ends p k q s c ≡ false
       goes s c x = rw x
 
-      go : ((without k (s q) ≡ true) × (occurs p (ends p k q) s calls ≡ false)) ⊎ Began p v (λ s. without k (s q)) (ends p k q) (Comes k q) goes (core-begins k q) s calls
+      go : ((without k (s .lines q) ≡ true) × (occurs p (ends p k q) s calls ≡ false)) ⊎ Began p v (λ s. without k (s .lines q)) (ends p k q) (Comes k q) goes (core-begins k q) s calls
           → CoreSince p s calls k q
       go (inl h) = core-since-start (h .0) (h .1)
       go (inr h) =

@@ -17,7 +17,7 @@ use Rattle.line.proofs.Sound.{Fits, Sound, is-free}
 use Rattle.line.proofs.Moves.{sound-entered, sound-released, sound-ticked}
 use Rattle.protocol.specs.declared.Call.{Call}
 use Rattle.protocol.specs.declared.Call.the-variants.{Request, Release, Tick}
-use Rattle.protocol.specs.Machine.{Lines, fresh, change, terms, busy, requestCode, callCode, effect, step}
+use Rattle.protocol.specs.Machine.{Lines, View, fresh, change, terms, busy, requestCode, callCode, effect, step}
 
 -- the tasks that may come to the line of q: its users, where it is global
 abbrev pub known : Plan → ℕ → ℕ → Bool
@@ -27,13 +27,13 @@ abbrev pub SoundAt : Plan → ℕ → Line → Type 0
 SoundAt p q l = Sound (terms p q) (known p q) (p .processors) l
 
 -- the line of each resource is sound
-abbrev pub SoundLines : Plan → Lines → Type 0
-SoundLines p s = (q : ℕ) → SoundAt p q (s q)
+abbrev pub SoundLines : Plan → View → Type 0
+SoundLines p s = (q : ℕ) → SoundAt p q (s .lines q)
 
 -- a request that is not refused
-pub record Accepted (p : Plan) (s : Lines) (i q : ℕ) : Type 0 where
+pub record Accepted (p : Plan) (s : View) (i q : ℕ) : Type 0 where
   pub user : known p q i ≡ true
-  pub new : inLine i (s q) ≡ false
+  pub new : inLine i (s .lines q) ≡ false
 
 -- a code that is 0 behind another one: that is 0 too, and the test between them fails
 code-new : (b : Bool) (c k : ℕ) → cond (eqb c 0) (cond b (suc k) 0) c ≡ 0 → (c ≡ 0) × (b ≡ false)
@@ -49,7 +49,7 @@ pub change-each : (R : ℕ → Line → Type 0) (s : Lines) (q : ℕ) (f : Line 
 change-each R s q f x w r = by-eq (λ (d : Bool). R r (cond d (f (s r)) (s r))) r q (λ e. rw e x) (λ n. w r)
 
 module _ (p : Plan) where
-  pub accepted : (s : Lines) (tag q : ℕ) → requestCode p s tag q ≡ 0 → Accepted p s (taskNumber p tag) q
+  pub accepted : (s : View) (tag q : ℕ) → requestCode p s tag q ≡ 0 → Accepted p s (taskNumber p tag) q
   unfolding requestCode useCode sharingCode busy
   accepted s tag q e =
       let a = code-new (busy p s (taskNumber p tag)) (useCode p tag q) 14 e in
@@ -60,7 +60,7 @@ module _ (p : Plan) where
       let g = code-zero (global p q) _ _ (code-next (uses p (taskNumber p tag) q) _ _ c) in
       record {
         user = rw (g, u);
-        new = is-not-true _ (λ x. true≢false (sym (any-at (p .resources) q (λ r. inLine (taskNumber p tag) (s r)) l x) ∙ a .1));
+        new = is-not-true _ (λ x. true≢false (sym (any-at (p .resources) q (λ r. inLine (taskNumber p tag) (s .lines r)) l x) ∙ a .1));
       }
 
   pub sound-fresh : SoundLines p fresh
@@ -81,15 +81,15 @@ module _ (p : Plan) (v : Valid p) where
       task : (i q : ℕ) → uses p i q ≡ true → i < p .tasks
       task i q u = uses-out p i q (i < p .tasks) u (λ s l t r. rw (← t) (v .section-fits s l .task))
 
-  pub sound-step : (s : Lines) (c : Call) → SoundLines p s → SoundLines p (step p s c)
+  pub sound-step : (s : View) (c : Call) → SoundLines p s → SoundLines p (step p s c)
   unfolding step
   sound-step s c w =
       by-eq (λ (d : Bool). SoundLines p (cond d (effect p s c) s)) (callCode p s c) 0 (λ e. go c e) (λ n. w)
     where
       go : (c : Call) → callCode p s c ≡ 0 → SoundLines p (effect p s c)
       go (Request tag q) e =
-          change-each (SoundAt p) s q (entered (terms p q) (taskNumber p tag))
+          change-each (SoundAt p) (s .lines) q (entered (terms p q) (taskNumber p tag))
           (sound-entered (terms p q) (known p q) (p .processors) (fits q) (taskNumber p tag) (accepted p s tag q e .user) (w q)) w
       go (Release tag q) e =
-          change-each (SoundAt p) s q (released (terms p q)) (sound-released (terms p q) (known p q) (p .processors) (fits q) (w q)) w
+          change-each (SoundAt p) (s .lines) q (released (terms p q)) (sound-released (terms p q) (known p q) (p .processors) (fits q) (w q)) w
       go Tick e = λ q. sound-ticked (terms p q) (known p q) (p .processors) (fits q) (w q)

@@ -12,7 +12,7 @@ use Rattle.line.specs.Rules.{waiting, limit}
 use Rattle.protocol.specs.declared.Call.{Call}
 use Rattle.protocol.specs.declared.Call.the-variants.{Request}
 use Rattle.protocol.specs.declared.Answer.the-variants.{Waits}
-use Rattle.protocol.specs.Machine.{Lines, terms, answer, run}
+use Rattle.protocol.specs.Machine.{View, terms, answer, run}
 use Rattle.protocol.specs.Waiting.{TaskKept, afterCall, Asked}
 
 module _ (p : Plan) where
@@ -25,7 +25,7 @@ module _ (p : Plan) where
   longestWait i q = limit (terms p q) i (fellows i q)
 
   -- What is promised of it for a whole list of calls, made on s
-  pub record NeverLonger (s : Lines) (calls : List Call) : Type 0 where
+  pub record NeverLonger (s : View) (calls : List Call) : Type 0 where
     -- a request that was answered "waits", anywhere in the list, was told no more, neither of tasks ahead nor of ticks
     pub told-ahead : (tag q : ℕ) (w : Asked p s calls tag q) → w .ahead ≤ length (fellows (taskNumber p tag) q)
     pub told-limit : (tag q : ℕ) (w : Asked p s calls tag q) → w .limit ≤ longestWait (taskNumber p tag) q
@@ -33,7 +33,7 @@ module _ (p : Plan) where
     pub asked : (tag q : ℕ) (w : Asked p s calls tag q)
         → TaskKept p (taskNumber p tag) q (afterCall p s (w .before) (Request tag q)) (w .since) (longestWait (taskNumber p tag) q)
     -- and so for a task that waits at the start of the list
-    pub start : (i q : ℕ) → waiting i (s q) ≡ true → TaskKept p i q s calls (longestWait i q)
+    pub start : (i q : ℕ) → waiting i (s .lines q) ≡ true → TaskKept p i q s calls (longestWait i q)
 
   -- a list of calls after which a request is told the longest wait itself: no smaller figure bounds what is told. That somebody waits
   -- so long is not said: with sections 1, 1 and 4 on one core and 1 on another the third task is told 5 and never waits more than 4

@@ -1,5 +1,4 @@
--- Document 01, "The machine": the lines of all resources, and what a call does to them. A state is here what it shows: the line of
--- each resource.
+-- Document 01, "The machine": the lines of all resources, and what a call does to them. A state is here what it shows.
 use Prim.Native.Nat.{ℕ}
 use mathlib.Core.Bool.{Bool, true, false, cond, _&&_}
 use mathlib.Core.List.{List, [], _∷_}
@@ -22,9 +21,13 @@ use Rattle.protocol.specs.declared.Answer.the-variants.{Granted, Waits, 
 abbrev pub Lines : Type 0
 Lines = ℕ → Line
 
+-- what a state shows: the lines
+pub record View : Type 0 where
+  pub lines : Lines
+
 -- "A fresh state has nobody in line."
-abbrev pub fresh : Lines
-fresh q = free
+abbrev pub fresh : View
+fresh = record { lines = λ q. free }
 
 -- the lines with that of q changed by f
 abbrev pub change : Lines → ℕ → (Line → Line) → Lines
@@ -42,32 +45,32 @@ module _ (p : Plan) where
       record { processor = processorOf p; hold = λ i. holdAt p i q; budget = λ k. budget p k q; wait = λ k. waitTime p k q }
 
   -- task i "holds or waits for (is in line for)" some resource
-  unfoldable pub busy : Lines → ℕ → Bool
-  busy s i = anyBelow (p .resources) (λ q. inLine i (s q))
+  unfoldable pub busy : View → ℕ → Bool
+  busy s i = anyBelow (p .resources) (λ q. inLine i (s .lines q))
 
   -- "Request: 11, unknown tag; 12, resource ≥ R; 13, no section of the task on it; 14, local; 15, the task already holds or waits."
-  unfoldable pub requestCode : Lines → ℕ → ℕ → ℕ
+  unfoldable pub requestCode : View → ℕ → ℕ → ℕ
   requestCode s tag q = cond (eqb (useCode p tag q) 0) (cond (busy s (taskNumber p tag)) 15 0) (useCode p tag q)
 
   -- "Release: 11; 12; 16, the task does not hold it."
-  unfoldable pub releaseCode : Lines → ℕ → ℕ → ℕ
+  unfoldable pub releaseCode : View → ℕ → ℕ → ℕ
   releaseCode s tag q =
-      cond (ltb (taskNumber p tag) (p .tasks)) (cond (ltb q (p .resources)) (cond (holds (taskNumber p tag) (s q)) 0 16) 12) 11
+      cond (ltb (taskNumber p tag) (p .tasks)) (cond (ltb q (p .resources)) (cond (holds (taskNumber p tag) (s .lines q)) 0 16) 12) 11
 
   -- "A start, a tick and the question of admission refuse nothing further."
-  abbrev pub callCode : Lines → Call → ℕ
+  abbrev pub callCode : View → Call → ℕ
   callCode s (Request tag q) = requestCode s tag q
   callCode s (Release tag q) = releaseCode s tag q
   callCode s Tick = 0
 
   -- what a call does that is not refused. "Resources do not affect each other in a tick."
-  abbrev pub effect : Lines → Call → Lines
-  effect s (Request tag q) = change s q (entered (terms q) (taskNumber p tag))
-  effect s (Release tag q) = change s q (released (terms q))
-  effect s Tick = λ q. ticked (terms q) (s q)
+  abbrev pub effect : View → Call → View
+  effect s (Request tag q) = record { lines = change (s .lines) q (entered (terms q) (taskNumber p tag)) }
+  effect s (Release tag q) = record { lines = change (s .lines) q (released (terms q)) }
+  effect s Tick = record { lines = λ q. ticked (terms q) (s .lines q) }
 
   -- what a call does: "The state is unchanged" where it is refused
-  unfoldable pub step : Lines → Call → Lines
+  unfoldable pub step : View → Call → View
   step s c = cond (eqb (callCode s c) 0) (effect s c) s
 
   -- "A request is answered "granted", or "waits" with the number of tasks ahead (of the same processor, holder included) and the
@@ -83,26 +86,26 @@ module _ (p : Plan) where
   releaseTold (line h b (turn k u us ∷ rest)) = Next (p .task u .tag)
 
   -- the tick gives resource q a new grant: its holder is cut, and somebody holds it then
-  abbrev pub regranted : Lines → ℕ → Bool
-  regranted s q = cut (s q) && held (ticked (terms q) (s q))
+  abbrev pub regranted : View → ℕ → Bool
+  regranted s q = cut (s .lines q) && held (ticked (terms q) (s .lines q))
 
   -- "The tick's answer is two 16-bit words, bit q for resource q: those cut, and those with a new grant."
-  abbrev pub told : Lines → Call → Answer
-  told s (Request tag q) = requestTold (taskNumber p tag) q (s q)
-  told s (Release tag q) = releaseTold (released (terms q) (s q))
-  told s Tick = Ticked (wordBelow 16 (λ q. cut (s q))) (wordBelow 16 (regranted s))
+  abbrev pub told : View → Call → Answer
+  told s (Request tag q) = requestTold (taskNumber p tag) q (s .lines q)
+  told s (Release tag q) = releaseTold (released (terms q) (s .lines q))
+  told s Tick = Ticked (wordBelow 16 (λ q. cut (s .lines q))) (wordBelow 16 (regranted s))
 
   -- what a call is answered
-  unfoldable pub answer : Lines → Call → Answer
+  unfoldable pub answer : View → Call → Answer
   answer s c = cond (eqb (callCode s c) 0) (told s c) (Refused (callCode s c))
 
   -- "each call gets the same plan and the state that the last one returned, refused or not"
-  abbrev pub after : Lines → List Call → Lines
+  abbrev pub after : View → List Call → View
   after s [] = s
   after s (c ∷ cs) = after (step s c) cs
 
   -- "Who is in line, who is granted and which processor is head is told by this section's rules from the plan and the list alone"
-  abbrev pub run : List Call → Lines
+  abbrev pub run : List Call → View
   run cs = after fresh cs
 
 -- document 01's number and values for each answer: the number of the refusal, 0 for none; then which answer it is, and its values

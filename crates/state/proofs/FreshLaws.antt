@@ -9,7 +9,7 @@ use lib.Dec.{leb}
 use lib.ListN.{replicate, length-replicate, getD-replicate, List·getD-eq-default}
 use Rattle.folds.proofs.Tests.{all-from, any-none, is-not-true, find-none}
 use Rattle.plan.specs.Plan.{Plan, Valid}
-use Rattle.protocol.specs.Machine.{fresh}
+use Rattle.protocol.specs.Machine.{Lines, fresh}
 use Rattle.ranks.specs.Ranks.{listFrom}
 use Rattle.ranks.proofs.Lists.{list-same}
 use Rattle.folds.proofs.Searches.{on-le}
@@ -50,11 +50,11 @@ fresh-sound p v =
 
 pub fresh-shows : (p : Plan) → shows p freshState ≡ fresh
 unfolding shows listFrom
-fresh-shows p = fun-ext line
+fresh-shows p = ap (λ (l : Lines). record { lines = l }) (fun-ext line)
   where
-    line : (q : ℕ) → shows p freshState q ≡ fresh q
+    line : (q : ℕ) → shows p freshState .lines q ≡ fresh .lines q
     line q =
-        on-le (shows p freshState q ≡ fresh q) 16 q
+        on-le (shows p freshState .lines q ≡ fresh .lines q) 16 q
         (λ l. rw (List·getD-eq-default (freshState .lines) noLine {n = q} (rw length-replicate l)))
         (λ l. rw (line-fresh q l))
 

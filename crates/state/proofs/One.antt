@@ -7,7 +7,7 @@ use lib.ListN.{length}
 use lib.Seq.{ext-getD}
 use Rattle.plan.specs.Plan.{Plan, Valid}
 use Rattle.line.specs.Rules as Rules
-use Rattle.protocol.specs.Machine.{Lines}
+use Rattle.protocol.specs.Machine.{View}
 use Rattle.ranks.proofs.Lists.{list-length}
 use Rattle.state.specs.declared.Standing.{Standing}
 use Rattle.state.specs.declared.Line.{Line}
@@ -43,11 +43,11 @@ same-state s t r m n =
 row-long : (l : Rules.Line) → length (lineOf l .queue) ≡ 8
 row-long (Rules.line h b queue) = list-length 8 0 (slotOf queue)
 
-told-shaped : (p : Plan) (s : Lines) → Shaped (stateOf p s)
+told-shaped : (p : Plan) (s : View) → Shaped (stateOf p s)
 told-shaped p s = record {
   tasks = list-length 64 0 (standingOf p s);
-  lines = list-length 16 0 (λ q. lineOf (s q));
-  queues = λ q l. rw (line-at p s q l) (row-long (s q));
+  lines = list-length 16 0 (λ q. lineOf (s .lines q));
+  queues = λ q l. rw (line-at p s q l) (row-long (s .lines q));
 }
 
 module _ (p : Plan) (v : Valid p) where

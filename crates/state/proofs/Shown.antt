@@ -99,9 +99,9 @@ pub shown-orderly : (p : Plan) → Valid p → (s : State) → length (s .lines)
 unfolding shows listFrom
 shown-orderly p v s long h = record { sound = λ q. at q .0; once = λ q. at q .1 }
   where
-    at : (q : ℕ) → SoundAt p q (shows p s q) × EachOnce (queueOf (shows p s q))
+    at : (q : ℕ) → SoundAt p q (shows p s .lines q) × EachOnce (queueOf (shows p s .lines q))
     at q =
-        on-le (SoundAt p q (shows p s q) × EachOnce (queueOf (shows p s q))) 16 q
+        on-le (SoundAt p q (shows p s .lines q) × EachOnce (queueOf (shows p s .lines q))) 16 q
         (λ l. rw (List·getD-eq-default (s .lines) noLine {n = q} (rw long l)) (is-free, empty))
         (λ l. let w = whole-of p v s h .lines q l in
         let user : (u : ℕ) → 1 ≤ holdAt p u q → known p q u ≡ true = λ u a. hold-user p v u q a in

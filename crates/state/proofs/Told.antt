@@ -16,7 +16,7 @@ use Rattle.plan.specs.Plan.{Plan, Valid}
 use Rattle.equations.specs.Sharing.{processorOf}
 use Rattle.equations.specs.HoldTimes.{holdAt}
 use Rattle.line.specs.Rules.{Turn, queueOf, inLine, tasksOf, aheadOf}
-use Rattle.protocol.specs.Machine.{Lines}
+use Rattle.protocol.specs.Machine.{View}
 use Rattle.ranks.specs.Ranks.{listFrom, taskAt, turnOf, queueFrom}
 use Rattle.ranks.proofs.Lists.{list-length, list-get}
 use Rattle.ranks.proofs.Ranked.{task-rank, full, sole}
@@ -64,7 +64,7 @@ ahead-from i f (suc c) a j b l e h =
 
 module _ (p : Plan) (v : Valid p) (s : State) (w : Whole p s) where
   -- ── the row of a resource ──
-  line-told : (q : ℕ) → q < 16 → SameRow (lineAt s q) (lineOf (shows p s q))
+  line-told : (q : ℕ) → q < 16 → SameRow (lineAt s q) (lineOf (shows p s .lines q))
   unfolding shows
   line-told q l = record {
     queued = sym (list-length (row .queued) 0 (λ i. turnOf (p .tasks) ranks (slot row i)));
@@ -91,12 +91,12 @@ module _ (p : Plan) (v : Valid p) (s : State) (w : Whole p s) where
   -- ── the row of a task ──
   -- the tasks of processor k in line for q
   pub ahead-list : (q k : ℕ) → q < 16
-      → tasksOf k (queueOf (shows p s q)) ≡ listFrom (maxBelow (p .tasks) (rank p (s .tasks) q k)) 1 (taskAt (p .tasks) (rank p (s .tasks) q k))
+      → tasksOf k (queueOf (shows p s .lines q)) ≡ listFrom (maxBelow (p .tasks) (rank p (s .tasks) q k)) 1 (taskAt (p .tasks) (rank p (s .tasks) q k))
   unfolding shows
   ahead-list q k l = tasks-in (w .lines q l .queued) k
 
   -- in line for q are exactly the tasks whose row names q
-  pub stands-is : (i : ℕ) → i < p .tasks → (q : ℕ) → q < p .resources → inLine i (shows p s q) ≡ eqb (standing (s .tasks) i .resource) q
+  pub stands-is : (i : ℕ) → i < p .tasks → (q : ℕ) → q < p .resources → inLine i (shows p s .lines q) ≡ eqb (standing (s .tasks) i .resource) q
   unfolding shows rank
   stands-is i lt q l =
       let g : Good p (s .tasks) q (lineAt s q) = w .lines q (omega (arith, v .resources)) in
@@ -107,7 +107,7 @@ module _ (p : Plan) (v : Valid p) (s : State) (w : Whole p s) where
       go false = lt-leb 1 0 (omega arith)
 
   -- and no number past the last task
-  stands-not : (i : ℕ) → p .tasks ≤ i → (q : ℕ) → q < p .resources → inLine i (shows p s q) ≡ false
+  stands-not : (i : ℕ) → p .tasks ≤ i → (q : ℕ) → q < p .resources → inLine i (shows p s .lines q) ≡ false
   unfolding shows
   stands-not i past q l =
       let g : Good p (s .tasks) q (lineAt s q) = w .lines q (omega (arith, v .resources)) in
@@ -146,27 +146,27 @@ module _ (p : Plan) (v : Valid p) (s : State) (w : Whole p s) where
     unfolding standingOf resourceOf
     row-in h lt =
         let l : row .resource < p .resources = hold-resource p v i (row .resource) h in
-        let found = find-is (p .resources) (row .resource) (λ q. inLine i (shows p s q)) l
+        let found = find-is (p .resources) (row .resource) (λ q. inLine i (shows p s .lines q)) l
         (stands-is i lt (row .resource) l ∙ eq-eqb (row .resource) _ refl)
         (λ q b. stands-is i lt q (omega arith) ∙ ne-eqb (row .resource) q (λ e. omega arith)) in
         rw (found, lt-ltb (row .resource) (p .resources) l)
         (row-same row (record { resource = row .resource; place = placeOf p (shows p s) i (row .resource) }) refl
         (sym (place-is lt (omega (arith, v .resources)))))
 
-    row-out : ((q : ℕ) → q < p .resources → inLine i (shows p s q) ≡ false) → standingOf p (shows p s) i ≡ noneInLine
+    row-out : ((q : ℕ) → q < p .resources → inLine i (shows p s .lines q) ≡ false) → standingOf p (shows p s) i ≡ noneInLine
     unfolding standingOf resourceOf
     row-out h =
-        let test : ℕ → Bool = λ q. inLine i (shows p s q) in
+        let test : ℕ → Bool = λ q. inLine i (shows p s .lines q) in
         let none = find-none (p .resources) test (all-from (p .resources) (λ q. not (test q)) (λ q l. ap not (h q l))) in
         rw (none, le-ltb (p .resources) (p .resources) (omega arith))
 
     row-told : i < 64 → row ≡ standingOf p (shows p s) i
     row-told l = told (w .rows i l)
       where
-        none : row ≡ noneInLine → (q : ℕ) → q < p .resources → inLine i (shows p s q) ≡ false
+        none : row ≡ noneInLine → (q : ℕ) → q < p .resources → inLine i (shows p s .lines q) ≡ false
         none e q b =
             let away : row .resource ≢ q = λ z. omega (arith, ap (λ (r : Standing). r .resource) e, v .resources) in
-            on-le (inLine i (shows p s q) ≡ false) (p .tasks) i (λ past. stands-not i past q b)
+            on-le (inLine i (shows p s .lines q) ≡ false) (p .tasks) i (λ past. stands-not i past q b)
             (λ lt. stands-is i lt q b ∙ ne-eqb (row .resource) q away)
 
         told : (row ≡ noneInLine) ⊎ (1 ≤ holdAt p i (row .resource)) → row ≡ standingOf p (shows p s) i
@@ -175,9 +175,9 @@ module _ (p : Plan) (v : Valid p) (s : State) (w : Whole p s) where
 
 -- ── the whole state ──
 -- the rows of the state that some lines tell
-module _ (p : Plan) (s : Lines) where
-  pub line-at : (q : ℕ) → q < 16 → lineAt (stateOf p s) q ≡ lineOf (s q)
-  line-at q l = list-get 16 0 q q (λ r. lineOf (s r)) noLine (omega arith) l
+module _ (p : Plan) (s : View) where
+  pub line-at : (q : ℕ) → q < 16 → lineAt (stateOf p s) q ≡ lineOf (s .lines q)
+  line-at q l = list-get 16 0 q q (λ r. lineOf (s .lines r)) noLine (omega arith) l
 
   standing-at : (i : ℕ) → i < 64 → standing (stateOf p s .tasks) i ≡ standingOf p s i
   standing-at i l = list-get 64 0 i i (standingOf p s) noStanding (omega arith) l

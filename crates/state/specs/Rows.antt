@@ -9,7 +9,7 @@ use Rattle.folds.specs.Below.{findBelow}
 use Rattle.plan.specs.Plan.{Plan}
 use Rattle.line.specs.Rules as Rules
 use Rattle.line.specs.Rules.{Turn, turn, inLine, aheadIn}
-use Rattle.protocol.specs.Machine.{Lines, terms}
+use Rattle.protocol.specs.Machine.{View, terms}
 use Rattle.ranks.specs.Ranks.{listFrom}
 use Rattle.state.specs.declared.Standing.{Standing}
 use Rattle.state.specs.declared.Line.{Line}
@@ -27,15 +27,15 @@ abbrev pub lineOf : Rules.Line → Line
 lineOf (Rules.line h b queue) =
     record { queued = length queue; queue = listFrom 8 0 (slotOf queue); «hold_left» = h; «budget_left» = b }
 
-module _ (p : Plan) (s : Lines) where
+module _ (p : Plan) (s : View) where
   -- "A task holds or waits for (is in line for) at most one resource": the one that task i is in line for, R where there is none
   unfoldable pub resourceOf : ℕ → ℕ
-  resourceOf i = findBelow (p .resources) (λ q. inLine i (s q))
+  resourceOf i = findBelow (p .resources) (λ q. inLine i (s .lines q))
 
   -- "Each processor has, for each resource, a queue of tasks, first come first served": the place of task i in its processor's
   -- queue for q is the number of tasks ahead of it there
   abbrev pub placeOf : ℕ → ℕ → ℕ
-  placeOf i q = length (aheadIn (terms p q) i (s q))
+  placeOf i q = length (aheadIn (terms p q) i (s .lines q))
 
   -- the row of task i
   unfoldable pub standingOf : ℕ → Standing
@@ -44,4 +44,4 @@ module _ (p : Plan) (s : Lines) where
 
   -- the whole state
   abbrev pub stateOf : State
-  stateOf = record { lines = listFrom 16 0 (λ q. lineOf (s q)); tasks = listFrom 64 0 standingOf }
+  stateOf = record { lines = listFrom 16 0 (λ q. lineOf (s .lines q)); tasks = listFrom 64 0 standingOf }

@@ -7,7 +7,7 @@ use lib.ListN.{getD, replicate}
 use Rattle.plan.specs.Plan.{Plan}
 use Rattle.equations.specs.Sharing.{processorOf}
 use Rattle.line.specs.Rules as Rules
-use Rattle.protocol.specs.Machine.{Lines}
+use Rattle.protocol.specs.Machine.{View}
 use Rattle.ranks.specs.Ranks.{queueFrom}
 use Rattle.state.specs.declared.Standing.{Standing}
 use Rattle.state.specs.declared.Line.{Line}
@@ -43,8 +43,8 @@ shownLine p ts q l =
     Rules.line (l .«hold_left») (l .«budget_left») (queueFrom (p .tasks) (rank p ts q) (l .queued) (slot l))
 
 -- what the state shows
-unfoldable pub shows : Plan → State → Lines
-shows p s q = shownLine p (s .tasks) q (lineAt s q)
+unfoldable pub shows : Plan → State → View
+shows p s = record { lines = λ q. shownLine p (s .tasks) q (lineAt s q) }
 
 -- the filling of the row of a task that is in line for nothing
 abbrev pub noneInLine : Standing

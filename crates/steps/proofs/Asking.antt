@@ -90,7 +90,7 @@ module _ (p : Plan) (v : Valid p) (s : State) (w : Whole p s) (q k : ℕ) (lq : 
         full-at : (j : ℕ) → j < most → test j ≡ false
         full-at j l = ne-eqb (getD seats (seat q k j) 0) 0 (λ e. omega (arith, seat-taken j l))
 
-    pub ahead-count : length (tasksOf k (queueOf (shows p s q))) ≡ taken seats q k
+    pub ahead-count : length (tasksOf k (queueOf (shows p s .lines q))) ≡ taken seats q k
     ahead-count = ap length (ahead-list p v s w q k lq) ∙ list-length most 1 (taskAt (p .tasks) ranks) ∙ sym taken-is
 
     module _ {holds : List ℕ} (c : Cells (holdAt p) holds) where
@@ -106,7 +106,7 @@ module _ (p : Plan) (v : Valid p) (s : State) (w : Whole p s) (q k : ℕ) (lq : 
               let e : getD seats (seat q k j) 0 - 1 ≡ u = omega (arith, seat-taken j l) in
               rw e (c .at u q (omega (arith, v .tasks)) lq)
 
-      pub ahead-holds : sumOf (terms p q .hold) (tasksOf k (queueOf (shows p s q))) ≡ takenHolds holds seats q k
+      pub ahead-holds : sumOf (terms p q .hold) (tasksOf k (queueOf (shows p s .lines q))) ≡ takenHolds holds seats q k
       ahead-holds = ap (sumOf (terms p q .hold)) (ahead-list p v s w q k lq) ∙ sym taken-holds
 
 -- ── the answer ──
@@ -119,12 +119,12 @@ told-held p i q n R zero g h b a = let bad : ⊥ = omega arith in absurd bad
 told-held p i q n R (suc c) g h b a = refl
 
 module _ (p : Plan) (v : Valid p) (s : State) (w : Whole p s) (i q : ℕ) where
-  pub request-granted : lineAt s q .queued ≡ 0 → requestTold p i q (shows p s q) ≡ Granted
+  pub request-granted : lineAt s q .queued ≡ 0 → requestTold p i q (shows p s .lines q) ≡ Granted
   unfolding shows listFrom
   request-granted e = rw e
 
   pub request-waits : {seats holds : List ℕ} → 1 ≤ lineAt s q .queued → q < 16 → i < p .tasks → Seats p (s .tasks) seats → Cells (holdAt p) holds
-      → requestTold p i q (shows p s q)
+      → requestTold p i q (shows p s .lines q)
       ≡ Waits (taken seats q (processorOf p i))
       (takenHolds holds seats q (processorOf p i) + (taken seats q (processorOf p i) + 1) * waitTime p (processorOf p i) q)
   unfolding shows
@@ -140,7 +140,7 @@ module _ (p : Plan) (v : Valid p) (s : State) (w : Whole p s) (i : ℕ) (lt : i 
   pub busy-is : busy p (shows p s) i ≡ not (eqb (standing (s .tasks) i .resource) 255)
   unfolding busy
   busy-is =
-      any-same (p .resources) (λ q. inLine i (shows p s q)) (eqb r) (stands-is p v s w i lt)
+      any-same (p .resources) (λ q. inLine i (shows p s .lines q)) (eqb r) (stands-is p v s w i lt)
       ∙ same-test (anyBelow (p .resources) (eqb r)) (not (eqb r 255))
       (λ e. any-out (p .resources) (eqb r) _ e (λ q l t. ap not (ne-eqb r 255 (λ f. omega (arith, v .resources, eqb-true r q t)))))
       (λ e. some e (w .rows i (omega (arith, v .tasks))))

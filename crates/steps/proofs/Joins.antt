@@ -19,7 +19,7 @@ use Rattle.equations.specs.HoldTimes.{holdAt, budget}
 use Rattle.equations.proofs.Laws.{budget-holds}
 use Rattle.line.specs.Rules as Rules
 use Rattle.line.specs.Rules.{entered}
-use Rattle.protocol.specs.Machine.{terms, change}
+use Rattle.protocol.specs.Machine.{Lines, terms, change}
 use Rattle.ranks.specs.Ranks.{listFrom}
 use Rattle.folds.proofs.Searches.{on-eq, on-le}
 use Rattle.ranks.proofs.Ranked.{At, Timed, room, queued-few}
@@ -241,7 +241,7 @@ module _ (p : Plan) (v : Valid p) (s : State) (w : Whole p s) (len : length (s .
         timed = same-timed (p .tasks) _ _ same (m .queued) (terms p r) (slot m) (slot m) (m .«hold_left») (m .«budget_left») (λ j b. refl) (g .timed);
       })
 
-  apart-shows : (r : ℕ) → r ≢ q → shows p (entering p s i q) r ≡ shows p s r
+  apart-shows : (r : ℕ) → r ≢ q → shows p (entering p s i q) .lines r ≡ shows p s .lines r
   unfolding shows listFrom
   apart-shows r n =
       rw (apart-line r n)
@@ -259,8 +259,8 @@ module _ (p : Plan) (v : Valid p) (s : State) (w : Whole p s) (len : length (s .
         lines = λ r b. on-eq (Good p after r (lineAt (entering p s i q) r)) r q (λ e. rw e (joins-line .good)) (λ n. apart-good r b n);
       }
 
-  pub joined-shows : shows p (entering p s i q) ≡ change (shows p s) q (entered (terms p q) i)
+  pub joined-shows : shows p (entering p s i q) ≡ record { lines = change (shows p s .lines) q (entered (terms p q) i) }
   unfolding shows
   joined-shows =
-      fun-ext (λ r. by-eq (λ (b : Bool). shows p (entering p s i q) r ≡ cond b (entered (terms p q) i (shows p s r)) (shows p s r)) r q
-      (λ e. rw e (joins-line .shown)) (λ n. apart-shows r n))
+      ap (λ (l : Lines). record { lines = l }) (fun-ext (λ r. by-eq (λ (b : Bool). shows p (entering p s i q) .lines r ≡ cond b (entered (terms p q) i (shows p s .lines r)) (shows p s .lines r)) r q
+      (λ e. rw e (joins-line .shown)) (λ n. apart-shows r n)))

@@ -40,7 +40,7 @@ abbrev pub nextSeat : List ℕ → ℕ → Line → ℕ → ℕ
 nextSeat seats q l gone = getD seats (seat q (slot l 0) (cond (eqb (slot l 0) gone) 1 0)) 0
 
 -- who holds: nobody where nobody is queued, else who sits first
-pub holder-none : (p : Plan) (s : State) (q i : ℕ) → lineAt s q .queued ≡ 0 → Rules.holds i (shows p s q) ≡ false
+pub holder-none : (p : Plan) (s : State) (q i : ℕ) → lineAt s q .queued ≡ 0 → Rules.holds i (shows p s .lines q) ≡ false
 unfolding shows
 holder-none p s q i e =
     let l : Line = lineAt s q in holds-none (p .tasks) (rank p (s .tasks) q) i (l .queued) (slot l) (l .«hold_left») (l .«budget_left») e
@@ -50,7 +50,7 @@ module _ (p : Plan) (v : Valid p) (s : State) (w : Whole p s) (q : ℕ) (lq : q 
   head-low = omega (arith, v .processors, w .lines q lq .queued .placed 0 held)
 
   pub holder-seat : {seats : List ℕ} → Seats p (s .tasks) seats → (i : ℕ)
-      → Rules.holds i (shows p s q) ≡ eqb (getD seats (seat q (slot (lineAt s q) 0) 0) 0) (i + 1)
+      → Rules.holds i (shows p s .lines q) ≡ eqb (getD seats (seat q (slot (lineAt s q) 0) 0) 0) (i + 1)
   unfolding shows
   holder-seat {seats} t i =
       let g : Line = lineAt s q in
@@ -90,10 +90,10 @@ module _ (p : Plan) (v : Valid p) (s : State) (w : Whole p s) {holds budgets key
     pub left-line : lineAt (left holds budgets keys seats q s) q ≡ passed holds budgets seats q (lineAt s q)
     left-line = getD-set-same (s .lines) q (passed holds budgets seats q (lineAt s q)) noLine (omega (arith, t .lines-long))
 
-    left-shown : (r : ℕ) → r < 16 → Shown p (L .tasks) r (lineAt L r) (change (shows p s) q (Rules.released (terms p q)) r)
+    left-shown : (r : ℕ) → r < 16 → Shown p (L .tasks) r (lineAt L r) (change (shows p s .lines) q (Rules.released (terms p q)) r)
     unfolding shows
     left-shown r lr =
-        by-eq (λ (b : Bool). Shown p (L .tasks) r (lineAt L r) (cond b (Rules.released (terms p q) (shows p s r)) (shows p s r))) r q
+        by-eq (λ (b : Bool). Shown p (L .tasks) r (lineAt L r) (cond b (Rules.released (terms p q) (shows p s .lines r)) (shows p s .lines r))) r q
         (λ e. rw (e, left-line) (passed-shown p v s w t (L .tasks) q lq (lineAt s q) line-held leaves))
         (λ n. rw (getD-set-other (s .lines) q r (passed holds budgets seats q (lineAt s q)) noLine n)
         (stays-shown p (s .tasks) (L .tasks) r (lineAt s r) (ranks-stay p v s w t ended r lr (ne-eqb r q n)) (w .lines r lr)))
@@ -101,9 +101,9 @@ module _ (p : Plan) (v : Valid p) (s : State) (w : Whole p s) {holds budgets key
     pub left-whole : Whole p (left holds budgets keys seats q s)
     left-whole = record { rows = rows-after p v s w t ended; lines = λ r lr. left-shown r lr .good }
 
-    pub left-shows : shows p (left holds budgets keys seats q s) ≡ change (shows p s) q (Rules.released (terms p q))
+    pub left-shows : shows p (left holds budgets keys seats q s) ≡ record { lines = change (shows p s .lines) q (Rules.released (terms p q)) }
     left-shows =
-        all-shown p L (change (shows p s) q (Rules.released (terms p q)))
+        all-shown p L (change (shows p s .lines) q (Rules.released (terms p q)))
         (length-set (s .lines) q (passed holds budgets seats q (lineAt s q)) ∙ t .lines-long) left-shown
         (λ r a. rw (ne-eqb r q (λ e. omega arith)) (past-shows p s r (t .lines-long) a))
 
@@ -131,10 +131,10 @@ module _ (p : Plan) (v : Valid p) (s : State) (w : Whole p s) {holds budgets key
         let l : first < p .tasks = full (g .ranked) (slot after 0) 1 (omega arith) (g .queued .served 0 a) in
         (next-low a, omega (arith, next-first a), omega (arith, next-first a))
 
-    pub next-told : releaseTold p (Rules.released (terms p q) (shows p s q)) ≡ cond (eqb (after .queued) 0) Free (Next (p .task (granted - 1) .tag))
+    pub next-told : releaseTold p (Rules.released (terms p q) (shows p s .lines q)) ≡ cond (eqb (after .queued) 0) Free (Next (p .task (granted - 1) .tag))
     unfolding shows listFrom
     next-told =
-        let m : Rules.released (terms p q) (shows p s q) ≡ shownLine p (L .tasks) q after =
+        let m : Rules.released (terms p q) (shows p s .lines q) ≡ shownLine p (L .tasks) q after =
         sym (rw (eq-eqb q q refl) at (left-shown q lq .shows)) in
         ap (releaseTold p) m
         ∙ told (p .tasks) (rank p (L .tasks) q) (after .queued) (slot after) (after .«hold_left») (after .«budget_left»)

@@ -57,15 +57,15 @@ stays-shown p ts us q l same g =
     }
 
 -- past the last row nobody is in line; so the whole state shows m where each row does
-pub past-shows : (p : Plan) (s : State) (r : ℕ) → length (s .lines) ≡ 16 → 16 ≤ r → shows p s r ≡ Rules.free
+pub past-shows : (p : Plan) (s : State) (r : ℕ) → length (s .lines) ≡ 16 → 16 ≤ r → shows p s .lines r ≡ Rules.free
 unfolding shows listFrom
 past-shows p s r e a =
     let z : lineAt s r ≡ noLine = List·getD-eq-default (s .lines) noLine {n = r} (omega arith) in ap (shownLine p (s .tasks) r) z
 
 pub all-shown : (p : Plan) (s : State) (m : Lines) → length (s .lines) ≡ 16 → ((r : ℕ) → r < 16 → Shown p (s .tasks) r (lineAt s r) (m r))
-    → ((r : ℕ) → 16 ≤ r → m r ≡ Rules.free) → shows p s ≡ m
+    → ((r : ℕ) → 16 ≤ r → m r ≡ Rules.free) → shows p s ≡ record { lines = m }
 unfolding shows
-all-shown p s m e h o = fun-ext (λ r. on-le (shows p s r ≡ m r) 16 r (λ a. past-shows p s r e a ∙ sym (o r a)) (λ a. h r a .shows))
+all-shown p s m e h o = ap (λ (l : Lines). record { lines = l }) (fun-ext (λ r. on-le (shows p s .lines r ≡ m r) 16 r (λ a. past-shows p s r e a ∙ sym (o r a)) (λ a. h r a .shows)))
 
 -- a held line, whatever is left of the hold
 pub record Held (p : Plan) (ts : List Standing) (q : ℕ) (l : Line) : Type 0 where

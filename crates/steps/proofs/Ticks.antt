@@ -159,23 +159,23 @@ module _ (p : Plan) (v : Valid p) (s : State) (w : Whole p s) {holds budgets key
     unfolding steppedLines
     ticked-line = each-at noLine (λ q l. stepped holds budgets seats q l) 16 q (s .lines) lq (omega (arith, t .lines-long))
 
-    ticked-shown : Shown p (T .tasks) q (lineAt T q) (Rules.ticked (terms p q) (shows p s q))
+    ticked-shown : Shown p (T .tasks) q (lineAt T q) (Rules.ticked (terms p q) (shows p s .lines q))
     unfolding stepped shows
     ticked-shown =
         rw ticked-line
-        (on-eq (Shown p (T .tasks) q (stepped holds budgets seats q l) (Rules.ticked (terms p q) (shows p s q))) (l .queued) 0
+        (on-eq (Shown p (T .tasks) q (stepped holds budgets seats q l) (Rules.ticked (terms p q) (shows p s .lines q))) (l .queued) 0
         (λ e. rw (eq-eqb (l .queued) 0 e) (tick-free e))
-        (λ n. on-eq (Shown p (T .tasks) q (stepped holds budgets seats q l) (Rules.ticked (terms p q) (shows p s q))) (l .«hold_left») 1
+        (λ n. on-eq (Shown p (T .tasks) q (stepped holds budgets seats q l) (Rules.ticked (terms p q) (shows p s .lines q))) (l .«hold_left») 1
         (λ e. rw (ne-eqb (l .queued) 0 n, eq-eqb (l .«hold_left») 1 e) (tick-cut (omega arith) e))
         (λ m. rw (ne-eqb (l .queued) 0 n, ne-eqb (l .«hold_left») 1 m) (tick-on (omega arith) m))))
 
   pub ticked-whole : Whole p (ticked holds budgets keys seats s)
   ticked-whole = record { rows = rows-after p v s w t (ended p v s w); lines = λ q lq. ticked-shown q lq .good }
 
-  pub ticked-shows : shows p (ticked holds budgets keys seats s) ≡ (λ q. Rules.ticked (terms p q) (shows p s q))
+  pub ticked-shows : shows p (ticked holds budgets keys seats s) ≡ record { lines = λ q. Rules.ticked (terms p q) (shows p s .lines q) }
   unfolding steppedLines
   ticked-shows =
-      all-shown p T (λ q. Rules.ticked (terms p q) (shows p s q))
+      all-shown p T (λ q. Rules.ticked (terms p q) (shows p s .lines q))
       (each-length noLine (λ q l. stepped holds budgets seats q l) 16 (s .lines) ∙ t .lines-long) ticked-shown
       (λ q a. rw (past-shows p s q (t .lines-long) a))
 
@@ -193,21 +193,21 @@ held-line n R zero g h b = refl
 held-line n R (suc c) g h b = lt-ltb 0 (suc c) (omega arith)
 
 module _ (p : Plan) (v : Valid p) (s : State) (w : Whole p s) {holds budgets keys seats : List ℕ} (t : Tabled p s holds budgets keys seats) where
-  ends-cuts : (q : ℕ) → q < 16 → ends (lineAt s q) ≡ Rules.cut (shows p s q)
+  ends-cuts : (q : ℕ) → q < 16 → ends (lineAt s q) ≡ Rules.cut (shows p s .lines q)
   unfolding shows
   ends-cuts q lq =
       let l : Line = lineAt s q in
       cut-line (p .tasks) (rank p (s .tasks) q) (l .queued) (slot l) (l .«hold_left») (l .«budget_left») (λ a. w .lines q lq .timed .runs a .0)
 
-  pub cut-word : cutWord (s .lines) ≡ wordBelow 16 (λ q. Rules.cut (shows p s q))
+  pub cut-word : cutWord (s .lines) ≡ wordBelow 16 (λ q. Rules.cut (shows p s .lines q))
   unfolding cutWord
-  cut-word = word-same 16 (λ q. ends (lineAt s q)) (λ q. Rules.cut (shows p s q)) ends-cuts
+  cut-word = word-same 16 (λ q. ends (lineAt s q)) (λ q. Rules.cut (shows p s .lines q)) ends-cuts
 
   pub grant-word : grantWord (s .lines) (ticked holds budgets keys seats s .lines) ≡ wordBelow 16 (regranted p (shows p s))
   unfolding grantWord
   grant-word = word-same 16 _ (regranted p (shows p s)) (λ q lq. ap₂ _&&_ (ends-cuts q lq) (holding q lq))
     where
-      holding : (q : ℕ) → q < 16 → ltb 0 (lineAt (ticked holds budgets keys seats s) q .queued) ≡ held (Rules.ticked (terms p q) (shows p s q))
+      holding : (q : ℕ) → q < 16 → ltb 0 (lineAt (ticked holds budgets keys seats s) q .queued) ≡ held (Rules.ticked (terms p q) (shows p s .lines q))
       holding q lq =
           let l : Line = lineAt (ticked holds budgets keys seats s) q in
           held-line (p .tasks) (rank p (ticked holds budgets keys seats s .tasks) q) (l .queued) (slot l) (l .«hold_left») (l .«budget_left»)

@@ -15,14 +15,14 @@ use Rattle.line.specs.Rules.{Line, line, turn, released}
 use Rattle.protocol.specs.declared.Call.{Call}
 use Rattle.protocol.specs.declared.Call.the-variants.{Request, Release, Tick}
 use Rattle.protocol.specs.declared.Answer.the-variants.{Refused}
-use Rattle.protocol.specs.Machine.{Lines, terms, busy, requestCode, releaseCode, callCode, requestTold, releaseTold, told}
+use Rattle.protocol.specs.Machine.{View, terms, busy, requestCode, releaseCode, callCode, requestTold, releaseTold, told}
 use Rattle.state.specs.declared.State.{State}
 use Rattle.state.specs.Shows.{shows}
 use Rattle.machine.specs.Replies.{stateRefusal, callRefusal, reply}
 use Rattle.machine.specs.Promise.{callOf}
 use Rattle.wording.specs.Naming.{Nameable, Names}
 
-module _ (p : Plan) (m : Lines) (tag q : ℕ) where
+module _ (p : Plan) (m : View) (tag q : ℕ) where
   request-below : requestCode p m tag q ≡ 0 → q < p .resources
   unfolding requestCode useCode
   request-below e =
@@ -63,8 +63,8 @@ module _ (f : List ℕ) (bytes : (k : ℕ) → k < length f → getD f k 0 < 256
   bytes-name letter tag q = go (eqb letter 81) (eqb letter 82) (eqb letter 84 && (eqb tag 0 && eqb q 0))
     where
       go : (a b d : Bool) → each-names q (cond a (Request tag q ∷ []) (cond b (Release tag q ∷ []) (cond d (Tick ∷ []) [])))
-      go true b d = reply-names (Request tag q) q (λ e h. request-names f q (taskNumber (planOf f) tag) (shows (planOf f) s q) (record { plan = h; below = request-below (planOf f) (shows (planOf f) s) tag q e }))
-      go false true d = reply-names (Release tag q) q (λ e h. release-names f q (released (terms (planOf f) q) (shows (planOf f) s q)) (record { plan = h; below = release-below (planOf f) (shows (planOf f) s) tag q e }))
+      go true b d = reply-names (Request tag q) q (λ e h. request-names f q (taskNumber (planOf f) tag) (shows (planOf f) s .lines q) (record { plan = h; below = request-below (planOf f) (shows (planOf f) s) tag q e }))
+      go false true d = reply-names (Release tag q) q (λ e h. release-names f q (released (terms (planOf f) q) (shows (planOf f) s .lines q)) (record { plan = h; below = release-below (planOf f) (shows (planOf f) s) tag q e }))
       go false false true = reply-names Tick q (λ e h. tt)
       go false false false = tt
 
