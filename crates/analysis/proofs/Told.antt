@@ -12,16 +12,16 @@ use lib.Seq.{ext-getD}
 use Rattle.folds.specs.Bytes.{placedBelow}
 use Rattle.folds.proofs.Tests.{code-zero, code-next}
 use Rattle.folds.proofs.Arrays.{by-eq, placed-at, placed-length}
-use Rattle.plan.specs.Plan.{Plan, planOf, Checked}
-use Rattle.plan.specs.Reading.{refusal, answered}
-use Rattle.equations.specs.HoldTimes.{holdAt}
-use Rattle.equations.specs.Blocking.{globalCount}
-use Rattle.equations.specs.Requirement.{asks, met, admitted}
-use Rattle.equations.specs.Questions.{taskNumber, sharingCode, useCode, processorCode, requirementCode}
-use Rattle.equations.proofs.Laws.{asks-not, asks-some}
-use Rattle.holds.specs.Holds.{Cells}
-use Rattle.requirements.specs.declared.Requirement.{Requirement}
-use Rattle.requirements.specs.Figures.{requirementOf}
+use Rattle.plan_reading.specs.Plan.{Plan, planOf, Checked}
+use Rattle.plan_reading.specs.Reading.{refusal, answered}
+use Rattle.analysis_equations.specs.HoldTimes.{holdAt}
+use Rattle.analysis_equations.specs.Blocking.{globalCount}
+use Rattle.analysis_equations.specs.Requirement.{asks, met, admitted}
+use Rattle.analysis_equations.specs.Questions.{taskNumber, sharingCode, useCode, processorCode, requirementCode}
+use Rattle.analysis_equations.proofs.Laws.{asks-not, asks-some}
+use Rattle.analysis_hold_times.specs.Holds.{Cells}
+use Rattle.analysis_requirements.specs.declared.Requirement.{Requirement}
+use Rattle.analysis_requirements.specs.Figures.{requirementOf}
 use Rattle.analysis.specs.declared.Figure.{Figure}
 use Rattle.analysis.specs.declared.Figure.the-variants.{Given, Refused}
 use Rattle.analysis.specs.declared.RequirementAnswer.{RequirementAnswer}

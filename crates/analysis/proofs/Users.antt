@@ -7,14 +7,14 @@ use native.Mathlib.Omega.{arith}
 use borrow.Author.Tests.{ne-eqb, not-false}
 use lib.ListN.{getD}
 use Rattle.folds.proofs.Tests.{and-parts}
-use Rattle.plan.specs.Plan.{Plan, Valid, planOf, Checked}
-use Rattle.plan.specs.Reading.{refusal}
-use Rattle.plan.proofs.Laws.{valid-plan}
-use Rattle.equations.specs.Sharing.{uses, global}
-use Rattle.equations.specs.HoldTimes.{holdTime, holdAt}
-use Rattle.equations.specs.Questions.{taskNumber, sharingCode, useCode}
-use Rattle.equations.proofs.Laws.{shared-use, hold-zero, hold-high}
-use Rattle.holds.specs.Holds.{cell, Cells, Shares}
+use Rattle.plan_reading.specs.Plan.{Plan, Valid, planOf, Checked}
+use Rattle.plan_reading.specs.Reading.{refusal}
+use Rattle.plan_reading.proofs.Laws.{valid-plan}
+use Rattle.analysis_equations.specs.Sharing.{uses, global}
+use Rattle.analysis_equations.specs.HoldTimes.{holdTime, holdAt}
+use Rattle.analysis_equations.specs.Questions.{taskNumber, sharingCode, useCode}
+use Rattle.analysis_equations.proofs.Laws.{shared-use, hold-zero, hold-high}
+use Rattle.analysis_hold_times.specs.Holds.{cell, Cells, Shares}
 use Rattle.analysis.specs.declared.User.{User}
 use Rattle.analysis.specs.Answers.{holdCode}
 use Rattle.analysis.specs.Inner.{Uses, Found}

@@ -6,14 +6,14 @@ use lib.Dec.{eqb}
 use lib.IntN.{ℤ, pos}
 use lib.ListN.{replicate}
 use Rattle.folds.specs.Bytes.{placedBelow}
-use Rattle.plan.specs.Reading.{refusal, Told}
-use Rattle.plan.specs.Plan.{planOf}
-use Rattle.equations.specs.HoldTimes.{holdTime, holdAt}
-use Rattle.equations.specs.Requirement.{admitted}
-use Rattle.equations.specs.Questions.{taskNumber, useCode, processorCode, requirementCode}
-use Rattle.protocol.specs.Longest.{longestWait}
-use Rattle.requirements.specs.declared.Requirement.{Requirement}
-use Rattle.requirements.specs.Figures.{requirementOf}
+use Rattle.plan_reading.specs.Reading.{refusal, Told}
+use Rattle.plan_reading.specs.Plan.{planOf}
+use Rattle.analysis_equations.specs.HoldTimes.{holdTime, holdAt}
+use Rattle.analysis_equations.specs.Requirement.{admitted}
+use Rattle.analysis_equations.specs.Questions.{taskNumber, useCode, processorCode, requirementCode}
+use Rattle.machine_rules.specs.Longest.{longestWait}
+use Rattle.analysis_requirements.specs.declared.Requirement.{Requirement}
+use Rattle.analysis_requirements.specs.Figures.{requirementOf}
 use Rattle.analysis.specs.declared.Figure.{Figure}
 use Rattle.analysis.specs.declared.Figure.the-variants as figures
 use Rattle.analysis.specs.declared.RequirementAnswer.{RequirementAnswer}

@@ -3,11 +3,11 @@ use Prim.Native.Nat.{ℕ, _<_}
 use mathlib.Core.Bool.{true}
 use mathlib.Core.List.{List}
 use mathlib.Core.Path.{_≡_}
-use Rattle.plan.specs.Plan.{planOf, Checked}
-use Rattle.equations.specs.Sharing.{uses, global}
-use Rattle.equations.specs.HoldTimes.{holdAt}
-use Rattle.equations.specs.Questions.{taskNumber}
-use Rattle.holds.specs.Holds.{Cells, Shares}
+use Rattle.plan_reading.specs.Plan.{planOf, Checked}
+use Rattle.analysis_equations.specs.Sharing.{uses, global}
+use Rattle.analysis_equations.specs.HoldTimes.{holdAt}
+use Rattle.analysis_equations.specs.Questions.{taskNumber}
+use Rattle.analysis_hold_times.specs.Holds.{Cells, Shares}
 use Rattle.analysis.specs.declared.User.{User}
 
 -- task i of a checked plan uses q, which is global; the tables are those of the plan

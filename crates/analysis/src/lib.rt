@@ -1,20 +1,20 @@
 // The questions about a plan file: hold time, longest wait, budget, wait time, requirement and admission. Each takes any bytes and refuses by
 // number what it does not accept.
-use requirements::Requirement;
+use analysis_requirements::Requirement;
 ghost use mathlib.Core.Path.{_≡_};
 ghost use mathlib.Core.Bool.{cond, not, _||_};
 ghost use mathlib.Core.List.{[], _∷_};
 ghost use Prim.Native.Nat.{_<_};
 ghost use lib.ListN.{replicate};
-ghost use Rattle.plan.specs.Reading.{refusal, answered};
-ghost use Rattle.plan.specs.Plan.{planOf, Checked};
-ghost use Rattle.equations.specs.HoldTimes.{holdAt, budget, waitTime};
-ghost use Rattle.equations.specs.Blocking.{globalCount, ceiling};
-ghost use Rattle.equations.specs.Requirement.{asks, met, admitted};
-ghost use Rattle.equations.specs.Questions.{useCode, processorCode, requirementCode};
+ghost use Rattle.plan_reading.specs.Reading.{refusal, answered};
+ghost use Rattle.plan_reading.specs.Plan.{planOf, Checked};
+ghost use Rattle.analysis_equations.specs.HoldTimes.{holdAt, budget, waitTime};
+ghost use Rattle.analysis_equations.specs.Blocking.{globalCount, ceiling};
+ghost use Rattle.analysis_equations.specs.Requirement.{asks, met, admitted};
+ghost use Rattle.analysis_equations.specs.Questions.{useCode, processorCode, requirementCode};
 ghost use Rattle.tables.specs.Tables.{Column, Globals, Tasks};
-ghost use Rattle.holds.specs.Holds.{Cells, Shares};
-ghost use Rattle.requirements.specs.Figures.{requirementOf};
+ghost use Rattle.analysis_hold_times.specs.Holds.{Cells, Shares};
+ghost use Rattle.analysis_requirements.specs.Figures.{requirementOf};
 ghost use Rattle.analysis.specs.Inner.{Found};
 ghost use Rattle.analysis.specs.Answers.{figure, figureTold, holdCode, holdFigure, longestFigure, shareCode, requirementNumber, requirementFigures, requirementGiven, requirementValues, requirementTold, signedAnswered, admissionAnswer, admissionTold, holdTimes};
 
@@ -59,7 +59,7 @@ fn user_in(file: &[u8], tag: u16, q: u8, holds: &mut [u16], budgets: &mut [u16])
     requires { ⌜ (Checked (now file)) × (now holds ≡ replicate 1024 0) × (now budgets ≡ replicate 128 0) ⌝ }
     ensures { λ r. ⌜ Found (now (file .entry)) tag q (useCode (planOf (now (file .entry))) tag q) (now (holds .exit)) (now (budgets .exit)) r ⌝ }
 {
-    let counts = plan::checked::counts(file);
+    let counts = plan_reading::checked::counts(file);
     let task = tables::task_number(file, tag);
     if folds::wide(counts.tasks) <= task {
         return User { code: 11, task };
@@ -67,9 +67,9 @@ fn user_in(file: &[u8], tag: u16, q: u8, holds: &mut [u16], budgets: &mut [u16])
     if counts.resources <= q {
         return User { code: 12, task };
     }
-    holds::hold_table(file, holds, budgets);
+    analysis_hold_times::hold_table(file, holds, budgets);
     if holds[task * 16 + folds::wide(q)] == 0 {
-        let code = holds::sharing_code(file, task, q);
+        let code = analysis_hold_times::sharing_code(file, task, q);
         return User { code, task };
     }
     User { code: 0, task }
@@ -80,7 +80,7 @@ fn user_of(file: &[u8], tag: u16, q: u8, holds: &mut [u16], budgets: &mut [u16])
     requires { ⌜ (now holds ≡ replicate 1024 0) × (now budgets ≡ replicate 128 0) ⌝ }
     ensures { λ r. ⌜ Found (now (file .entry)) tag q (holdCode (now (file .entry)) tag q) (now (holds .exit)) (now (budgets .exit)) r ⌝ }
 {
-    let code = plan::check(file);
+    let code = plan_reading::check(file);
     if code != 0 {
         return User { code, task: 0 };
     }
@@ -112,7 +112,13 @@ pub fn longest_wait(file: &[u8], tag: u16, resource: u8) -> Figure
     if user.code != 0 {
         return Figure::Refused(user.code);
     }
-    let found = waits::longest_of(file, &holds, &budgets, user.task, folds::wide(resource));
+    let found = analysis_waits::longest_of(
+        file,
+        &holds,
+        &budgets,
+        user.task,
+        folds::wide(resource),
+    );
     Figure::Given(found.wait)
 }
 
@@ -123,10 +129,10 @@ fn shares_of(file: &[u8], k: u8, q: u8) -> BudgetAndWait
 {
     let mut holds = [0u16; 1024];
     let mut budgets = [0u16; 128];
-    holds::hold_table(file, &mut holds, &mut budgets);
+    analysis_hold_times::hold_table(file, &mut holds, &mut budgets);
     let at = folds::wide(q);
     let budget = budgets[folds::wide(k) * 16 + at];
-    let wait = holds::wait_in(file, &budgets, k, at);
+    let wait = analysis_hold_times::wait_in(file, &budgets, k, at);
     BudgetAndWait { budget, wait }
 }
 
@@ -135,7 +141,7 @@ fn processor_code(file: &[u8], k: u8, q: u8) -> u8
     requires { ⌜ Checked (now file) ⌝ }
     ensures { λ r. ⌜ r ≡ processorCode (planOf (now (file .entry))) k q ⌝ }
 {
-    let counts = plan::checked::counts(file);
+    let counts = plan_reading::checked::counts(file);
     if counts.processors <= k {
         return 18;
     }
@@ -149,7 +155,7 @@ fn processor_code(file: &[u8], k: u8, q: u8) -> u8
 fn share_code(file: &[u8], k: u8, q: u8) -> u8
     ensures { λ r. ⌜ r ≡ shareCode (now (file .entry)) k q ⌝ }
 {
-    let code = plan::check(file);
+    let code = plan_reading::check(file);
     if code != 0 {
         return code;
     }
@@ -190,9 +196,18 @@ fn requirement_at(file: &[u8], globals: [bool; 16], counts: &[u16], i: usize) ->
     let tasks = tables::task_table(file, globals);
     let mut holds = [0u16; 1024];
     let mut budgets = [0u16; 128];
-    holds::hold_table(file, &mut holds, &mut budgets);
-    let ceilings = requirements::ceilings(file);
-    requirements::requirement_of(file, &tasks, &holds, &budgets, counts, globals, ceilings, i)
+    analysis_hold_times::hold_table(file, &mut holds, &mut budgets);
+    let ceilings = analysis_requirements::ceilings(file);
+    analysis_requirements::requirement_of(
+        file,
+        &tasks,
+        &holds,
+        &budgets,
+        counts,
+        globals,
+        ceilings,
+        i,
+    )
 }
 
 // 11 and 17, of a checked file, or the requirement of the task with this tag.
@@ -200,13 +215,13 @@ fn requirement_question(file: &[u8], tag: u16) -> RequirementAnswer
     requires { ⌜ Checked (now file) ⌝ }
     ensures { λ r. ⌜ r ≡ requirementGiven (requirementCode (planOf (now (file .entry))) tag) (requirementFigures (now (file .entry)) tag) ⌝ }
 {
-    let plan_counts = plan::checked::counts(file);
+    let plan_counts = plan_reading::checked::counts(file);
     let i = tables::task_number(file, tag);
     if folds::wide(plan_counts.tasks) <= i {
         return RequirementAnswer::Refused(11);
     }
     let globals = tables::globals(file);
-    let counts = requirements::global_counts(file, globals);
+    let counts = analysis_requirements::global_counts(file, globals);
     if counts[i] == 0 {
         return RequirementAnswer::Refused(17);
     }
@@ -218,7 +233,7 @@ pub fn requirement(file: &[u8], tag: u16) -> RequirementAnswer
     ensures { λ r. ⌜ r ≡ requirementGiven (requirementNumber (now (file .entry)) tag) (requirementFigures (now (file .entry)) tag) ⌝ }
     ensures { λ r. ⌜ requirementTold r ≡ signedAnswered (requirementNumber (now (file .entry)) tag) (requirementValues (requirementFigures (now (file .entry)) tag)) ⌝ }
 {
-    let code = plan::check(file);
+    let code = plan_reading::check(file);
     if code != 0 {
         return RequirementAnswer::Refused(code);
     }
@@ -242,7 +257,7 @@ fn passes(
     if counts[i] == 0 {
         return true;
     }
-    let found = requirements::requirement_of(
+    let found = analysis_requirements::requirement_of(
         file,
         tasks,
         holds,
@@ -268,7 +283,7 @@ fn all_pass(
     requires { ⌜ (Checked (now file)) × (Tasks (planOf (now file)) (now tasks)) × (Cells (holdAt (planOf (now file))) (now holds)) × (Shares (planOf (now file)) (now budgets)) × (Column 64 (globalCount (planOf (now file))) (now counts)) × (Globals (planOf (now file)) globals) × (Column 16 (ceiling (planOf (now file))) ceilings) ⌝ }
     ensures { λ r. ⌜ r ≡ admitted (planOf (now (file .entry))) ⌝ }
 {
-    let plan_counts = plan::checked::counts(file);
+    let plan_counts = plan_reading::checked::counts(file);
     let n = folds::wide(plan_counts.tasks);
     let mut i = 0;
     while i < n {
@@ -289,9 +304,9 @@ fn decided(file: &[u8]) -> bool
     let tasks = tables::task_table(file, globals);
     let mut holds = [0u16; 1024];
     let mut budgets = [0u16; 128];
-    holds::hold_table(file, &mut holds, &mut budgets);
-    let counts = requirements::global_counts(file, globals);
-    let ceilings = requirements::ceilings(file);
+    analysis_hold_times::hold_table(file, &mut holds, &mut budgets);
+    let counts = analysis_requirements::global_counts(file, globals);
+    let ceilings = analysis_requirements::ceilings(file);
     all_pass(file, &tasks, &holds, &budgets, &counts, globals, ceilings)
 }
 
@@ -300,7 +315,7 @@ pub fn admission(file: &[u8]) -> AdmissionAnswer
     ensures { λ r. ⌜ r ≡ admissionAnswer (now (file .entry)) ⌝ }
     ensures { λ r. ⌜ admissionTold r ≡ answered (refusal (now (file .entry))) (cond (admitted (planOf (now (file .entry)))) 1 0 ∷ []) ⌝ }
 {
-    let code = plan::check(file);
+    let code = plan_reading::check(file);
     if code != 0 {
         return AdmissionAnswer::Refused(code);
     }
@@ -311,7 +326,7 @@ pub fn admission(file: &[u8]) -> AdmissionAnswer
 pub fn hold_times(file: &[u8]) -> HoldTimes
     ensures { λ r. ⌜ r ≡ holdTimes (now (file .entry)) ⌝ }
 {
-    let code = plan::check(file);
+    let code = plan_reading::check(file);
     if code != 0 {
         return HoldTimes {
             times: [0u16; 1024],
@@ -320,6 +335,6 @@ pub fn hold_times(file: &[u8]) -> HoldTimes
     }
     let mut times = [0u16; 1024];
     let mut budgets = [0u16; 128];
-    holds::hold_table(file, &mut times, &mut budgets);
+    analysis_hold_times::hold_table(file, &mut times, &mut budgets);
     HoldTimes { times, refusal: 0 }
 }

@@ -5,8 +5,8 @@ use crate::same;
 use analysis::AdmissionAnswer;
 use analysis::Figure;
 use analysis::RequirementAnswer;
-use requirements::Requirement;
-use text::Line;
+use analysis_requirements::Requirement;
+use print_text::Line;
 
 fn figure(answer: Figure, name: &[u8]) {
     match answer {
@@ -109,7 +109,7 @@ pub fn holds(case: &[u8]) {
 // Makes a sheet in the front of the buffer, of which the case says in four bytes how much is lent.
 fn make(case: &[u8], buf: &mut [u8]) -> Line {
     let room = given::at_most(given::length(case), buf.len());
-    sheet::sheet(file(case, 4), &mut buf[0..room])
+    print_sheet::sheet(file(case, 4), &mut buf[0..room])
 }
 
 // The sheet of a plan on lines of its own, behind its length and whether what lies behind it in the buffer is as it was.

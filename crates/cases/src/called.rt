@@ -3,11 +3,11 @@ use crate::given;
 use crate::print;
 use crate::same;
 use machine::Reply;
-use protocol::Answer;
-use rows::TaskRow;
-use state::Line;
-use state::Standing;
-use state::State;
+use machine_rules::Answer;
+use machine_state::Line;
+use machine_state::Standing;
+use machine_state::State;
+use plan_rules::TaskRow;
 ghost use Prim.Native.Nat.{_<_};
 
 // What a call gave, its answer printed: whether it was refused, and the next state.
@@ -179,7 +179,7 @@ fn held(rows: [TaskRow; 64], tasks: [Standing; 64], lines: [Line; 16]) {
 
 // What a state shows, with the processors of the tasks from the plan file.
 pub fn shown(file: &[u8], state: State) {
-    let found = plan::read(file);
+    let found = plan_reading::read(file);
     let rows = found.rows;
     let processors = rows.tasks;
     let tasks = state.tasks;

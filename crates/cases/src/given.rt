@@ -1,11 +1,11 @@
 // The parts of a case. Past its end a byte is 0 and a part is empty, so that no case can be unsafe.
-use rows::Counts;
-use rows::Rows;
-use rows::SectionRow;
-use rows::TaskRow;
-use state::Line;
-use state::Standing;
-use state::State;
+use machine_state::Line;
+use machine_state::Standing;
+use machine_state::State;
+use plan_rules::Counts;
+use plan_rules::Rows;
+use plan_rules::SectionRow;
+use plan_rules::TaskRow;
 ghost use Prim.Native.Nat.{_≤_, _<_};
 
 fn half(b: u8) -> u16

@@ -8,14 +8,14 @@ mod printed;
 mod same;
 
 use libc::STDIN_FILENO;
-use plan_write::WriteAnswer;
+use plan_writing::WriteAnswer;
 
 // Reading a file: its length in 4 bytes, then its first bytes; the others are zero.
 fn read_case(case: &[u8]) {
     let mut file = [0u8; 131072];
     given::copy(given::part(case, 4, case.len()), &mut file);
     let len = given::length(case);
-    let found = plan::read(given::part(&file, 0, len));
+    let found = plan_reading::read(given::part(&file, 0, len));
     let answer = found.answer;
     print::reading(answer);
 }
@@ -24,8 +24,8 @@ fn read_case(case: &[u8]) {
 fn name_case(case: &[u8]) {
     let resource = given::byte(case, 0);
     let file = given::part(case, 1, case.len());
-    let code = plan::name_refusal(file, resource);
-    let name = plan::name(file, resource);
+    let code = plan_reading::name_refusal(file, resource);
+    let name = plan_reading::name(file, resource);
     if code == 0 {
         print::text(name);
     } else if name.len() == 0 {
@@ -40,9 +40,9 @@ fn again(case: &[u8], file: &[u8]) -> bool {
     let counts = given::counts(case);
     let rows = given::rows(case);
     let mut first = [170u8; 2048];
-    let found = plan_write::read_back(counts, rows, given::names(case), &mut first);
+    let found = plan_writing::read_back(counts, rows, given::names(case), &mut first);
     let mut second = [170u8; 2048];
-    let copied = plan_write::copy(file, &mut second);
+    let copied = plan_writing::copy(file, &mut second);
     let read = found.rows;
     let answer = found.answer;
     same::counts(answer, counts)
@@ -55,7 +55,7 @@ fn again(case: &[u8], file: &[u8]) -> bool {
 // Writes the case's values into the front of the buffer, of which the case says how much is lent.
 fn write(case: &[u8], buf: &mut [u8]) -> WriteAnswer {
     let room = given::at_most(given::room(case), buf.len());
-    plan_write::write(
+    plan_writing::write(
         given::counts(case),
         given::rows(case),
         given::names(case),

@@ -1,7 +1,7 @@
 // The lines that are printed.
 use crate::given;
 use libc::STDOUT_FILENO;
-use plan::ReadAnswer;
+use plan_reading::ReadAnswer;
 
 pub fn text(s: &[u8]) {
     io::write_all(STDOUT_FILENO, s);
@@ -19,7 +19,7 @@ pub fn number(n: u64) {
 // With a minus where it is below zero.
 pub fn signed(z: i64) {
     let mut buf = [0u8; 21];
-    let end = text::put_signed(&mut buf, 0, z);
+    let end = print_text::put_signed(&mut buf, 0, z);
     text(b" ");
     text(given::part(&buf, 0, end));
 }

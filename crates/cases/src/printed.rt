@@ -4,9 +4,9 @@ use crate::called;
 use crate::given;
 use crate::print;
 use crate::same;
-use state::State;
-use transcript::Batch;
-use transcript::CallLine;
+use machine_state::State;
+use print_calls::Batch;
+use print_calls::CallLine;
 
 // Makes a call, with so many bytes of the buffer lent for its line.
 fn call(file: &[u8], state: State, room: usize, bytes: &[u8], buf: &mut [u8]) -> CallLine {
@@ -14,7 +14,7 @@ fn call(file: &[u8], state: State, room: usize, bytes: &[u8], buf: &mut [u8]) ->
     let letter = given::byte(bytes, 0);
     let tag = given::byte(bytes, 1);
     let resource = given::byte(bytes, 2);
-    transcript::call_line(file, state, letter, tag, resource, &mut buf[0..lent])
+    print_calls::call_line(file, state, letter, tag, resource, &mut buf[0..lent])
 }
 
 // The line of one call, or why there is none; whether what lies behind it is as it was, or all where there is none.
@@ -73,7 +73,7 @@ fn make(case: &[u8], state: State, buf: &mut [u8]) -> Batch {
     let rest = called::behind(case);
     let lent = given::at_most(given::size(given::word(rest, 336)), buf.len());
     let calls = given::part(rest, 338, rest.len());
-    transcript::lines(called::file(case), state, calls, &mut buf[0..lent])
+    print_calls::lines(called::file(case), state, calls, &mut buf[0..lent])
 }
 
 // What came of many calls: how many of their bytes were made, how long the lines are, whether what lies behind them is as it was, and

@@ -1,13 +1,13 @@
 // Whether what came out is what was to come.
-use plan::ReadAnswer;
-use plan_write::WriteAnswer;
-use rows::Counts;
-use rows::Rows;
-use rows::SectionRow;
-use rows::TaskRow;
-use state::Line;
-use state::Standing;
-use state::State;
+use machine_state::Line;
+use machine_state::Standing;
+use machine_state::State;
+use plan_reading::ReadAnswer;
+use plan_rules::Counts;
+use plan_rules::Rows;
+use plan_rules::SectionRow;
+use plan_rules::TaskRow;
+use plan_writing::WriteAnswer;
 
 pub fn bytes(a: &[u8], b: &[u8]) -> bool {
     if a.len() != b.len() {

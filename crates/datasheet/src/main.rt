@@ -5,7 +5,7 @@ use libc::STDOUT_FILENO;
 // "refused N".
 fn print_refused(number: u8) {
     let mut out = [0u8; 96];
-    let line = wording::refused_line(number, &mut out);
+    let line = print_lines::refused_line(number, &mut out);
     let end = line.length;
     io::write_all(STDOUT_FILENO, &out[0..end]);
 }
@@ -14,7 +14,7 @@ fn main() {
     let mut buf = io::large_buffer();
     let end = input::read_plan(&mut buf);
     let mut out = [0u8; 131072];
-    let line = sheet::sheet(&buf[0..end], &mut out);
+    let line = print_sheet::sheet(&buf[0..end], &mut out);
     if line.refusal != 0 {
         print_refused(line.refusal);
         return;

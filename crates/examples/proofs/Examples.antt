@@ -4,13 +4,13 @@ use mathlib.Core.Path.{_≡_, refl}
 use Rattle.folds.specs.Below.{anyBelow, countBelow, listBelow, sumBelow, maxBelow, findBelow}
 use Rattle.folds.specs.Words.{wordBelow}
 use Rattle.folds.specs.Signed.{greatestTo}
-use Rattle.equations.specs.Sharing.{uses, usedOn, global}
-use Rattle.equations.specs.HoldTimes.{longestOn, longestOff, interference, holdTime, holdAt, budget, waitTime}
-use Rattle.equations.specs.Blocking.{globalCount, countOn, ceiling, longestLocal, blocking1, longestGlobal, blocking2, fellowHolds, waitingOn, waitingSide}
-use Rattle.equations.specs.Requirement.{demand, left, tolerance, slack, met}
-use Rattle.equations.specs.Questions.{taskNumber, useCode, sharingCode}
-use Rattle.protocol.specs.Machine.{busy, requestCode, releaseCode, step, answer}
-use Rattle.protocol.specs.Longest.{fellows, longestWait}
+use Rattle.analysis_equations.specs.Sharing.{uses, usedOn, global}
+use Rattle.analysis_equations.specs.HoldTimes.{longestOn, longestOff, interference, holdTime, holdAt, budget, waitTime}
+use Rattle.analysis_equations.specs.Blocking.{globalCount, countOn, ceiling, longestLocal, blocking1, longestGlobal, blocking2, fellowHolds, waitingOn, waitingSide}
+use Rattle.analysis_equations.specs.Requirement.{demand, left, tolerance, slack, met}
+use Rattle.analysis_equations.specs.Questions.{taskNumber, useCode, sharingCode}
+use Rattle.machine_rules.specs.Machine.{busy, requestCode, releaseCode, step, answer}
+use Rattle.machine_rules.specs.Longest.{fellows, longestWait}
 use Rattle.examples.specs.Table.{allHold, table, c1, c2, c3, c4, c5, c6, longest, listing}
 
 pub examples-hold : allHold table ≡ true

@@ -3,12 +3,12 @@
 use Prim.Native.Nat.{ℕ}
 use mathlib.Core.List.{List, [], _∷_, _++_}
 use lib.ListN.{getD, length}
-use Rattle.rows.specs.Rules.{noTask, noSection}
-use Rattle.rows.specs.declared.TaskRow.{TaskRow}
-use Rattle.rows.specs.declared.SectionRow.{SectionRow}
-use Rattle.plan.specs.Plan.{Plan}
-use Rattle.protocol.specs.declared.Call.{Call}
-use Rattle.protocol.specs.declared.Call.the-variants.{Request, Release, Tick}
+use Rattle.plan_rules.specs.Rules.{noTask, noSection}
+use Rattle.plan_rules.specs.declared.TaskRow.{TaskRow}
+use Rattle.plan_rules.specs.declared.SectionRow.{SectionRow}
+use Rattle.plan_reading.specs.Plan.{Plan}
+use Rattle.machine_rules.specs.declared.Call.{Call}
+use Rattle.machine_rules.specs.declared.Call.the-variants.{Request, Release, Tick}
 
 -- a task of a processor, with its tag, priority, T and C
 abbrev pub taskRow : ℕ → ℕ → ℕ → ℕ → ℕ → TaskRow

@@ -5,18 +5,18 @@ use mathlib.Core.Bool.{Bool, true, false, _&&_, cond}
 use mathlib.Core.List.{List, [], _∷_, _++_}
 use lib.IntN.{ℤ, pos}
 use lib.Signed.{leZ}
-use Rattle.equations.specs.HoldTimes.{holdTime, budget, waitTime}
-use Rattle.equations.specs.Blocking.{blocking2, waitingOn, waitingSide}
-use Rattle.equations.specs.Requirement.{tolerance, slack, met}
-use Rattle.line.specs.Rules.{queued, isHead}
-use Rattle.line.specs.Rules as Rules
-use Rattle.protocol.specs.declared.Call.{Call}
-use Rattle.protocol.specs.declared.Call.the-variants.{Request, Release, Tick}
-use Rattle.protocol.specs.declared.Answer.{Answer}
-use Rattle.protocol.specs.declared.Answer.the-variants.{Granted, Waits, Next, Free, Ticked, Refused}
-use Rattle.protocol.specs.Machine.{View, fresh, step, answer, answerTold, run}
-use Rattle.protocol.specs.Longest.{longestWait}
-use Rattle.plan.specs.Plan.{Plan}
+use Rattle.analysis_equations.specs.HoldTimes.{holdTime, budget, waitTime}
+use Rattle.analysis_equations.specs.Blocking.{blocking2, waitingOn, waitingSide}
+use Rattle.analysis_equations.specs.Requirement.{tolerance, slack, met}
+use Rattle.queue_rules.specs.Rules.{queued, isHead}
+use Rattle.queue_rules.specs.Rules as Rules
+use Rattle.machine_rules.specs.declared.Call.{Call}
+use Rattle.machine_rules.specs.declared.Call.the-variants.{Request, Release, Tick}
+use Rattle.machine_rules.specs.declared.Answer.{Answer}
+use Rattle.machine_rules.specs.declared.Answer.the-variants.{Granted, Waits, Next, Free, Ticked, Refused}
+use Rattle.machine_rules.specs.Machine.{View, fresh, step, answer, answerTold, run}
+use Rattle.machine_rules.specs.Longest.{longestWait}
+use Rattle.plan_reading.specs.Plan.{Plan}
 use Rattle.examples.specs.Paper.{paper, toThree, toEleven, equal, toLast, bus, seven}
 
 -- a row: what the definitions give, and what document 01 says, both as integers

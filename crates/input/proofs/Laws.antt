@@ -10,8 +10,8 @@ use lib.Dec.{ltb}
 use lib.ListN.{length, getD, take, drop}
 use lib.Seq.{length-take-le, getD-take, take-at}
 use Rattle.folds.specs.Bytes.{number}
-use Rattle.plan.specs.Reading.{planLength}
-use Rattle.text.specs.Text.{Put}
+use Rattle.plan_reading.specs.Reading.{planLength}
+use Rattle.print_text.specs.Text.{Put}
 use Rattle.input.specs.Input.{Came}
 
 -- the length that a plan tells stands in its first 16 bytes

@@ -3,7 +3,7 @@ use libc::STDIN_FILENO;
 ghost use Prim.Native.Nat.{_≤_};
 ghost use mathlib.Core.Path.{_≡_};
 ghost use lib.ListN.{length, take};
-ghost use Rattle.plan.specs.Reading.{planLength};
+ghost use Rattle.plan_reading.specs.Reading.{planLength};
 ghost use Rattle.input.specs.Input.{Came};
 
 // Reads a plan to the front of the buffer: as many bytes as its header says, or as many as there are. What lies behind them in the
@@ -16,7 +16,7 @@ fn read_whole(buf: &mut [u8]) -> usize
     if head < 16 {
         return head;
     }
-    let end = plan::plan_length(buf);
+    let end = plan_reading::plan_length(buf);
     if end <= 16 {
         return end;
     }
@@ -30,5 +30,5 @@ pub fn read_plan(buf: &mut [u8]) -> usize
 {
     let mut own = io::large_buffer();
     let end = read_whole(&mut own);
-    text::put(buf, 0, &own[0..end])
+    print_text::put(buf, 0, &own[0..end])
 }

@@ -1,20 +1,20 @@
 -- The definitions give document 01's listing byte for byte, by computing.
 use mathlib.Core.List.{_++_}
 use mathlib.Core.Path.{_≡_, refl}
-use Rattle.rows.specs.Rules.{tagNew, priorityNew, uniqueOk, lengthsOk, bytesOk, sameBytes, differ, nameNew, namesDiffer, namesOk, sectionSum, sumsOk}
-use Rattle.parts.specs.Layout.{taskAt, taskSpare, startAt, lengthAt, resourceSpare, sectionAt, taskRows, lengthRows, sectionRows, taskRowsOk, lengthRowsOk, sectionRowsOk, taskCode, sumsFit, sectionCode, restCode, partsCode}
-use Rattle.plan.specs.Plan.{planOf}
-use Rattle.plan.specs.Reading.{headerCode, refusal, namePart, planLength}
-use Rattle.equations.specs.HoldTimes.{longestOn, longestOff, interference, holdTime, holdAt, budget, waitTime}
-use Rattle.equations.specs.Questions.{taskNumber, sharingCode, useCode, processorCode, requirementCode}
-use Rattle.equations.specs.Sharing.{uses, usedOn, global}
-use Rattle.protocol.specs.Machine.{busy, requestCode, releaseCode, step, answer}
+use Rattle.plan_rules.specs.Rules.{tagNew, priorityNew, uniqueOk, lengthsOk, bytesOk, sameBytes, differ, nameNew, namesDiffer, namesOk, sectionSum, sumsOk}
+use Rattle.plan_layout.specs.Layout.{taskAt, taskSpare, startAt, lengthAt, resourceSpare, sectionAt, taskRows, lengthRows, sectionRows, taskRowsOk, lengthRowsOk, sectionRowsOk, taskCode, sumsFit, sectionCode, restCode, partsCode}
+use Rattle.plan_reading.specs.Plan.{planOf}
+use Rattle.plan_reading.specs.Reading.{headerCode, refusal, namePart, planLength}
+use Rattle.analysis_equations.specs.HoldTimes.{longestOn, longestOff, interference, holdTime, holdAt, budget, waitTime}
+use Rattle.analysis_equations.specs.Questions.{taskNumber, sharingCode, useCode, processorCode, requirementCode}
+use Rattle.analysis_equations.specs.Sharing.{uses, usedOn, global}
+use Rattle.machine_rules.specs.Machine.{busy, requestCode, releaseCode, step, answer}
 use Rattle.folds.specs.Below.{allBelow, anyBelow, sumBelow, maxBelow, countBelow, findBelow}
 use Rattle.folds.specs.Bytes.{number, width, fields, rowAt, placedBelow}
 use Rattle.folds.specs.Words.{wordBelow}
-use Rattle.text.specs.Text.{placesTo, digits}
+use Rattle.print_text.specs.Text.{placesTo, digits}
 use Rattle.machine.specs.Promise.{callOf, callsBelow}
-use Rattle.transcript.specs.Output.{linesBelow, endLine, callsOutput, fileOutput, output}
+use Rattle.print_calls.specs.Output.{linesBelow, endLine, callsOutput, fileOutput, output}
 use Rattle.listing.specs.Listing.{listingPlan, listingCalls, listingText}
 
 pub listing-printed : output (listingPlan ++ listingCalls) ≡ listingText

@@ -7,23 +7,23 @@ use native.Mathlib.Omega.{arith}
 use borrow.Author.Tests.{eq-eqb}
 use lib.ListN.{getD}
 use Rattle.folds.proofs.Tests.{held, failed}
-use Rattle.plan.specs.Reading.{refusal}
-use Rattle.plan.specs.Plan.{Plan, planOf, Checked, Valid}
-use Rattle.plan.proofs.Laws.{valid-plan}
-use Rattle.equations.specs.HoldTimes.{holdAt}
-use Rattle.holds.specs.Holds.{Cells, Shares}
+use Rattle.plan_reading.specs.Reading.{refusal}
+use Rattle.plan_reading.specs.Plan.{Plan, planOf, Checked, Valid}
+use Rattle.plan_reading.proofs.Laws.{valid-plan}
+use Rattle.analysis_equations.specs.HoldTimes.{holdAt}
+use Rattle.analysis_hold_times.specs.Holds.{Cells, Shares}
 use Rattle.folds.proofs.Searches.{on-le}
-use Rattle.protocol.specs.declared.Call.{Call}
-use Rattle.protocol.specs.declared.Answer.the-variants.{Refused}
-use Rattle.protocol.specs.Machine.{callCode, answer}
-use Rattle.state.specs.declared.Standing.{Standing}
-use Rattle.state.specs.declared.State.{State}
-use Rattle.state.specs.Shows.{shows}
-use Rattle.state.specs.Sound.{sound}
-use Rattle.state.specs.Seats.{Keys, Seats}
-use Rattle.state.specs.Tests.{stateTest}
-use Rattle.state.proofs.Tables.{seat-high}
-use Rattle.state.proofs.SoundTest.{sound-test}
+use Rattle.machine_rules.specs.declared.Call.{Call}
+use Rattle.machine_rules.specs.declared.Answer.the-variants.{Refused}
+use Rattle.machine_rules.specs.Machine.{callCode, answer}
+use Rattle.machine_state.specs.declared.Standing.{Standing}
+use Rattle.machine_state.specs.declared.State.{State}
+use Rattle.machine_state.specs.Shows.{shows}
+use Rattle.machine_state.specs.Sound.{sound}
+use Rattle.machine_state.specs.Seats.{Keys, Seats}
+use Rattle.machine_state.specs.Tests.{stateTest}
+use Rattle.machine_state.proofs.Tables.{seat-high}
+use Rattle.machine_state.proofs.SoundTest.{sound-test}
 use Rattle.machine.specs.declared.Reply.{Reply}
 use Rattle.machine.specs.Replies.{callRefusal, reply, Next}
 use Rattle.machine.specs.Inner.{Done}

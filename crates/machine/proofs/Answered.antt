@@ -9,19 +9,19 @@ use Rattle.folds.specs.Below.{countBelow}
 use Rattle.folds.proofs.Tests.{first-zero}
 use Rattle.folds.proofs.WordLaws.{word-ones}
 use Rattle.folds.proofs.Arrays.{by-eq}
-use Rattle.plan.specs.Reading.{refusal}
-use Rattle.plan.specs.Plan.{Plan, planOf}
-use Rattle.equations.specs.Questions.{taskNumber}
-use Rattle.line.specs.Rules as Rules
-use Rattle.line.specs.Rules.{line, turn, cut, released}
-use Rattle.protocol.specs.declared.Call.{Call}
-use Rattle.protocol.specs.declared.Call.the-variants.{Request, Release, Tick}
-use Rattle.protocol.specs.declared.Answer.{Answer}
-use Rattle.protocol.specs.declared.Answer.the-variants.{Refused}
-use Rattle.protocol.specs.Machine.{View, terms, callCode, requestTold, releaseTold, told, answerTold}
-use Rattle.state.specs.declared.State.{State}
-use Rattle.state.specs.Shows.{shows}
-use Rattle.state.specs.Sound.{sound}
+use Rattle.plan_reading.specs.Reading.{refusal}
+use Rattle.plan_reading.specs.Plan.{Plan, planOf}
+use Rattle.analysis_equations.specs.Questions.{taskNumber}
+use Rattle.queue_rules.specs.Rules as Rules
+use Rattle.queue_rules.specs.Rules.{line, turn, cut, released}
+use Rattle.machine_rules.specs.declared.Call.{Call}
+use Rattle.machine_rules.specs.declared.Call.the-variants.{Request, Release, Tick}
+use Rattle.machine_rules.specs.declared.Answer.{Answer}
+use Rattle.machine_rules.specs.declared.Answer.the-variants.{Refused}
+use Rattle.machine_rules.specs.Machine.{View, terms, callCode, requestTold, releaseTold, told, answerTold}
+use Rattle.machine_state.specs.declared.State.{State}
+use Rattle.machine_state.specs.Shows.{shows}
+use Rattle.machine_state.specs.Sound.{sound}
 use Rattle.machine.specs.Replies.{stateRefusal, callRefusal, reply, replyTold, Next, cutCount}
 use Rattle.machine.specs.Inner.{cutsIn}
 

@@ -11,26 +11,26 @@ use lib.Dec.{eqb, ltb}
 use lib.ListN.{length, getD}
 use Rattle.folds.proofs.Tests.{and-parts, code-zero, code-next}
 use Rattle.folds.proofs.Arrays.{by-eq}
-use Rattle.plan.specs.Plan.{Plan, Valid}
-use Rattle.equations.specs.Sharing.{processorOf, uses, global}
-use Rattle.equations.specs.HoldTimes.{holdAt, waitTime}
-use Rattle.equations.specs.Questions.{taskNumber, sharingCode, useCode}
-use Rattle.equations.proofs.Laws.{hold-low}
-use Rattle.protocol.specs.declared.Answer.{Answer}
-use Rattle.protocol.specs.declared.Answer.the-variants.{Granted, Waits}
-use Rattle.protocol.specs.declared.Call.the-variants.{Request}
-use Rattle.protocol.specs.Machine.{View, busy, requestCode, requestTold, answer, step}
-use Rattle.holds.specs.Holds.{cell, Cells, share, Shares}
-use Rattle.state.specs.declared.State.{State}
-use Rattle.state.specs.Shows.{standing, lineAt, shows, noneInLine}
-use Rattle.state.specs.Sound.{sound}
-use Rattle.state.specs.Seats.{Seats}
-use Rattle.state.proofs.Tables.{low-processor}
-use Rattle.state.proofs.Good.{Whole}
-use Rattle.state.proofs.Wholes.{hold-user, hold-resource, whole-of, sound-of}
-use Rattle.steps.specs.Steps.{joined, taken, takenHolds}
-use Rattle.steps.proofs.Joins.{aheadOf, entering, join-room, joined-whole, joined-shows}
-use Rattle.steps.proofs.Asking.{taken-is, request-granted, request-waits, busy-is}
+use Rattle.plan_reading.specs.Plan.{Plan, Valid}
+use Rattle.analysis_equations.specs.Sharing.{processorOf, uses, global}
+use Rattle.analysis_equations.specs.HoldTimes.{holdAt, waitTime}
+use Rattle.analysis_equations.specs.Questions.{taskNumber, sharingCode, useCode}
+use Rattle.analysis_equations.proofs.Laws.{hold-low}
+use Rattle.machine_rules.specs.declared.Answer.{Answer}
+use Rattle.machine_rules.specs.declared.Answer.the-variants.{Granted, Waits}
+use Rattle.machine_rules.specs.declared.Call.the-variants.{Request}
+use Rattle.machine_rules.specs.Machine.{View, busy, requestCode, requestTold, answer, step}
+use Rattle.analysis_hold_times.specs.Holds.{cell, Cells, share, Shares}
+use Rattle.machine_state.specs.declared.State.{State}
+use Rattle.machine_state.specs.Shows.{standing, lineAt, shows, noneInLine}
+use Rattle.machine_state.specs.Sound.{sound}
+use Rattle.machine_state.specs.Seats.{Seats}
+use Rattle.machine_state.proofs.Tables.{low-processor}
+use Rattle.machine_state.proofs.Good.{Whole}
+use Rattle.machine_state.proofs.Wholes.{hold-user, hold-resource, whole-of, sound-of}
+use Rattle.machine_steps.specs.Steps.{joined, taken, takenHolds}
+use Rattle.machine_steps.proofs.Joins.{aheadOf, entering, join-room, joined-whole, joined-shows}
+use Rattle.machine_steps.proofs.Asking.{taken-is, request-granted, request-waits, busy-is}
 use Rattle.machine.specs.Inner.{refusedAt, Done}
 
 -- ── the number ──

@@ -3,17 +3,17 @@ use Prim.Native.Nat.{ℕ, _<_, _≤_}
 use mathlib.Core.Bool.{true}
 use mathlib.Core.List.{List}
 use mathlib.Core.Path.{_≡_, refl, ap₂, _∙_}
-use Rattle.plan.specs.Plan.{Plan, Valid}
-use Rattle.protocol.specs.declared.Answer.the-variants.{Ticked}
-use Rattle.protocol.specs.declared.Call.the-variants.{Tick}
-use Rattle.protocol.specs.Machine.{answer, step}
-use Rattle.state.specs.declared.State.{State}
-use Rattle.state.specs.Shows.{lineAt, shows}
-use Rattle.state.specs.Sound.{sound}
-use Rattle.state.proofs.Wholes.{whole-of, sound-of}
-use Rattle.steps.specs.Steps.{Sized, Running, ticked, cutWord, grantWord}
-use Rattle.steps.proofs.Ready.{Tabled, sized, running}
-use Rattle.steps.proofs.Ticks.{ticked-whole, ticked-shows, cut-word, grant-word}
+use Rattle.plan_reading.specs.Plan.{Plan, Valid}
+use Rattle.machine_rules.specs.declared.Answer.the-variants.{Ticked}
+use Rattle.machine_rules.specs.declared.Call.the-variants.{Tick}
+use Rattle.machine_rules.specs.Machine.{answer, step}
+use Rattle.machine_state.specs.declared.State.{State}
+use Rattle.machine_state.specs.Shows.{lineAt, shows}
+use Rattle.machine_state.specs.Sound.{sound}
+use Rattle.machine_state.proofs.Wholes.{whole-of, sound-of}
+use Rattle.machine_steps.specs.Steps.{Sized, Running, ticked, cutWord, grantWord}
+use Rattle.machine_steps.proofs.Ready.{Tabled, sized, running}
+use Rattle.machine_steps.proofs.Ticks.{ticked-whole, ticked-shows, cut-word, grant-word}
 use Rattle.machine.specs.Inner.{Done}
 
 module _ (p : Plan) (v : Valid p) (s : State) (h : sound p s ≡ true) {holds budgets keys seats : List ℕ}

@@ -7,9 +7,9 @@ use native.Mathlib.Numerals.{add-one}
 use borrow.Author.Tests.{ne-eqb, not-true, not-false}
 use lib.Dec.{eqb}
 use lib.ListN.{length, getD}
-use Rattle.protocol.specs.declared.Call.{Call}
-use Rattle.protocol.specs.declared.Call.the-variants.{Request, Release, Tick}
-use Rattle.state.specs.declared.State.{State}
+use Rattle.machine_rules.specs.declared.Call.{Call}
+use Rattle.machine_rules.specs.declared.Call.the-variants.{Request, Release, Tick}
+use Rattle.machine_state.specs.declared.State.{State}
 use Rattle.machine.specs.declared.Decoded.{Decoded}
 use Rattle.machine.specs.Replies.{Next}
 use Rattle.machine.specs.Promise.{Returned, called, callOf, decodedCalls, AfterBytes, callsBelow, callsOf}

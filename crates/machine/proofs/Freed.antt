@@ -10,26 +10,26 @@ use lib.Dec.{eqb, ltb}
 use lib.ListN.{getD}
 use mir.Val.{boolByte}
 use Rattle.folds.proofs.Tests.{code-zero, code-next}
-use Rattle.rows.specs.declared.TaskRow.{TaskRow}
-use Rattle.plan.specs.Plan.{Plan, Valid}
-use Rattle.equations.specs.Questions.{taskNumber}
-use Rattle.line.specs.Rules.{holds}
-use Rattle.protocol.specs.declared.Answer.{Answer}
-use Rattle.protocol.specs.declared.Answer.the-variants.{Next}
-use Rattle.protocol.specs.declared.Call.the-variants.{Release}
-use Rattle.protocol.specs.Machine.{View, releaseCode, answer, step}
+use Rattle.plan_rules.specs.declared.TaskRow.{TaskRow}
+use Rattle.plan_reading.specs.Plan.{Plan, Valid}
+use Rattle.analysis_equations.specs.Questions.{taskNumber}
+use Rattle.queue_rules.specs.Rules.{holds}
+use Rattle.machine_rules.specs.declared.Answer.{Answer}
+use Rattle.machine_rules.specs.declared.Answer.the-variants.{Next}
+use Rattle.machine_rules.specs.declared.Call.the-variants.{Release}
+use Rattle.machine_rules.specs.Machine.{View, releaseCode, answer, step}
 use Rattle.folds.proofs.Searches.{on-eq}
-use Rattle.state.specs.declared.Line.{Line}
-use Rattle.state.specs.declared.State.{State}
-use Rattle.state.specs.Shows.{lineAt, slot, shows}
-use Rattle.state.specs.Sound.{sound}
-use Rattle.state.specs.Seats.{seat, Seats}
-use Rattle.state.proofs.Good.{Whole}
-use Rattle.state.proofs.Wholes.{whole-of, sound-of}
-use Rattle.steps.specs.Steps.{Sized, Ready, left}
-use Rattle.steps.proofs.Passing.{flag, seat-read}
-use Rattle.steps.proofs.Ready.{Tabled, sized, ready}
-use Rattle.steps.proofs.Leaving.{head-low, holder-none, holder-seat, left-whole, left-shows, next-seat, next-told}
+use Rattle.machine_state.specs.declared.Line.{Line}
+use Rattle.machine_state.specs.declared.State.{State}
+use Rattle.machine_state.specs.Shows.{lineAt, slot, shows}
+use Rattle.machine_state.specs.Sound.{sound}
+use Rattle.machine_state.specs.Seats.{seat, Seats}
+use Rattle.machine_state.proofs.Good.{Whole}
+use Rattle.machine_state.proofs.Wholes.{whole-of, sound-of}
+use Rattle.machine_steps.specs.Steps.{Sized, Ready, left}
+use Rattle.machine_steps.proofs.Passing.{flag, seat-read}
+use Rattle.machine_steps.proofs.Ready.{Tabled, sized, ready}
+use Rattle.machine_steps.proofs.Leaving.{head-low, holder-none, holder-seat, left-whole, left-shows, next-seat, next-told}
 use Rattle.machine.specs.Inner.{refusedAt, Done, firstSeat, NewHead, grantedTold}
 
 -- ── the number, test by test ──

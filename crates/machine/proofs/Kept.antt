@@ -6,23 +6,23 @@ use mathlib.Core.Path.{_≡_, refl, sym, ap, _∙_}
 use borrow.Author.Tests.{ne-eqb, eq-eqb}
 use lib.ListN.{length, getD}
 use Rattle.folds.proofs.Arrays.{by-eq}
-use Rattle.plan.specs.Reading.{refusal}
-use Rattle.plan.specs.Plan.{Plan, planOf, Checked, Valid}
-use Rattle.plan.proofs.Laws.{valid-plan, tags-differ}
-use Rattle.protocol.specs.declared.Call.{Call}
-use Rattle.protocol.specs.declared.Call.the-variants.{Request}
-use Rattle.protocol.specs.Machine.{View, fresh, callCode, step, answer, after, run}
-use Rattle.protocol.proofs.OnceLines.{Orderly, orderly-fresh}
-use Rattle.protocol.proofs.Since.{after-last, each-since}
-use Rattle.protocol.proofs.Promise.{all-served}
-use Rattle.protocol.proofs.Longest.{waits-asked, never-more, never-longer}
-use Rattle.protocol.proofs.Reached.{each-reached}
-use Rattle.state.specs.declared.State.{State}
-use Rattle.state.specs.Shows.{freshState, shows}
-use Rattle.state.specs.Sound.{sound}
-use Rattle.state.proofs.FreshLaws.{fresh-sound, fresh-shows}
-use Rattle.state.proofs.Shown.{shown-orderly}
-use Rattle.state.proofs.One.{Shaped, one-state}
+use Rattle.plan_reading.specs.Reading.{refusal}
+use Rattle.plan_reading.specs.Plan.{Plan, planOf, Checked, Valid}
+use Rattle.plan_reading.proofs.Laws.{valid-plan, tags-differ}
+use Rattle.machine_rules.specs.declared.Call.{Call}
+use Rattle.machine_rules.specs.declared.Call.the-variants.{Request}
+use Rattle.machine_rules.specs.Machine.{View, fresh, callCode, step, answer, after, run}
+use Rattle.machine_rules.proofs.OnceLines.{Orderly, orderly-fresh}
+use Rattle.machine_rules.proofs.Since.{after-last, each-since}
+use Rattle.machine_rules.proofs.Promise.{all-served}
+use Rattle.machine_rules.proofs.Longest.{waits-asked, never-more, never-longer}
+use Rattle.machine_rules.proofs.Reached.{each-reached}
+use Rattle.machine_state.specs.declared.State.{State}
+use Rattle.machine_state.specs.Shows.{freshState, shows}
+use Rattle.machine_state.specs.Sound.{sound}
+use Rattle.machine_state.proofs.FreshLaws.{fresh-sound, fresh-shows}
+use Rattle.machine_state.proofs.Shown.{shown-orderly}
+use Rattle.machine_state.proofs.One.{Shaped, one-state}
 use Rattle.machine.specs.Replies.{stateRefusal, callRefusal, reply, Next}
 use Rattle.machine.specs.Promise.{Returned, started, called, Promise, Demand3, Start, FromSound, Ran, FreshRan, LongestWait}
 use Rattle.machine.proofs.Answered.{state-refusal, state-accepted, plan-refused}

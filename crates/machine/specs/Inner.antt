@@ -7,19 +7,19 @@ use mathlib.Core.Path.{_≡_}
 use lib.Count.{ones}
 use lib.Dec.{eqb}
 use lib.ListN.{getD}
-use Rattle.plan.specs.Reading.{refusal}
-use Rattle.plan.specs.Plan.{Plan, planOf}
-use Rattle.equations.specs.HoldTimes.{holdAt}
-use Rattle.holds.specs.Holds.{Cells, Shares}
-use Rattle.protocol.specs.declared.Call.{Call}
-use Rattle.protocol.specs.declared.Answer.{Answer}
-use Rattle.protocol.specs.declared.Answer.the-variants.{Granted, Waits, Next, Free, Ticked, Refused}
-use Rattle.protocol.specs.Machine.{callCode, answer, step}
-use Rattle.state.specs.declared.Line.{Line}
-use Rattle.state.specs.declared.State.{State}
-use Rattle.state.specs.Shows.{shows, slot}
-use Rattle.state.specs.Sound.{sound}
-use Rattle.state.specs.Seats.{seat}
+use Rattle.plan_reading.specs.Reading.{refusal}
+use Rattle.plan_reading.specs.Plan.{Plan, planOf}
+use Rattle.analysis_equations.specs.HoldTimes.{holdAt}
+use Rattle.analysis_hold_times.specs.Holds.{Cells, Shares}
+use Rattle.machine_rules.specs.declared.Call.{Call}
+use Rattle.machine_rules.specs.declared.Answer.{Answer}
+use Rattle.machine_rules.specs.declared.Answer.the-variants.{Granted, Waits, Next, Free, Ticked, Refused}
+use Rattle.machine_rules.specs.Machine.{callCode, answer, step}
+use Rattle.machine_state.specs.declared.Line.{Line}
+use Rattle.machine_state.specs.declared.State.{State}
+use Rattle.machine_state.specs.Shows.{shows, slot}
+use Rattle.machine_state.specs.Sound.{sound}
+use Rattle.machine_state.specs.Seats.{seat}
 use Rattle.machine.specs.declared.Reply.{Reply}
 
 -- what is known of a plan file once it has been looked at: its refusal, and of one that is accepted its hold times and budgets

@@ -7,18 +7,18 @@ use mathlib.Core.Logic.{_≢_}
 use mathlib.Core.Path.{_≡_}
 use lib.Dec.{eqb}
 use lib.ListN.{length, getD}
-use Rattle.plan.specs.Reading.{refusal}
-use Rattle.plan.specs.Plan.{planOf, Checked}
-use Rattle.equations.specs.Questions.{taskNumber, useCode}
-use Rattle.protocol.specs.declared.Call.{Call}
-use Rattle.protocol.specs.declared.Call.the-variants.{Request, Release, Tick}
-use Rattle.protocol.specs.declared.Answer.the-variants.{Waits}
-use Rattle.protocol.specs.Machine.{View, fresh, answer, after, run}
-use Rattle.protocol.specs.Waiting.{Served, EachSince}
-use Rattle.protocol.specs.Longest.{longestWait, NeverLonger, EachReached}
-use Rattle.state.specs.declared.State.{State}
-use Rattle.state.specs.Shows.{freshState, shows}
-use Rattle.state.specs.Sound.{sound}
+use Rattle.plan_reading.specs.Reading.{refusal}
+use Rattle.plan_reading.specs.Plan.{planOf, Checked}
+use Rattle.analysis_equations.specs.Questions.{taskNumber, useCode}
+use Rattle.machine_rules.specs.declared.Call.{Call}
+use Rattle.machine_rules.specs.declared.Call.the-variants.{Request, Release, Tick}
+use Rattle.machine_rules.specs.declared.Answer.the-variants.{Waits}
+use Rattle.machine_rules.specs.Machine.{View, fresh, answer, after, run}
+use Rattle.machine_rules.specs.Waiting.{Served, EachSince}
+use Rattle.machine_rules.specs.Longest.{longestWait, NeverLonger, EachReached}
+use Rattle.machine_state.specs.declared.State.{State}
+use Rattle.machine_state.specs.Shows.{freshState, shows}
+use Rattle.machine_state.specs.Sound.{sound}
 use Rattle.machine.specs.declared.Decoded.{Decoded}
 use Rattle.machine.specs.Replies.{stateRefusal, reply, Next}
 

@@ -7,17 +7,17 @@ use mathlib.Core.Logic.{_≢_}
 use mathlib.Core.Path.{_≡_}
 use lib.Dec.{eqb}
 use Rattle.folds.specs.Below.{countBelow}
-use Rattle.plan.specs.Reading.{refusal, Told, answered}
-use Rattle.plan.specs.Plan.{planOf}
-use Rattle.line.specs.Rules.{cut}
-use Rattle.protocol.specs.declared.Call.{Call}
-use Rattle.protocol.specs.declared.Call.the-variants.{Tick}
-use Rattle.protocol.specs.declared.Answer.{Answer}
-use Rattle.protocol.specs.declared.Answer.the-variants.{Refused}
-use Rattle.protocol.specs.Machine.{callCode, step, told, answerTold}
-use Rattle.state.specs.declared.State.{State}
-use Rattle.state.specs.Shows.{shows}
-use Rattle.state.specs.Sound.{sound}
+use Rattle.plan_reading.specs.Reading.{refusal, Told, answered}
+use Rattle.plan_reading.specs.Plan.{planOf}
+use Rattle.queue_rules.specs.Rules.{cut}
+use Rattle.machine_rules.specs.declared.Call.{Call}
+use Rattle.machine_rules.specs.declared.Call.the-variants.{Tick}
+use Rattle.machine_rules.specs.declared.Answer.{Answer}
+use Rattle.machine_rules.specs.declared.Answer.the-variants.{Refused}
+use Rattle.machine_rules.specs.Machine.{callCode, step, told, answerTold}
+use Rattle.machine_state.specs.declared.State.{State}
+use Rattle.machine_state.specs.Shows.{shows}
+use Rattle.machine_state.specs.Sound.{sound}
 
 -- "Each operation given a plan file first gives 1 to 9 as reading does; each call given a state then gives 19 if that state is not
 -- sound"; 0 for neither

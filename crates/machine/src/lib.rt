@@ -1,22 +1,22 @@
 // The machine: start, request, release and tick, each on a plan file and a state by value. Each takes any bytes and any state, and
 // refuses by number what it does not accept.
-use protocol::Answer;
-use protocol::Call;
-use state::Line;
-use state::State;
+use machine_rules::Answer;
+use machine_rules::Call;
+use machine_state::Line;
+use machine_state::State;
 ghost use mathlib.Core.Path.{_≡_};
 ghost use mathlib.Core.Bool.{true};
 ghost use Prim.Native.Nat.{_+_, _*_, _≤_, _<_};
 ghost use lib.ListN.{length};
-ghost use Rattle.plan.specs.Reading.{refusal};
-ghost use Rattle.plan.specs.Plan.{planOf, Checked};
-ghost use Rattle.equations.specs.HoldTimes.{holdAt};
-ghost use Rattle.holds.specs.Holds.{Cells, Shares};
-ghost use Rattle.protocol.specs.declared.Call.the-variants.{Request, Release, Tick};
-ghost use Rattle.protocol.specs.Machine.{requestCode, releaseCode, answerTold, fresh};
-ghost use Rattle.state.specs.Shows.{freshState, shows};
-ghost use Rattle.state.specs.Sound.{sound};
-ghost use Rattle.state.specs.Seats.{Keys, Seats};
+ghost use Rattle.plan_reading.specs.Reading.{refusal};
+ghost use Rattle.plan_reading.specs.Plan.{planOf, Checked};
+ghost use Rattle.analysis_equations.specs.HoldTimes.{holdAt};
+ghost use Rattle.analysis_hold_times.specs.Holds.{Cells, Shares};
+ghost use Rattle.machine_rules.specs.declared.Call.the-variants.{Request, Release, Tick};
+ghost use Rattle.machine_rules.specs.Machine.{requestCode, releaseCode, answerTold, fresh};
+ghost use Rattle.machine_state.specs.Shows.{freshState, shows};
+ghost use Rattle.machine_state.specs.Sound.{sound};
+ghost use Rattle.machine_state.specs.Seats.{Keys, Seats};
 ghost use Rattle.machine.specs.Replies.{reply, replyTold, Next, cutCount};
 ghost use Rattle.machine.specs.Inner.{refusedAt, Done, NewHead, grantedTold, cutsIn};
 ghost use Rattle.machine.specs.Promise.{Ran, FreshRan, callOf, callsOf, decodedCalls, AfterBytes};
@@ -54,8 +54,8 @@ pub fn start(file: &[u8]) -> Started
     ensures { λ r. ⌜ (refusal (now (file .entry)) ≡ 0 → sound (planOf (now (file .entry))) (r .state) ≡ true) × (shows (planOf (now (file .entry))) (r .state) ≡ fresh) ⌝ }
 {
     Started {
-        refusal: plan::check(file),
-        state: state::fresh(),
+        refusal: plan_reading::check(file),
+        state: machine_state::fresh(),
     }
 }
 
@@ -74,7 +74,7 @@ fn request_code(file: &[u8], state: State, holds: &[u16], tag: u16, q: u8) -> u8
     requires { ⌜ (Checked (now file)) × (Cells (holdAt (planOf (now file))) (now holds)) × (sound (planOf (now file)) state ≡ true) ⌝ }
     ensures { λ r. ⌜ r ≡ requestCode (planOf (now (file .entry))) (shows (planOf (now (file .entry))) state) tag q ⌝ }
 {
-    let counts = plan::checked::counts(file);
+    let counts = plan_reading::checked::counts(file);
     let i = tables::task_number(file, tag);
     if folds::wide(counts.tasks) <= i {
         return 11;
@@ -83,7 +83,7 @@ fn request_code(file: &[u8], state: State, holds: &[u16], tag: u16, q: u8) -> u8
         return 12;
     }
     if holds[i * 16 + folds::wide(q)] == 0 {
-        return holds::sharing_code(file, i, q);
+        return analysis_hold_times::sharing_code(file, i, q);
     }
     let standing = state.tasks[i];
     if standing.resource != 255 {
@@ -110,21 +110,21 @@ fn request_on(
         return refuse(state, code);
     }
     let i = tables::task_number(file, tag);
-    let row = plan::checked::task(file, i);
+    let row = plan_reading::checked::task(file, i);
     let k = row.processor;
     let r = folds::wide(q);
-    let ahead = steps::ahead_of(holds, seats, r, k);
+    let ahead = machine_steps::ahead_of(holds, seats, r, k);
     let held = state.lines[r];
     let hold = holds[i * 16 + r];
     let budget = budgets[folds::wide(k) * 16 + r];
-    let next = steps::join(state, q, i, k, ahead.count, hold, budget);
+    let next = machine_steps::join(state, q, i, k, ahead.count, hold, budget);
     if held.queued == 0 {
         return Reply {
             answer: Answer::Granted,
             state: next,
         };
     }
-    let wait = holds::wait_in(file, budgets, k, r);
+    let wait = analysis_hold_times::wait_in(file, budgets, k, r);
     Reply {
         answer: Answer::Waits(ahead.count, ahead.holds + (ahead.count as u32 + 1) * wait),
         state: next,
@@ -136,7 +136,7 @@ fn release_code(file: &[u8], state: State, seats: &[u8], tag: u16, q: u8) -> u8
     requires { ⌜ (Checked (now file)) × (Seats (planOf (now file)) (state .tasks) (now seats)) × (sound (planOf (now file)) state ≡ true) ⌝ }
     ensures { λ r. ⌜ r ≡ releaseCode (planOf (now (file .entry))) (shows (planOf (now (file .entry))) state) tag q ⌝ }
 {
-    let counts = plan::checked::counts(file);
+    let counts = plan_reading::checked::counts(file);
     let i = tables::task_number(file, tag);
     if folds::wide(counts.tasks) <= i {
         return 11;
@@ -168,7 +168,7 @@ fn granted(file: &[u8], line: Line, seats: &[u8], q: usize, gone: u8) -> Answer
     let k = queue[0];
     let behind = k == gone;
     let first = seats[(q * 8 + folds::wide(k)) * 64 + behind as usize];
-    let row = plan::checked::task(file, folds::wide(first) - 1);
+    let row = plan_reading::checked::task(file, folds::wide(first) - 1);
     Answer::Next(row.tag)
 }
 
@@ -193,7 +193,7 @@ fn release_on(
     let r = folds::wide(q);
     let line = state.lines[r];
     let queue = line.queue;
-    let next = steps::leave(state, holds, budgets, keys, seats, r);
+    let next = machine_steps::leave(state, holds, budgets, keys, seats, r);
     let after = next.lines[r];
     Reply {
         answer: granted(file, after, seats, r, queue[0]),
@@ -213,7 +213,7 @@ fn tick_on(
     requires { ⌜ (Checked (now file)) × (Cells (holdAt (planOf (now file))) (now holds)) × (Shares (planOf (now file)) (now budgets)) × (Keys (planOf (now file)) (state .tasks) (now keys)) × (Seats (planOf (now file)) (state .tasks) (now seats)) × (sound (planOf (now file)) state ≡ true) ⌝ }
     ensures { λ r. ⌜ Done (planOf (now (file .entry))) state Tick r ⌝ }
 {
-    let ticked = steps::tick(state, holds, budgets, keys, seats);
+    let ticked = machine_steps::tick(state, holds, budgets, keys, seats);
     let next = ticked.state;
     Reply {
         answer: Answer::Ticked(ticked.cuts, ticked.grants),
@@ -227,10 +227,10 @@ fn act(file: &[u8], holds: &[u16], budgets: &[u16], state: State, call: Call) ->
     ensures { λ r. ⌜ (r .answer ≡ reply (now (file .entry)) state call) × Next (now (file .entry)) state call (r .state) ⌝ }
 {
     let tasks = state.tasks;
-    let keys = state::key_table(file, tasks);
+    let keys = machine_state::key_table(file, tasks);
     let mut seats = [0u8; 8193];
-    state::fill_seats(file, tasks, &keys, &mut seats);
-    if !state::passes(state, holds, budgets, &keys, &seats) {
+    machine_state::fill_seats(file, tasks, &keys, &mut seats);
+    if !machine_state::passes(state, holds, budgets, &keys, &seats) {
         return refuse(state, 19);
     }
     match call {
@@ -362,5 +362,5 @@ pub fn run_from(file: &[u8], start: State, calls: &[u8]) -> State
 pub fn run(file: &[u8], calls: &[u8]) -> State
     ensures { λ r. ⌜ FreshRan (now (file .entry)) (callsOf (now (calls .entry))) r ⌝ }
 {
-    run_from(file, state::fresh(), calls)
+    run_from(file, machine_state::fresh(), calls)
 }

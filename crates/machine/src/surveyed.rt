@@ -1,8 +1,8 @@
 // Many calls on one plan file that the caller holds: it is looked at once, and each call relies on what that gave, and says so in its
 // `requires`. What a call is answered and does is the same as that of `machine::call`.
 use crate::Reply;
-use protocol::Call;
-use state::State;
+use machine_rules::Call;
+use machine_state::State;
 ghost use mathlib.Core.Path.{_≡_};
 ghost use mathlib.Core.Logic.{_≢_};
 ghost use lib.ListN.{replicate};
@@ -16,11 +16,11 @@ pub fn look(file: &[u8], holds: &mut [u16], budgets: &mut [u16]) -> u8
     ensures { λ r. ⌜ Surveyed (now (file .entry)) r (now (holds .exit)) (now (budgets .exit)) ⌝ }
     ensures { λ r. ⌜ (r ≢ 0 → (now (holds .exit) ≡ now (holds .entry)) × (now (budgets .exit) ≡ now (budgets .entry))) ⌝ }
 {
-    let code = plan::check(file);
+    let code = plan_reading::check(file);
     if code != 0 {
         return code;
     }
-    holds::hold_table(file, holds, budgets);
+    analysis_hold_times::hold_table(file, holds, budgets);
     0
 }
 
@@ -34,10 +34,10 @@ pub fn state_code(file: &[u8], code: u8, holds: &[u16], budgets: &[u16], state: 
         return code;
     }
     let tasks = state.tasks;
-    let keys = state::key_table(file, tasks);
+    let keys = machine_state::key_table(file, tasks);
     let mut seats = [0u8; 8193];
-    state::fill_seats(file, tasks, &keys, &mut seats);
-    if !state::passes(state, holds, budgets, &keys, &seats) {
+    machine_state::fill_seats(file, tasks, &keys, &mut seats);
+    if !machine_state::passes(state, holds, budgets, &keys, &seats) {
         return 19;
     }
     0

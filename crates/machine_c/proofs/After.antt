@@ -8,17 +8,17 @@ use native.Mathlib.Nat.{mod-lt}
 use native.Mathlib.Omega.{arith}
 use lib.ListN.{length, getD}
 use Rattle.folds.proofs.Arrays.{by-eq}
-use Rattle.plan.specs.Reading.{refusal}
-use Rattle.plan.specs.Plan.{planOf, Checked}
-use Rattle.plan.proofs.Laws.{valid-plan}
-use Rattle.protocol.specs.declared.Call.{Call}
-use Rattle.protocol.specs.declared.Answer.the-variants.{Refused}
-use Rattle.protocol.specs.Machine.{fresh, answer, run}
-use Rattle.state.specs.declared.State.{State}
-use Rattle.state.specs.Shows.{freshState}
-use Rattle.state.specs.Rows.{stateOf}
-use Rattle.state.proofs.FreshLaws.{fresh-told}
-use Rattle.state.proofs.Told.{SameRows, rows-told}
+use Rattle.plan_reading.specs.Reading.{refusal}
+use Rattle.plan_reading.specs.Plan.{planOf, Checked}
+use Rattle.plan_reading.proofs.Laws.{valid-plan}
+use Rattle.machine_rules.specs.declared.Call.{Call}
+use Rattle.machine_rules.specs.declared.Answer.the-variants.{Refused}
+use Rattle.machine_rules.specs.Machine.{fresh, answer, run}
+use Rattle.machine_state.specs.declared.State.{State}
+use Rattle.machine_state.specs.Shows.{freshState}
+use Rattle.machine_state.specs.Rows.{stateOf}
+use Rattle.machine_state.proofs.FreshLaws.{fresh-told}
+use Rattle.machine_state.proofs.Told.{SameRows, rows-told}
 use Rattle.machine.specs.Replies.{reply}
 use Rattle.machine.specs.Promise.{FreshRan}
 use Rattle.machine.proofs.Answered.{plan-refused, reply-refused}

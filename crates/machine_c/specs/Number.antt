@@ -3,15 +3,15 @@ use Prim.Native.Nat.{ℕ, _+_, _*_, _/_, _%_}
 use mathlib.Core.Bool.{cond}
 use mathlib.Core.List.{List, [], _∷_}
 use lib.Dec.{eqb}
-use Rattle.plan.specs.Reading.{refusal}
-use Rattle.plan.specs.Plan.{planOf}
-use Rattle.protocol.specs.declared.Call.{Call}
-use Rattle.protocol.specs.declared.Answer.{Answer}
-use Rattle.protocol.specs.declared.Answer.the-variants.{Granted, Waits, Next, Free, Ticked, Refused}
-use Rattle.protocol.specs.Machine.{View, fresh, answer, run}
-use Rattle.state.specs.declared.State.{State}
-use Rattle.state.specs.Shows.{standing, lineAt, slot}
-use Rattle.state.specs.Rows.{stateOf}
+use Rattle.plan_reading.specs.Reading.{refusal}
+use Rattle.plan_reading.specs.Plan.{planOf}
+use Rattle.machine_rules.specs.declared.Call.{Call}
+use Rattle.machine_rules.specs.declared.Answer.{Answer}
+use Rattle.machine_rules.specs.declared.Answer.the-variants.{Granted, Waits, Next, Free, Ticked, Refused}
+use Rattle.machine_rules.specs.Machine.{View, fresh, answer, run}
+use Rattle.machine_state.specs.declared.State.{State}
+use Rattle.machine_state.specs.Shows.{standing, lineAt, slot}
+use Rattle.machine_state.specs.Rows.{stateOf}
 
 -- an answer: the refusal in the low byte, above it which answer it is, and its values
 abbrev pub answerNumber : Answer → ℕ

@@ -1,6 +1,6 @@
 // The machine, for programs in other languages that measure it or hold it against another.
-use protocol::Answer;
-use state::State;
+use machine_rules::Answer;
+use machine_state::State;
 ghost use mathlib.Core.Path.{_≡_};
 ghost use Rattle.machine.specs.Replies.{reply};
 ghost use Rattle.machine.specs.Promise.{callOf, callsOf};

@@ -2,8 +2,8 @@
 // line says is the work of `transcript`; here bytes are only read and written.
 use libc::STDIN_FILENO;
 use libc::STDOUT_FILENO;
-use plan::ReadAnswer;
-use state::State;
+use machine_state::State;
+use plan_reading::ReadAnswer;
 ghost use Prim.Native.Nat.{_-_, _≤_};
 ghost use lib.ListN.{length};
 
@@ -17,15 +17,15 @@ struct Served {
 // "refused N".
 fn print_refused(number: u8) {
     let mut out = [0u8; 96];
-    let line = wording::refused_line(number, &mut out);
+    let line = print_lines::refused_line(number, &mut out);
     let end = line.length;
     io::write_all(STDOUT_FILENO, &out[0..end]);
 }
 
 // "plan P N R S".
-fn print_plan(counts: rows::Counts) {
+fn print_plan(counts: plan_rules::Counts) {
     let mut out = [0u8; 96];
-    let line = transcript::plan_line(counts, &mut out);
+    let line = print_calls::plan_line(counts, &mut out);
     let end = line.length;
     io::write_all(STDOUT_FILENO, &out[0..end]);
 }
@@ -33,7 +33,7 @@ fn print_plan(counts: rows::Counts) {
 // "refused 22", where bytes are left over.
 fn print_end(left: usize) {
     let mut out = [0u8; 96];
-    let line = transcript::end_line(left, &mut out);
+    let line = print_calls::end_line(left, &mut out);
     let end = line.length;
     io::write_all(STDOUT_FILENO, &out[0..end]);
 }
@@ -47,7 +47,7 @@ fn serve(file: &[u8], start: State, calls: &[u8], out: &mut [u8]) -> Served
     let mut used = 0;
     let mut written = true;
     while written & (3 <= calls.len() - used) {
-        let batch = transcript::lines(file, state, &calls[used..], out);
+        let batch = print_calls::lines(file, state, &calls[used..], out);
         let end = batch.length;
         written = io::write_all(STDOUT_FILENO, &out[0..end]) & (batch.refusal == 0);
         state = batch.state;
@@ -111,10 +111,10 @@ fn main() {
     let mut buf = io::large_buffer();
     let end = input::read_plan(&mut buf);
     let file = &buf[0..end];
-    let found = plan::read(file);
+    let found = plan_reading::read(file);
     let answer = found.answer;
     let ReadAnswer::Accepted(counts) = answer else {
-        print_refused(plan::number(answer));
+        print_refused(plan_reading::number(answer));
         return;
     };
     print_plan(counts);

@@ -3,13 +3,13 @@ use Prim.Native.Nat.{ℕ, _+_, _-_, _*_}
 use mathlib.Core.Bool.{cond}
 use mathlib.Core.List.{List}
 use lib.Dec.{eqb, ltb}
-use Rattle.rows.specs.Rules.{taskOf, sectionOf, lengthOf}
-use Rattle.rows.specs.declared.TaskRow.{TaskRow}
-use Rattle.rows.specs.declared.SectionRow.{SectionRow}
-use Rattle.rows.specs.declared.Counts.{Counts}
-use Rattle.rows.specs.declared.Rows.{Rows}
-use Rattle.parts.specs.Layout.{countsOf, rowsOf}
-use Rattle.plan.specs.Reading.{refusal}
+use Rattle.plan_rules.specs.Rules.{taskOf, sectionOf, lengthOf}
+use Rattle.plan_rules.specs.declared.TaskRow.{TaskRow}
+use Rattle.plan_rules.specs.declared.SectionRow.{SectionRow}
+use Rattle.plan_rules.specs.declared.Counts.{Counts}
+use Rattle.plan_rules.specs.declared.Rows.{Rows}
+use Rattle.plan_layout.specs.Layout.{countsOf, rowsOf}
+use Rattle.plan_reading.specs.Reading.{refusal}
 
 -- the index of the last of n rows in an array of so many; 0 where there is none
 unfoldable pub lastOf : ℕ → ℕ → ℕ

@@ -1,7 +1,7 @@
 // The datasheet of a plan, for programs in other languages.
 ghost use mathlib.Core.Path.{_≡_};
 ghost use lib.ListN.{length};
-ghost use Rattle.sheet.specs.Sheet.{sheetIn};
+ghost use Rattle.print_sheet.specs.Sheet.{sheetIn};
 ghost use Rattle.sheet_c.specs.Number.{sheetNumber};
 
 // Puts the sheet of a plan file at the front of a lent buffer: the refusal in the low byte, 1 to 9 and then 10, and the length above it.
@@ -10,6 +10,6 @@ pub extern "C" fn plan_sheet(file: &[u8], out: &mut [u8]) -> u64
     ensures { λ r. ⌜ r ≡ sheetNumber (now (file .entry)) (length (now (out .entry))) ⌝ }
     ensures { λ r. ⌜ now (out .exit) ≡ sheetIn (now (file .entry)) (now (out .entry)) ⌝ }
 {
-    let line = sheet::sheet(file, out);
+    let line = print_sheet::sheet(file, out);
     folds::byte(line.refusal) + 256 * (line.length as u64)
 }

@@ -9,11 +9,11 @@ use lib.Seq.{getD-set-same, getD-set-other}
 use Rattle.folds.proofs.Tests.{cond-both}
 use Rattle.folds.proofs.Figures.{max-same}
 use Rattle.folds.proofs.Arrays.{by-eq, maxedBelow, maxed-length, maxed-at}
-use Rattle.rows.specs.declared.SectionRow.{SectionRow}
-use Rattle.plan.specs.Plan.{Plan, planOf, Checked}
-use Rattle.plan.proofs.Laws.{valid-plan}
-use Rattle.equations.specs.Sharing.{sectionBy, global}
-use Rattle.equations.specs.Blocking.{longestGlobal}
+use Rattle.plan_rules.specs.declared.SectionRow.{SectionRow}
+use Rattle.plan_reading.specs.Plan.{Plan, planOf, Checked}
+use Rattle.plan_reading.proofs.Laws.{valid-plan}
+use Rattle.analysis_equations.specs.Sharing.{sectionBy, global}
+use Rattle.analysis_equations.specs.Blocking.{longestGlobal}
 use Rattle.tables.specs.Tables.{placeAt, placeOf}
 
 -- a section row of a checked file is of one of 64 tasks, and on one of 16 resources

@@ -9,8 +9,8 @@ use lib.Dec.{eqb, ltb}
 use lib.ListN.{getD}
 use Rattle.folds.proofs.Tests.{same-test}
 use Rattle.folds.proofs.Arrays.{by-eq}
-use Rattle.plan.specs.Plan.{Plan, Valid}
-use Rattle.equations.specs.Sharing.{processorOf, priorityOf, higher, lower}
+use Rattle.plan_reading.specs.Plan.{Plan, Valid}
+use Rattle.analysis_equations.specs.Sharing.{processorOf, priorityOf, higher, lower}
 use Rattle.tables.specs.Tables.{Tasks, placeAt, placeOf, beside, above, under}
 
 -- two places of one processor are ordered as their priorities

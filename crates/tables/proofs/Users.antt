@@ -11,9 +11,9 @@ use Rattle.folds.specs.Bytes.{placedBelow}
 use Rattle.folds.proofs.Tests.{any-same}
 use Rattle.folds.proofs.Figures.{sum-same, sum-count}
 use Rattle.folds.proofs.Arrays.{markedBelow, marked-length, marked-at, placed-length, placed-at, cell-eqb}
-use Rattle.plan.specs.Plan.{Plan, Valid}
-use Rattle.equations.specs.Sharing.{processorOf, usedOn, global}
-use Rattle.equations.proofs.Laws.{used-section}
+use Rattle.plan_reading.specs.Plan.{Plan, Valid}
+use Rattle.analysis_equations.specs.Sharing.{processorOf, usedOn, global}
+use Rattle.analysis_equations.proofs.Laws.{used-section}
 use Rattle.tables.specs.Tables.{Marks, Globals}
 
 module _ (p : Plan) where

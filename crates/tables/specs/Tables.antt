@@ -5,9 +5,9 @@ use mathlib.Core.List.{List}
 use mathlib.Core.Path.{_≡_}
 use lib.Dec.{eqb, ltb}
 use lib.ListN.{length, getD}
-use Rattle.plan.specs.Plan.{Plan}
-use Rattle.equations.specs.Sharing.{processorOf, priorityOf, global, usedOn}
-use Rattle.equations.specs.Blocking.{longestGlobal}
+use Rattle.plan_reading.specs.Plan.{Plan}
+use Rattle.analysis_equations.specs.Sharing.{processorOf, priorityOf, global, usedOn}
+use Rattle.analysis_equations.specs.Blocking.{longestGlobal}
 
 -- a table of the figure f of each of n tasks or resources
 pub record Column (n : ℕ) (f : ℕ → ℕ) (t : List ℕ) : Type 0 where

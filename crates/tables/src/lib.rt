@@ -5,9 +5,9 @@ ghost use mathlib.Core.Path.{_≡_};
 ghost use Prim.Native.Nat.{ℕ, _+_, _*_, _≤_, _<_};
 ghost use lib.ListN.{length, getD};
 ghost use Rattle.folds.specs.Below.{sumBelow};
-ghost use Rattle.plan.specs.Plan.{planOf, Checked};
-ghost use Rattle.equations.specs.Blocking.{longestGlobal};
-ghost use Rattle.equations.specs.Questions.{taskNumber};
+ghost use Rattle.plan_reading.specs.Plan.{planOf, Checked};
+ghost use Rattle.analysis_equations.specs.Blocking.{longestGlobal};
+ghost use Rattle.analysis_equations.specs.Questions.{taskNumber};
 ghost use Rattle.tables.specs.Tables.{Marks, Globals, Tasks};
 
 // A byte as 16 bits.
@@ -22,13 +22,13 @@ fn user_marks(file: &[u8]) -> [u8; 128]
     requires { ⌜ Checked (now file) ⌝ }
     ensures { λ r. ⌜ Marks (planOf (now (file .entry))) r ⌝ }
 {
-    let counts = plan::checked::counts(file);
+    let counts = plan_reading::checked::counts(file);
     let s = counts.sections as usize;
     let mut marks = [0u8; 128];
     let mut i = 0;
     while i < s {
-        let row = plan::checked::section(file, i);
-        let task = plan::checked::task(file, folds::wide(row.task));
+        let row = plan_reading::checked::section(file, i);
+        let task = plan_reading::checked::task(file, folds::wide(row.task));
         let at = folds::wide(row.resource) * 8 + folds::wide(task.processor);
         marks[at] = 1;
         i += 1;
@@ -55,7 +55,7 @@ pub fn globals(file: &[u8]) -> [bool; 16]
     requires { ⌜ Checked (now file) ⌝ }
     ensures { λ r. ⌜ Globals (planOf (now (file .entry))) r ⌝ }
 {
-    let counts = plan::checked::counts(file);
+    let counts = plan_reading::checked::counts(file);
     let m = folds::wide(counts.processors);
     let marks = user_marks(file);
     let mut globals = [false; 16];
@@ -73,12 +73,12 @@ fn longest_globals(file: &[u8], globals: [bool; 16]) -> [u16; 128]
     requires { ⌜ (Checked (now file)) × (Globals (planOf (now file)) globals) ⌝ }
     ensures { λ r. ⌜ (length r ≡ 128) × ((j : ℕ) → j < 64 → getD r j 0 ≡ longestGlobal (planOf (now (file .entry))) j) ⌝ }
 {
-    let counts = plan::checked::counts(file);
+    let counts = plan_reading::checked::counts(file);
     let s = counts.sections as usize;
     let mut table = [0u16; 128];
     let mut i = 0;
     while i < s {
-        let row = plan::checked::section(file, i);
+        let row = plan_reading::checked::section(file, i);
         let j = folds::wide(row.task);
         let shared = globals[folds::wide(row.resource)];
         table[j] = folds::longer(table[j], folds::chosen(shared, row.length, 0));
@@ -92,12 +92,12 @@ pub fn task_table(file: &[u8], globals: [bool; 16]) -> [u16; 128]
     requires { ⌜ (Checked (now file)) × (Globals (planOf (now file)) globals) ⌝ }
     ensures { λ r. ⌜ Tasks (planOf (now (file .entry))) r ⌝ }
 {
-    let counts = plan::checked::counts(file);
+    let counts = plan_reading::checked::counts(file);
     let n = folds::wide(counts.tasks);
     let mut table = longest_globals(file, globals);
     let mut j = 0;
     while j < n {
-        let row = plan::checked::task(file, j);
+        let row = plan_reading::checked::task(file, j);
         table[64 + j] = half(row.processor) * 256 + half(row.priority);
         j += 1;
     }
@@ -109,11 +109,11 @@ pub fn task_number(file: &[u8], tag: u16) -> usize
     requires { ⌜ Checked (now file) ⌝ }
     ensures { λ r. ⌜ r ≡ taskNumber (planOf (now (file .entry))) tag ⌝ }
 {
-    let counts = plan::checked::counts(file);
+    let counts = plan_reading::checked::counts(file);
     let n = folds::wide(counts.tasks);
     let mut j = 0;
     while j < n {
-        let row = plan::checked::task(file, j);
+        let row = plan_reading::checked::task(file, j);
         if row.tag == tag {
             return j;
         }

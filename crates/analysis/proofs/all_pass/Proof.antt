@@ -6,8 +6,8 @@ use native.Mathlib.Omega.{arith}
 use borrow.Author.Needs.{needs}
 use Rattle.folds.specs.Below.{allBelow}
 use Rattle.folds.proofs.Tests.{all-more, all-left, all-done, held, failed}
-use Rattle.plan.specs.Plan.{planOf}
-use Rattle.equations.specs.Requirement.{asks, met, admitted}
+use Rattle.plan_reading.specs.Plan.{planOf}
+use Rattle.analysis_equations.specs.Requirement.{asks, met, admitted}
 use Rattle.analysis.proofs.all_pass.Statement.{statement}
 use Rattle.analysis.proofs.all_pass.Tie as tie
 

@@ -1,7 +1,7 @@
 -- A table of each hold time is the list of them.
 use mathlib.Core.Path.{refl, sym, _∙_}
 use borrow.Author.Needs.{needs}
-use Rattle.plan.specs.Plan.{Checked}
+use Rattle.plan_reading.specs.Plan.{Checked}
 use Rattle.analysis.proofs.Told.{checked-file, times-refused, times-given}
 use Rattle.analysis.proofs.hold_times.Statement.{statement}
 use Rattle.analysis.proofs.hold_times.Tie as tie

@@ -2,7 +2,7 @@
 use Prim.Native.Nat.{_<_}
 use native.Mathlib.Omega.{arith}
 use borrow.Author.Needs.{needs}
-use Rattle.plan.proofs.Laws.{valid-plan}
+use Rattle.plan_reading.proofs.Laws.{valid-plan}
 use Rattle.analysis.proofs.Told.{passes-idle, passes-met}
 use Rattle.analysis.proofs.passes.Statement.{statement}
 use Rattle.analysis.proofs.passes.Tie as tie

@@ -2,8 +2,8 @@
 use mathlib.Core.Path.{ap, _∙_}
 use native.Mathlib.Omega.{arith}
 use borrow.Author.Needs.{needs}
-use Rattle.plan.proofs.Laws.{valid-plan}
-use Rattle.requirements.specs.Figures.{requirementOf}
+use Rattle.plan_reading.proofs.Laws.{valid-plan}
+use Rattle.analysis_requirements.specs.Figures.{requirementOf}
 use Rattle.analysis.proofs.Told.{requirement-given, requirement-refused, no-task-asked, not-asked, task-asked}
 use Rattle.analysis.proofs.requirement_question.Statement.{statement}
 use Rattle.analysis.proofs.requirement_question.Tie as tie

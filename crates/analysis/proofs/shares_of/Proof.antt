@@ -2,8 +2,8 @@
 use mathlib.Core.Path.{ap, _∙_}
 use native.Mathlib.Omega.{arith}
 use borrow.Author.Needs.{needs}
-use Rattle.plan.proofs.Laws.{valid-plan}
-use Rattle.equations.specs.HoldTimes.{waitTime}
+use Rattle.plan_reading.proofs.Laws.{valid-plan}
+use Rattle.analysis_equations.specs.HoldTimes.{waitTime}
 use Rattle.analysis.proofs.shares_of.Statement.{statement}
 use Rattle.analysis.proofs.shares_of.Tie as tie
 

@@ -1,7 +1,7 @@
 -- The line fits into its buffer.
 use native.Mathlib.Omega.{arith}
 use borrow.Author.Needs.{needs}
-use Rattle.text.proofs.Lines.{line-fits}
+use Rattle.print_text.proofs.Lines.{line-fits}
 use Rattle.datasheet.proofs.print_refused.Statement.{statement}
 use Rattle.datasheet.proofs.print_refused.Tie as tie
 

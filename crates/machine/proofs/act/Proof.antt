@@ -1,6 +1,6 @@
 -- The tables of the state are made of it, and the test by them is that of soundness.
 use borrow.Author.Needs.{needs}
-use Rattle.plan.proofs.Laws.{valid-plan}
+use Rattle.plan_reading.proofs.Laws.{valid-plan}
 use Rattle.machine.proofs.Acting.{keys-low, Made, passed, not-passed, unsound-reply, sound-reply}
 use Rattle.machine.proofs.act.Statement.{statement}
 use Rattle.machine.proofs.act.Tie as tie
@@ -10,9 +10,9 @@ use Rattle.machine.proofs.request_on.Reads as request-on-reads
 use Rattle.machine.proofs.tick_on.Reads as tick-on-reads
 use Rattle.machine.proofs.release_on.Reads as release-on-reads
 use Rattle.machine.proofs.refuse.Reads as refuse-reads
-use Rattle.state.proofs.fill_seats.Reads as fill-seats-reads
-use Rattle.state.proofs.key_table.Reads as key-table-reads
-use Rattle.state.proofs.passes.Reads as passes-reads
+use Rattle.machine_state.proofs.fill_seats.Reads as fill-seats-reads
+use Rattle.machine_state.proofs.key_table.Reads as key-table-reads
+use Rattle.machine_state.proofs.passes.Reads as passes-reads
 
 -- once the tables are made
 abbrev Here : Type 0

@@ -1,7 +1,7 @@
 -- A look at the file, then the call by what that gave.
 use mathlib.Core.Path.{ap, _∙_}
 use borrow.Author.Needs.{needs}
-use Rattle.protocol.specs.Machine.{answerTold}
+use Rattle.machine_rules.specs.Machine.{answerTold}
 use Rattle.machine.proofs.Answered.{reply-told}
 use Rattle.machine.proofs.call.Statement.{statement}
 use Rattle.machine.proofs.call.Tie as tie

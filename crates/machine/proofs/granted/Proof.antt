@@ -3,8 +3,8 @@ use native.Mathlib.Omega.{arith}
 use borrow.Author.Needs.{needs}
 use borrow.Author.Tests.{eq-eqb}
 use lib.Dec.{eqb}
-use Rattle.steps.proofs.Passing.{flag-low}
-use Rattle.state.specs.Shows.{slot}
+use Rattle.machine_steps.proofs.Passing.{flag-low}
+use Rattle.machine_state.specs.Shows.{slot}
 use Rattle.machine.specs.Inner.{grantedTold}
 use Rattle.machine.proofs.Freed.{first-task, granted-next}
 use Rattle.machine.proofs.granted.Statement.{statement}

@@ -2,16 +2,16 @@
 use Prim.Native.Nat.{_<_, _≤_}
 use native.Mathlib.Omega.{arith}
 use borrow.Author.Needs.{needs}
-use Rattle.plan.specs.Plan.{planOf}
-use Rattle.plan.proofs.Laws.{valid-plan}
-use Rattle.equations.specs.Questions.{taskNumber}
+use Rattle.plan_reading.specs.Plan.{planOf}
+use Rattle.plan_reading.proofs.Laws.{valid-plan}
+use Rattle.analysis_equations.specs.Questions.{taskNumber}
 use Rattle.machine.proofs.Freed.{release-unknown, release-past, Asks, release-free, head-seat, release-holder, release-other}
 use Rattle.machine.proofs.release_code.Statement.{statement}
 use Rattle.machine.proofs.release_code.Tie as tie
 use Rattle.machine.proofs.release_code.Reads as reads
 use Rattle.machine.proofs.release_code.Lts as lts
 use Rattle.folds.proofs.wide.Reads as wide-reads
-use Rattle.plan.proofs.checked.counts.Reads as counts-reads
+use Rattle.plan_reading.proofs.checked.counts.Reads as counts-reads
 use Rattle.tables.proofs.task_number.Reads as task-number-reads
 
 -- once the first two tests are passed

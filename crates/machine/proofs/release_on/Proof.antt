@@ -1,8 +1,8 @@
 -- A release that is not refused finds the resource held, so its holder leaves.
 use mathlib.Core.Path.{sym, _∙_}
 use borrow.Author.Needs.{needs}
-use Rattle.plan.specs.Plan.{planOf}
-use Rattle.plan.proofs.Laws.{valid-plan}
+use Rattle.plan_reading.specs.Plan.{planOf}
+use Rattle.plan_reading.proofs.Laws.{valid-plan}
 use Rattle.machine.proofs.Lengths.{length-mapped}
 use Rattle.machine.proofs.Freed.{free-refused, Frees, free-low, free-ready, free-next, free-done}
 use Rattle.machine.proofs.release_on.Statement.{statement}
@@ -13,7 +13,7 @@ use Rattle.folds.proofs.wide.Reads as wide-reads
 use Rattle.machine.proofs.granted.Reads as granted-reads
 use Rattle.machine.proofs.refuse.Reads as refuse-reads
 use Rattle.machine.proofs.release_code.Reads as release-code-reads
-use Rattle.steps.proofs.leave.Reads as leave-reads
+use Rattle.machine_steps.proofs.leave.Reads as leave-reads
 
 -- once the release is known to be right
 abbrev Here : Type 0

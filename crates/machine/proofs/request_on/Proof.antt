@@ -5,10 +5,10 @@ use mathlib.Core.Path.{_≡_, sym, ap, _∙_}
 use native.Mathlib.Omega.{arith}
 use borrow.Author.Needs.{needs}
 use lib.ListN.{length}
-use Rattle.rows.specs.declared.TaskRow.{TaskRow}
-use Rattle.plan.specs.Plan.{Plan, Valid, planOf}
-use Rattle.plan.proofs.Laws.{valid-plan}
-use Rattle.state.proofs.Tables.{low-processor}
+use Rattle.plan_rules.specs.declared.TaskRow.{TaskRow}
+use Rattle.plan_reading.specs.Plan.{Plan, Valid, planOf}
+use Rattle.plan_reading.proofs.Laws.{valid-plan}
+use Rattle.machine_state.proofs.Tables.{low-processor}
 use Rattle.machine.proofs.Lengths.{length-mapped}
 use Rattle.machine.proofs.Asked.{Free, Accepted, Named, request-free, ask-refused, ask-room, ask-granted, ask-waits, waits-high}
 use Rattle.machine.proofs.request_on.Statement.{statement}

@@ -1,7 +1,7 @@
 -- A fresh state shows nobody in line, and is sound where the plan is not refused.
 use borrow.Author.Needs.{needs}
-use Rattle.plan.proofs.Laws.{valid-plan}
-use Rattle.state.proofs.FreshLaws.{fresh-sound, fresh-shows}
+use Rattle.plan_reading.proofs.Laws.{valid-plan}
+use Rattle.machine_state.proofs.FreshLaws.{fresh-sound, fresh-shows}
 use Rattle.machine.proofs.start.Statement.{statement}
 use Rattle.machine.proofs.start.Tie as tie
 

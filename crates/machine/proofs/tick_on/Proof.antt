@@ -1,15 +1,15 @@
 -- The tables of the state are at hand, so the tick does what the rules say.
 use borrow.Author.Needs.{needs}
-use Rattle.plan.specs.Plan.{planOf}
-use Rattle.plan.proofs.Laws.{valid-plan}
-use Rattle.steps.proofs.Ready.{Tabled}
+use Rattle.plan_reading.specs.Plan.{planOf}
+use Rattle.plan_reading.proofs.Laws.{valid-plan}
+use Rattle.machine_steps.proofs.Ready.{Tabled}
 use Rattle.machine.proofs.Lengths.{length-mapped}
 use Rattle.machine.proofs.Beaten.{beat-ready, beat-done}
 use Rattle.machine.proofs.tick_on.Statement.{statement}
 use Rattle.machine.proofs.tick_on.Tie as tie
 use Rattle.machine.proofs.tick_on.Reads as reads
 use Rattle.machine.proofs.tick_on.Lts as lts
-use Rattle.steps.proofs.tick.Reads as tick-reads
+use Rattle.machine_steps.proofs.tick.Reads as tick-reads
 
 -- at the start
 abbrev Here : Type 0

@@ -2,7 +2,7 @@
 use Prim.Native.Nat.{_+_, _*_}
 use mathlib.Core.Path.{_≡_, ap, _∙_}
 use borrow.Author.Needs.{needs}
-use Rattle.text.specs.declared.Line.{Line}
+use Rattle.print_text.specs.declared.Line.{Line}
 use Rattle.sheet_c.specs.Number.{sheetNumber}
 use Rattle.sheet_c.proofs.plan_sheet.Statement.{statement}
 use Rattle.sheet_c.proofs.plan_sheet.Tie as tie

@@ -5,8 +5,8 @@ use borrow.Author.Needs.{needs}
 use native.Mathlib.Omega.{arith}
 use Rattle.folds.specs.Bytes.{placedBelow}
 use Rattle.folds.proofs.Arrays.{placed-step}
-use Rattle.plan.specs.Plan.{planOf, Valid}
-use Rattle.plan.proofs.Laws.{valid-plan}
+use Rattle.plan_reading.specs.Plan.{planOf, Valid}
+use Rattle.plan_reading.proofs.Laws.{valid-plan}
 use Rattle.tables.proofs.Users.{globalsBelow, two-marks, globals-done}
 use Rattle.tables.proofs.globals.Statement.{statement}
 use Rattle.tables.proofs.globals.Tie as tie

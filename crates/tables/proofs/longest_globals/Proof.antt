@@ -5,8 +5,8 @@ use mathlib.Core.Path.{_≡_, refl}
 use native.Mathlib.Omega.{arith}
 use borrow.Author.Needs.{needs}
 use Rattle.folds.proofs.Arrays.{maxedBelow, maxed-step}
-use Rattle.plan.specs.Plan.{planOf}
-use Rattle.equations.specs.Sharing.{global}
+use Rattle.plan_reading.specs.Plan.{planOf}
+use Rattle.analysis_equations.specs.Sharing.{global}
 use Rattle.tables.proofs.Longest.{row-task, row-resource, longestBelow, longest-done}
 use Rattle.tables.proofs.longest_globals.Statement.{statement}
 use Rattle.tables.proofs.longest_globals.Tie as tie

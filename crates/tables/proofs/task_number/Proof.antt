@@ -8,8 +8,8 @@ use borrow.Author.Tests.{eq-eqb, ne-eqb}
 use lib.Dec.{eqb}
 use Rattle.folds.specs.Below.{allBelow}
 use Rattle.folds.proofs.Tests.{all-more, find-at, find-none}
-use Rattle.plan.specs.Plan.{planOf}
-use Rattle.equations.specs.Questions.{taskNumber}
+use Rattle.plan_reading.specs.Plan.{planOf}
+use Rattle.analysis_equations.specs.Questions.{taskNumber}
 use Rattle.tables.proofs.task_number.Statement.{statement}
 use Rattle.tables.proofs.task_number.Tie as tie
 

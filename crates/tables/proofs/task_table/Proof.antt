@@ -2,8 +2,8 @@
 use Prim.Native.Nat.{_<_, _≤_, _-_}
 use native.Mathlib.Omega.{arith}
 use borrow.Author.Needs.{needs}
-use Rattle.plan.specs.Plan.{planOf}
-use Rattle.plan.proofs.Laws.{valid-plan}
+use Rattle.plan_reading.specs.Plan.{planOf}
+use Rattle.plan_reading.proofs.Laws.{valid-plan}
 use Rattle.tables.proofs.Longest.{PlacesBelow, places-none, places-step}
 use Rattle.tables.proofs.task_table.Statement.{statement}
 use Rattle.tables.proofs.task_table.Tie as tie

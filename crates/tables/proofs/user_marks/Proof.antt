@@ -4,8 +4,8 @@ use mathlib.Core.Path.{_≡_, refl}
 use borrow.Author.Needs.{needs}
 use native.Mathlib.Omega.{arith}
 use Rattle.folds.proofs.Arrays.{markedBelow, marked-step}
-use Rattle.plan.specs.Plan.{planOf, Checked}
-use Rattle.plan.proofs.Laws.{valid-plan}
+use Rattle.plan_reading.specs.Plan.{planOf, Checked}
+use Rattle.plan_reading.proofs.Laws.{valid-plan}
 use Rattle.tables.proofs.Users.{usersBelow, mark-high, users-done}
 use Rattle.tables.proofs.user_marks.Statement.{statement}
 use Rattle.tables.proofs.user_marks.Tie as tie

@@ -2,8 +2,8 @@
 use mathlib.Core.Path.{sym, _∙_}
 use borrow.Author.Needs.{needs}
 use borrow.Author.Tests.{eq-eqb, ne-eqb}
-use Rattle.plan.specs.Plan.{Checked}
-use Rattle.plan.proofs.Laws.{valid-plan}
+use Rattle.plan_reading.specs.Plan.{Checked}
+use Rattle.plan_reading.proofs.Laws.{valid-plan}
 use Rattle.machine.proofs.Acting.{keys-low, Made, passed, not-passed}
 use Rattle.machine.proofs.surveyed.state_code.Statement.{statement}
 use Rattle.machine.proofs.surveyed.state_code.Tie as tie

@@ -1,0 +1,128 @@
+-- What the walk through a processor's tasks makes of the rows: hold times, and the sums and maxima beside them.
+use Prim.Native.Nat.{ℕ, _+_, _*_, _-_, _<_, _≤_, max}
+use mathlib.Core.Bool.{Bool, true, false, cond, _&&_}
+use mathlib.Core.List.{List}
+use mathlib.Core.Path.{_≡_, refl, sym, ap, _∙_}
+use native.Mathlib.Omega.{arith}
+use borrow.Author.Tests.{lt-ltb, le-ltb, eq-eqb, ne-eqb}
+use lib.Dec.{eqb, ltb}
+use lib.ListN.{length, getD, replicate}
+use Rattle.folds.proofs.Figures.{sum-same}
+use Rattle.folds.proofs.Arrays.{by-eq}
+use Rattle.plan_reading.specs.Plan.{Plan, Valid}
+use Rattle.analysis_equations.specs.Sharing.{processorOf, uses, global}
+use Rattle.analysis_equations.specs.HoldTimes.{longestOn, longestOff, interference, holdTime, holdAt, budget}
+use Rattle.analysis_equations.proofs.Laws.{budget-holds, off-high, uses-longest}
+use Rattle.analysis_hold_times.specs.Holds.{cell}
+use Rattle.analysis_hold_times.specs.Inner.{Row, Flags, Sits, Tops, rankOf, sharedOn}
+use Rattle.analysis_hold_times.proofs.Rows.{row-same}
+use Rattle.analysis_hold_times.proofs.Walks.{passed, passed-none, passed-own, passed-new, passed-above, passed-other, passed-all, MostBelow, most-none, most-step, most-done, SumBelow, sums-none, sums-step, sums-high}
+use Rattle.analysis_hold_times.proofs.Tops.{shared-high, top-own, top-off}
+
+module _ (p : Plan) (v : Valid p) (k : ℕ) where
+  -- the rows once the tasks with fewer than x above them are passed
+  pub record HeldBelow (old : List ℕ) (x : ℕ) (rows above most : List ℕ) : Type 0 where
+    pub long : length rows ≡ 1024
+    pub added : SumBelow p (longestOff p) k x above
+    pub greatest : MostBelow p (holdAt p) k x most
+    pub at : (j q : ℕ) → j < p .tasks → q < 16 → getD rows (cell j q) 0 ≡ cond (passed p k x j) (holdAt p j q) (getD old (cell j q) 0)
+    pub rest : (j q : ℕ) → p .tasks ≤ j → q < 16 → getD rows (cell j q) 0 ≡ getD old (cell j q) 0
+
+  pub held-none : (old : List ℕ) → length old ≡ 1024 → HeldBelow old 0 old (replicate 16 0) (replicate 16 0)
+  held-none old e =
+      record {
+        long = e;
+        added = sums-none p (longestOff p) k;
+        greatest = most-none p (holdAt p) k;
+        at = λ j q lj lq. rw (passed-none p k j);
+        rest = λ j q lj lq. refl;
+      }
+
+  pub above-high : (old : List ℕ) (x : ℕ) {rows above most : List ℕ} → HeldBelow old x rows above most → (q : ℕ) → q < 16 → getD above q 0 ≤ 64000
+  above-high old x h = sums-high p (longestOff p) k v x (off-high p v) (h .added)
+
+  pub held-done : (old : List ℕ) (x : ℕ) (rows above most : List ℕ) → HeldBelow old x rows above most → ((i : ℕ) → i < p .tasks → processorOf p i ≡ k → rankOf p i < x)
+      → (Row (budget p k) most) × (length rows ≡ 1024) × ((j q : ℕ) → j < p .tasks → q < 16 → getD rows (cell j q) 0 ≡ cond (eqb (processorOf p j) k) (holdAt p j q) (getD old (cell j q) 0)) × ((j q : ℕ) → p .tasks ≤ j → q < 16 → getD rows (cell j q) 0 ≡ getD old (cell j q) 0)
+  held-done old x rows above most h all = (
+    row-same _ _ (most-done p (holdAt p) k x all (h .greatest)) (λ q l. sym (budget-holds p k q)),
+    h .long,
+    λ j q lj lq. h .at j q lj lq ∙ ap (λ (b : Bool). cond b (holdAt p j q) (getD old (cell j q) 0)) (passed-all p k x all j lj),
+    h .rest,
+  )
+
+  -- the rows of the processor's tasks begin with their longest sections
+  abbrev pub Begun : List ℕ → Type 0
+  Begun old = (j q : ℕ) → j < p .tasks → q < 16 → processorOf p j ≡ k → getD old (cell j q) 0 ≡ longestOn p j q
+
+  -- the next task
+  module _ (old : List ℕ) (x i : ℕ) (rows above most flags tops : List ℕ) (h : HeldBelow old x rows above most) (s : Sits p k x i) (u : Flags p flags) (t : Tops p 64 tops) (begun : Begun old) where
+    -- its sections on global resources
+    product : (q : ℕ) → q < 16 → getD rows (cell i q) 0 * getD flags q 0 ≡ sharedOn p i q
+    product q l = rw (longest, u .at q l) (times (global p q) (longestOn p i q))
+      where
+        longest : getD rows (cell i q) 0 ≡ longestOn p i q
+        longest = h .at i q (s .below) l ∙ rw (passed-new p k x i s) (begun i q (s .below) l (s .own))
+
+        times : (b : Bool) (m : ℕ) → m * cond b 1 0 ≡ cond b m 0
+        times true m = omega arith
+        times false m = omega arith
+
+    pub product-high : (q : ℕ) → q < 16 → getD rows (cell i q) 0 * getD flags q 0 ≤ 1000
+    product-high q l = rw (product q l) (shared-high p v i q)
+
+    pub own-row : {own : List ℕ} → Row (λ q. getD rows (cell i q) 0 * getD flags q 0) own → Row (sharedOn p i) own
+    own-row r = row-same _ _ r product
+
+    pub own-high : {own : List ℕ} → Row (sharedOn p i) own → (q : ℕ) → q < 16 → getD own q 0 ≤ 1000
+    own-high r q l = omega (arith, r .at q l, shared-high p v i q)
+
+    low : i < 64
+    low = omega (arith, v .tasks, s .below)
+
+    pub own-top : {own : List ℕ} → Row (sharedOn p i) own → (q : ℕ) → q < 16 → getD own q 0 ≤ getD tops i 0
+    own-top r q l = omega (arith, r .at q l, top-own p v tops i t low q)
+
+    -- what those passed add is its interference
+    above-own : (q : ℕ) → q < 16 → getD above q 0 ≡ interference p i q
+    unfolding interference
+    above-own q l = h .added .at q l ∙ sum-same (p .tasks) _ _ (λ j lj. ap (λ (b : Bool). cond b (longestOff p j q) 0) (passed-above p k x i s j lj))
+
+    -- and so its hold times
+    pub held-row : (own : List ℕ) {held : List ℕ} → Row (sharedOn p i) own → Row (λ q. cond (eqb (getD own q 0) 0) 0 (getD own q 0 + getD above q 0)) held → Row (holdAt p i) held
+    unfolding holdAt holdTime
+    held-row own o r = row-same _ _ r (λ q l. rw (o .at q l, above-own q l) (one q))
+      where
+        pick : (b : Bool) (q m : ℕ) → m ≡ longestOn p i q → cond (eqb (cond b m 0) 0) 0 (cond b m 0 + interference p i q) ≡ cond (b && uses p i q) (m + interference p i q) 0
+        pick false q m e = refl
+        pick true q m e =
+            rw (uses-longest p v i q, ← e)
+            (by-eq (λ (d : Bool). cond d 0 (m + interference p i q) ≡ cond (ltb 0 m) (m + interference p i q) 0) m 0 (λ z. rw (le-ltb 0 m (omega arith))) (λ d. rw (lt-ltb 0 m (omega (arith, d)))))
+
+        one : (q : ℕ) → cond (eqb (sharedOn p i q) 0) 0 (sharedOn p i q + interference p i q) ≡ holdAt p i q
+        one q = pick (global p q) q (longestOn p i q) refl
+
+    pub held-step : (own held : List ℕ) {put next-above next-most : List ℕ} {first second : ℕ}
+        → Row (sharedOn p i) own
+        → Row (holdAt p i) held
+        → (length put ≡ length rows) × ((j q : ℕ) → q < 16 → getD put (cell j q) 0 ≡ cond (eqb j i) (getD held q 0) (getD rows (cell j q) 0))
+        → first ≡ getD tops i 0
+        → second ≡ getD tops (64 + i) 0
+        → Row (λ q. getD above q 0 + first - (getD own q 0 - second)) next-above
+        → Row (λ q. max (getD most q 0) (getD put (cell i q) 0)) next-most
+        → HeldBelow old (x + 1) put next-above next-most
+    held-step own held {put} o d r ef es a m =
+        record {
+          long = r .0 ∙ h .long;
+          added = sums-step p (longestOff p) k v x i above s (h .added) (λ q l. rw (ef, es) (omega (arith, own-top o q l, o .at q l, top-off p v tops i t low q))) a;
+          greatest = most-step p (holdAt p) k v x i most s (h .greatest) own-put m;
+          at = λ j q lj lq. by-eq (λ (b : Bool). getD put (cell j q) 0 ≡ cond (passed p k (x + 1) j) (holdAt p j q) (getD old (cell j q) 0)) j i
+              (λ e. rw (e, passed-own p k x i s) (own-put q lq))
+              (λ n. other j q lq n ∙ h .at j q lj lq ∙ ap (λ (b : Bool). cond b (holdAt p j q) (getD old (cell j q) 0)) (sym (passed-other p k x i s v j lj n)));
+          rest = λ j q lj lq. other j q lq (λ e. omega (arith, s .below)) ∙ h .rest j q lj lq;
+        }
+      where
+        own-put : (q : ℕ) → q < 16 → getD put (cell i q) 0 ≡ holdAt p i q
+        own-put q l = r .1 i q l ∙ rw (eq-eqb i i refl) (d .at q l)
+
+        other : (j q : ℕ) → q < 16 → (j ≡ i → ⊥) → getD put (cell j q) 0 ≡ getD rows (cell j q) 0
+        other j q l n = r .1 j q l ∙ rw (ne-eqb j i n)

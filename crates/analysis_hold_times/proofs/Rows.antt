@@ -1,0 +1,75 @@
+-- Rows and tables that a loop over the resources makes.
+use Prim.Native.Nat.{ℕ, zero, suc, _+_, _*_, _-_, _<_, _≤_}
+use mathlib.Core.Bool.{Bool, true, false, cond}
+use mathlib.Core.List.{List}
+use mathlib.Core.Path.{_≡_, refl, ap, _∙_}
+use mathlib.Core.Logic.{⊎-elim}
+use native.Mathlib.Omega.{arith}
+use native.Mathlib.Nat.{not-suc-le-zero, eq-or-lt-of-le, le-of-suc-le-suc}
+use lib.Dec.{eqb}
+use lib.ListN.{length, getD, replicate, length-replicate, getD-replicate}
+use lib.Seq.{getD-set-same, getD-set-other}
+use Rattle.folds.specs.Bytes.{placedBelow}
+use Rattle.folds.proofs.Arrays.{by-eq, placed-length, placed-at, stampedBelow, stamped-length}
+use Rattle.analysis_hold_times.specs.Holds.{cell, Cells}
+use Rattle.analysis_hold_times.specs.Inner.{Row}
+
+-- what a choice is at most
+pick-le : (b : Bool) {x y m : ℕ} → x ≤ m → y ≤ m → cond b x y ≤ m
+pick-le true p q = p
+pick-le false p q = q
+
+pub chosen-le : (b : Bool) {r x y m : ℕ} → r ≡ cond b x y → x ≤ m → y ≤ m → r ≤ m
+chosen-le b e p q = rw e (pick-le b p q)
+
+pub plus-same : (u : ℕ) {x y : ℕ} → x ≡ y → u + x ≡ u + y
+plus-same u e = rw e
+
+pub minus-same : (u : ℕ) {x y : ℕ} → x ≡ y → u - x ≡ u - y
+minus-same u e = rw e
+
+-- a table's figure for resource q, whose number is r
+pub cell-at : (f : ℕ → ℕ → ℕ) (t : List ℕ) {j q r : ℕ} → Cells f t → r ≡ q → j < 64 → q < 16 → getD t (cell j r) 0 ≡ f j q
+cell-at f t {j} {q} c e a b = rw e (c .at j q a b)
+
+-- a row is made
+pub row-done : (n : ℕ) (f : ℕ → ℕ) (l : List ℕ) {m : List ℕ} → n ≡ 16 → length l ≡ 16 → m ≡ placedBelow n f l → Row f m
+row-done n f l e s h =
+    rw (h, e) (record { long = placed-length 16 f l ∙ s; at = λ q lq. placed-at 16 q f l 0 lq (omega (arith, s)) })
+
+-- a row of zeros, and two figures that agree
+pub row-zeros : (f : ℕ → ℕ) → ((q : ℕ) → q < 16 → f q ≡ 0) → Row f (replicate 16 0)
+row-zeros f h = record { long = length-replicate {A = ℕ} 16 0; at = λ q l. rw (h q l) (getD-replicate {A = ℕ} 16 q 0 0 l) }
+
+pub row-same : (f g : ℕ → ℕ) {t : List ℕ} → Row f t → ((q : ℕ) → q < 16 → f q ≡ g q) → Row g t
+row-same f g r h = record { long = r .long; at = λ q l. r .at q l ∙ h q l }
+
+-- the table with the figures below n of a row put down as row i
+abbrev pub setBelow : ℕ → List ℕ → ℕ → List ℕ → List ℕ
+setBelow n row i table = stampedBelow n (λ q. i * 16 + q) (λ q. getD row q 0) table
+
+set-own : (n : ℕ) (row : List ℕ) (i : ℕ) (table : List ℕ) (q : ℕ) → i * 16 + 16 ≤ length table → n ≤ 16 → q < n → getD (setBelow n row i table) (cell i q) 0 ≡ getD row q 0
+unfolding stampedBelow
+set-own zero row i table q s ln l = absurd (not-suc-le-zero l)
+set-own (suc n) row i table q s ln l =
+    ⊎-elim
+    (λ e. rw e (getD-set-same (setBelow n row i table) (i * 16 + n) (getD row n 0) 0 (rw stamped-length (omega arith))))
+    (λ lt. getD-set-other (setBelow n row i table) (i * 16 + n) (i * 16 + q) (getD row n 0) 0 (λ e. omega arith) ∙ set-own n row i table q s (omega arith) lt)
+    (eq-or-lt-of-le (le-of-suc-le-suc l))
+
+set-other : (n : ℕ) (row : List ℕ) (i : ℕ) (table : List ℕ) (j q : ℕ) → (j ≡ i → ⊥) → n ≤ 16 → q < 16 → getD (setBelow n row i table) (cell j q) 0 ≡ getD table (cell j q) 0
+unfolding stampedBelow
+set-other zero row i table j q d ln l = refl
+set-other (suc n) row i table j q d ln l =
+    getD-set-other (setBelow n row i table) (i * 16 + n) (cell j q) (getD row n 0) 0 (λ e. d (omega arith))
+    ∙ set-other n row i table j q d (omega arith) l
+
+pub set-done : (n : ℕ) (row : List ℕ) (i : ℕ) (table : List ℕ) {m : List ℕ} → m ≡ setBelow n row i table → n ≡ 16 → i * 16 + 16 ≤ length table
+    → (length m ≡ length table) × ((j q : ℕ) → q < 16 → getD m (cell j q) 0 ≡ cond (eqb j i) (getD row q 0) (getD table (cell j q) 0))
+set-done n row i table {m} h e s = (rw h (stamped-length n _ _ table), λ j q lq. rw h (one j q lq))
+  where
+    one : (j q : ℕ) → q < 16 → getD (setBelow n row i table) (cell j q) 0 ≡ cond (eqb j i) (getD row q 0) (getD table (cell j q) 0)
+    one j q lq =
+        by-eq (λ (b : Bool). getD (setBelow n row i table) (cell j q) 0 ≡ cond b (getD row q 0) (getD table (cell j q) 0)) j i
+        (λ f. rw f (set-own n row i table q s (omega arith) (omega arith)))
+        (λ d. set-other n row i table j q d (omega arith) lq)

@@ -1,0 +1,15 @@
+-- Half of the tasks after the other, in a table of zeros.
+use native.Mathlib.Omega.{arith}
+use borrow.Author.Needs.{needs}
+use Rattle.analysis_hold_times.proofs.Tops.{tops-none}
+use Rattle.analysis_hold_times.proofs.tops_table.Statement.{statement}
+use Rattle.analysis_hold_times.proofs.tops_table.Tie as tie
+
+half-tops-requires : tie.Need-half-tops-requires
+half-tops-requires c κs = let h = c .before .before .before .pre in (h .0, tops-none _, h .1, h .2, omega arith)
+
+pub tops-table-spec : {M : Type 1} → statement M
+tops-table-spec =
+    tie.close
+    (tie.spec
+    (λ c. search needs) half-tops-requires (λ c. search needs) (λ c κs. search needs) (λ c. search needs))

@@ -1,0 +1,47 @@
+-- The invariant: `sum` is that of the processors passed, each of at most 16 bits.
+use Prim.Native.Nat.{_+_, _*_, _-_, _<_, _≤_}
+use mathlib.Core.Path.{_≡_, refl}
+use native.Mathlib.Omega.{arith}
+use borrow.Author.Needs.{needs}
+use Rattle.folds.specs.Below.{sumBelow}
+use Rattle.plan_reading.specs.Plan.{planOf}
+use Rattle.plan_reading.proofs.Laws.{valid-plan}
+use Rattle.analysis_hold_times.proofs.Waits.{othersBelow, others-step, others-done}
+use Rattle.analysis_hold_times.proofs.wait_in.Statement.{statement}
+use Rattle.analysis_hold_times.proofs.wait_in.Tie as tie
+
+abbrev Inv-loop : tie.InvT-loop
+Inv-loop file budgets k q m sum₀ l₀ sum l = (l ≤ m) × (m ≤ 8) × (sum ≡ othersBelow (planOf file) k q l) × (sum ≤ l * 65535)
+
+abbrev μ-loop : tie.MeasureT-loop
+μ-loop file budgets k q m sum₀ l₀ sum l = m - l
+
+loop-holds : tie.Need-loop-holds Inv-loop μ-loop
+unfolding sumBelow
+loop-holds c =
+    let v = valid-plan _ (c .before .before .before .before .pre .0) in
+    (omega arith, omega (arith, v .processors), refl, omega arith)
+
+shared-slice-read-budget : tie.Need-shared-slice-read-budget Inv-loop μ-loop
+shared-slice-read-budget c = omega (arith, c .before .before .before .before .before .before .before .before .pre .1 .long)
+
+loop-again : tie.Need-loop-again Inv-loop μ-loop
+loop-again c =
+    let a = c .before .before .before .before .before .before .before .before .before in
+    let l = c .before .before .before .before .loop in
+    let own = c .before .before .wide2 .ensures .0 in
+    (omega arith, l .inv .1, others-step _ _ _ _ _ (a .pre .1) own (omega arith) (a .pre .2) (l .inv .2) (c .chosen .ensures), omega arith)
+
+returns : tie.Need-returns Inv-loop μ-loop
+returns c =
+    let l = c .before .loop in
+    let w = c .before .before .wide .ensures .0 in
+    (others-done _ _ _ (l .l) (omega (arith, w, c .before .before .before .counts .ensures .0)) (l .inv .2), omega arith)
+
+pub wait-in-spec : {M : Type 1} → statement M
+wait-in-spec =
+    tie.close
+    (tie.spec
+    Inv-loop μ-loop (λ c κs. search needs) (λ c κs. search needs) loop-holds (λ c κs. search needs) (λ c. omega arith)
+    (λ c. omega arith) (λ c. omega arith) shared-slice-read-budget (λ c κs. search needs) (λ c. omega arith) (λ c. omega arith)
+    (λ c. omega arith) (λ c. omega arith) loop-again returns)

@@ -1,0 +1,95 @@
+-- The invariant: the tasks below j that are above task i are counted and packed.
+use Prim.Native.Nat.{_≤_, _-_}
+use mathlib.Core.Path.{_≡_, sym, ap, _∙_}
+use mathlib.Core.Logic.{⊎-elim}
+use native.Mathlib.Omega.{arith}
+use Rattle.plan_rules.specs.declared.TaskRow.{TaskRow}
+use Rattle.plan_reading.specs.Plan.{planOf}
+use Rattle.plan_reading.proofs.Laws.{valid-plan}
+use Rattle.tables.proofs.Places.{table-above}
+use Rattle.analysis_requirements.proofs.Demand.{Above, above-none, above-few, above-taken, above-skipped, above-done}
+use Rattle.analysis_requirements.proofs.higher_tasks.Statement.{statement}
+use Rattle.analysis_requirements.proofs.higher_tasks.Tie as tie
+
+abbrev Inv-loop : tie.InvT-loop
+Inv-loop file tasks i n mine count₀ periods₀ times₀ j₀ count periods times j =
+    (j ≤ n) × (n ≡ planOf file .tasks) × (n ≤ 64) × Above (planOf file) i j count periods times
+
+abbrev μ-loop : tie.MeasureT-loop
+μ-loop file tasks i n mine count₀ periods₀ times₀ j₀ count periods times j = n - j
+
+counts-requires : tie.Need-counts-requires Inv-loop μ-loop
+counts-requires c κs = c .before .before .pre .0
+
+wide-requires : tie.Need-wide-requires Inv-loop μ-loop
+wide-requires c κs = tt
+
+add-mine : tie.Need-add-mine Inv-loop μ-loop
+add-mine c =
+    let a = c .before .before .before .before in
+    omega (arith, valid-plan _ (a .pre .0) .tasks)
+
+mul-mine : tie.Need-mul-mine Inv-loop μ-loop
+mul-mine c =
+    let a = c .before .before .before .before in
+    omega (arith, valid-plan _ (a .pre .0) .tasks)
+
+shared-slice-read-mine : tie.Need-shared-slice-read-mine Inv-loop μ-loop
+shared-slice-read-mine c =
+    let a = c .before .before .before .before .before in
+    omega (arith, a .pre .1 .long, valid-plan _ (a .pre .0) .tasks)
+
+loop-holds : tie.Need-loop-holds Inv-loop μ-loop
+loop-holds c =
+    let a = c .before .before .before .before .before in
+    let e = c .before .wide .ensures .0 ∙ c .before .before .counts .ensures .1 in
+    (omega arith, e, omega (arith, e, valid-plan _ (a .pre .0) .tasks), above-none _ _)
+
+shared-slice-read-place : tie.Need-shared-slice-read-place Inv-loop μ-loop
+shared-slice-read-place c = omega (arith, c .before .before .before .before .before .before .before .before .pre .1 .long)
+
+task-requires : tie.Need-task-requires Inv-loop μ-loop
+task-requires c κs = (c .before .before .before .before .before .before .before .before .before .pre .0, omega arith)
+
+mul-periods : tie.Need-mul-periods Inv-loop μ-loop
+mul-periods c = omega (arith, above-few (c .before .before .before .before .before .loop .inv .3))
+
+array-write-periods : tie.Need-array-write-periods Inv-loop μ-loop
+array-write-periods c = omega (arith, above-few (c .before .before .before .before .before .loop .inv .3))
+
+mul-times : tie.Need-mul-times Inv-loop μ-loop
+mul-times c = omega (arith, above-few (c .before .before .before .before .before .before .loop .inv .3))
+
+array-write-times : tie.Need-array-write-times Inv-loop μ-loop
+array-write-times c = omega (arith, above-few (c .before .before .before .before .before .before .loop .inv .3))
+
+add-count : tie.Need-add-count Inv-loop μ-loop
+add-count c = omega (arith, above-few (c .before .before .before .before .before .before .loop .inv .3))
+
+loop-again : tie.Need-loop-again Inv-loop μ-loop
+loop-again c =
+    let l = c .before .before .before .loop in
+    let a = c .before .before .before .before .before .before .before .before .before in
+    let test = table-above (planOf (a .args .file .now)) (valid-plan _ (a .pre .0)) (a .args .tasks .now) (a .pre .1) (a .args .i) (l .j) (a .pre .2) (omega arith) in (
+      omega arith,
+      l .inv .1,
+      l .inv .2,
+      ⊎-elim
+          (λ t. rw (t .4, t .5, t .6) (above-taken (l .inv .3) (sym test ∙ t .0 .taken) (ap (λ (r : TaskRow). r .period) (t .1 .ensures)) (ap (λ (r : TaskRow). r .execution) (t .1 .ensures))))
+          (λ t. rw (t .1, t .2, t .3) (above-skipped (l .inv .3) (sym test ∙ t .0 .left)))
+          (c .if1 .came),
+    )
+
+returns : tie.Need-returns Inv-loop μ-loop
+returns c =
+    let l = c .before .loop in
+    let d = above-done (l .inv .3) {k = planOf (c .before .before .before .before .before .before .before .args .file .now) .tasks} (omega arith) in
+    (d .count, d .periods, d .times)
+
+pub higher-tasks-spec : {M : Type 1} → statement M
+higher-tasks-spec =
+    tie.close
+    (tie.spec
+    Inv-loop μ-loop counts-requires wide-requires add-mine mul-mine shared-slice-read-mine loop-holds (λ c. omega arith)
+    (λ c. omega arith) shared-slice-read-place task-requires (λ c. omega arith) mul-periods array-write-periods (λ c. omega arith)
+    mul-times array-write-times add-count (λ c. omega arith) (λ c. omega arith) loop-again returns)

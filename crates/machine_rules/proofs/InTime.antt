@@ -1,0 +1,27 @@
+-- What `Within` says of a list of calls: the event occurs in the calls up to the tick that fills the limit, that tick included.
+use Prim.Native.Nat.{ℕ, _-_, _<_}
+use mathlib.Core.Bool.{true, cond, or-true}
+use mathlib.Core.List.{List, [], _∷_, _++_}
+use mathlib.Core.Path.{_≡_}
+use native.Mathlib.Omega.{arith}
+use borrow.Author.Tests.{ne-eqb}
+use lib.Dec.{eqb}
+use Rattle.plan_reading.specs.Plan.{Plan}
+use Rattle.machine_rules.specs.declared.Call.{Call}
+use Rattle.machine_rules.specs.Machine.{View, step, after}
+use Rattle.machine_rules.specs.Waiting.{isTick, ticks, Event, occurs, Within}
+
+-- the calls up to tick n, n from 1
+abbrev pub upTo : ℕ → List Call → List Call
+upTo n [] = []
+upTo n (c ∷ cs) = cond (eqb n 0) [] (c ∷ upTo (n - isTick c) cs)
+
+module _ (p : Plan) (e : Event p) where
+  occurs-soon : (s : View) (early : List Call) (c : Call) (late : List Call) (n : ℕ) → ticks early < n → e (after p s early) c ≡ true
+      → occurs p e s (upTo n (early ++ (c ∷ late))) ≡ true
+  occurs-soon s [] c late n l h = rw (ne-eqb n 0 (λ z. omega arith), h)
+  occurs-soon s (d ∷ early) c late n l h =
+      rw (ne-eqb n 0 (λ z. omega arith), occurs-soon (step p s d) early c late (n - isTick d) (omega arith) h) (or-true (e s d))
+
+  pub within-occurs : {s : View} {cs : List Call} {n : ℕ} → Within p e s cs n → occurs p e s (upTo n cs) ≡ true
+  within-occurs {s} {cs} {n} w = rw (w .split) (occurs-soon s (w .early) (w .call) (w .late) n (omega (arith, w .soon)) (w .happens))

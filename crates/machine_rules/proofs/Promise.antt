@@ -1,0 +1,67 @@
+-- The promise of Waiting.antt holds for every valid plan, every list of calls and every start.
+use Prim.Native.Nat.{ℕ}
+use mathlib.Core.Bool.{Bool, true, false, cond, true≢false}
+use mathlib.Core.List.{List, [], _∷_, _++_}
+use mathlib.Core.Path.{_≡_, refl, ap, _∙_}
+use borrow.Author.Tests.{eq-eqb}
+use Rattle.folds.proofs.Arrays.{by-eq}
+use Rattle.plan_reading.specs.Plan.{Plan, Valid}
+use Rattle.analysis_equations.specs.Questions.{taskNumber}
+use Rattle.queue_rules.specs.Rules.{Line, line, inLine, waiting, entered, aheadIn, limit}
+use Rattle.queue_rules.proofs.Waiting.{entered-stands, entered-waits, entered-ahead}
+use Rattle.machine_rules.specs.declared.Answer.the-variants.{Waits, Refused}
+use Rattle.machine_rules.specs.declared.Call.{Call}
+use Rattle.machine_rules.specs.declared.Call.the-variants.{Request}
+use Rattle.machine_rules.specs.Machine.{View, terms, callCode, requestTold, told, effect, step, answer, after}
+use Rattle.machine_rules.specs.Waiting.{TaskKept, afterCall, Asked, Served}
+use Rattle.machine_rules.proofs.SoundLines.{SoundLines, accepted}
+use Rattle.machine_rules.proofs.OnceLines.{Orderly, orderly-after}
+use Rattle.machine_rules.proofs.Bounds.{served-from}
+use Rattle.machine_rules.proofs.Since.{after-last, each-task, each-core}
+
+module _ (p : Plan) where
+  -- task i waits in l, at most so long
+  record WaitsIn (i q : ℕ) (l : Line) (most : ℕ) : Type 0 where
+    waits : waiting i l ≡ true
+    bound : limit (terms p q) i (aheadIn (terms p q) i l) ≡ most
+
+  told-waits : (i q : ℕ) (l : Line) (a m : ℕ) → inLine i l ≡ false → requestTold p i q l ≡ Waits a m → WaitsIn i q (entered (terms p q) i l) m
+  told-waits i q (line h b []) a m new e = absurd (true≢false cc)
+  told-waits i q (line h b (x ∷ rest)) a m new e =
+      record {
+        waits = rw (entered-stands (terms p q) i h b (x ∷ rest), entered-waits (terms p q) i h b x rest new);
+        bound = ap (limit (terms p q) i) (entered-ahead (terms p q) i h b (x ∷ rest) new) ∙ cc;
+      }
+
+  request-waits : (s : View) (tag q a m : ℕ) → answer p s (Request tag q) ≡ Waits a m → WaitsIn (taskNumber p tag) q (step p s (Request tag q) .lines q) m
+  unfolding answer step
+  request-waits s tag q a m =
+      let i : ℕ = taskNumber p tag in
+      let c : Call = Request tag q in
+      by-eq (λ (d : Bool). cond d (told p s c) (Refused (callCode p s c)) ≡ Waits a m → WaitsIn i q (cond d (effect p s c) s .lines q) m) (callCode p s c) 0
+      (λ e x. rw (eq-eqb q q refl) (told-waits i q (s .lines q) a m (accepted p s tag q e .new) x))
+      (λ n x. absurd (true≢false cc))
+
+module _ (p : Plan) (v : Valid p) (s : View) (o : Orderly p s) where
+  -- lines that are sound wherever the list has come
+  later : (cs : List Call) → SoundLines p (after p s cs)
+  later cs = orderly-after p v s cs o .sound
+
+  asked-kept : {calls : List Call} (tag q : ℕ) (w : Asked p s calls tag q)
+      → TaskKept p (taskNumber p tag) q (afterCall p s (w .before) (Request tag q)) (w .since) (w .limit)
+  asked-kept tag q w =
+      let here : View = afterCall p s (w .before) (Request tag q) in
+      let x : WaitsIn p (taskNumber p tag) q (here .lines q) (w .limit) =
+      rw (after-last p s (w .before) (Request tag q)) (request-waits p (after p s (w .before)) tag q (w .ahead) (w .limit) (w .told)) in
+      rw (x .bound) at (served-from p v here (later (w .before ++ (Request tag q ∷ []))) (w .since) .task (taskNumber p tag) q (x .waits))
+
+  -- the promise for a list of calls
+  pub all-served : (calls : List Call) → Served p s calls
+  all-served calls =
+      record {
+        asked = asked-kept;
+        sent = λ k q w. served-from p v (afterCall p s (w .before) (w .call)) (later (w .before ++ (w .call ∷ []))) (w .since) .core k q (w .went);
+        start = served-from p v s (o .sound) calls;
+        each-task = each-task p v s calls o;
+        each-core = each-core p v s calls o;
+      }

@@ -1,0 +1,118 @@
+-- Document 01, "The machine": the lines of all resources, and what a call does to them. A state is here what it shows.
+use Prim.Native.Nat.{ℕ}
+use mathlib.Core.Bool.{Bool, true, false, cond, _&&_}
+use mathlib.Core.List.{List, [], _∷_}
+use lib.Dec.{eqb, ltb}
+use lib.ListN.{length}
+use Rattle.folds.specs.Below.{anyBelow}
+use Rattle.folds.specs.Words.{wordBelow}
+use Rattle.plan_reading.specs.Plan.{Plan}
+use Rattle.plan_reading.specs.Reading.{Told}
+use Rattle.analysis_equations.specs.Sharing.{processorOf}
+use Rattle.analysis_equations.specs.HoldTimes.{holdAt, budget, waitTime}
+use Rattle.analysis_equations.specs.Questions.{taskNumber, useCode}
+use Rattle.queue_rules.specs.Rules.{Terms, turn, Line, line, free, inLine, holds, tasksOf, entered, released, cut, ticked, limit}
+use Rattle.machine_rules.specs.declared.Call.{Call}
+use Rattle.machine_rules.specs.declared.Call.the-variants.{Request, Release, Tick}
+use Rattle.machine_rules.specs.declared.Answer.{Answer}
+use Rattle.machine_rules.specs.declared.Answer.the-variants.{Granted, Waits, Next, Free, Ticked, Refused}
+
+-- the line of each resource
+abbrev pub Lines : Type 0
+Lines = ℕ → Line
+
+-- what a state shows: the lines
+pub record View : Type 0 where
+  pub lines : Lines
+
+-- "A fresh state has nobody in line."
+abbrev pub fresh : View
+fresh = record { lines = λ q. free }
+
+-- the lines with that of q changed by f
+abbrev pub change : Lines → ℕ → (Line → Line) → Lines
+change s q f r = cond (eqb r q) (f (s r)) (s r)
+
+-- somebody holds the resource: its processor queue is not empty
+abbrev pub held : Line → Bool
+held (line h b []) = false
+held (line h b (x ∷ rest)) = true
+
+module _ (p : Plan) where
+  -- what governs the line of q: the definitions of the analysis
+  abbrev pub terms : ℕ → Terms
+  terms q =
+      record { processor = processorOf p; hold = λ i. holdAt p i q; budget = λ k. budget p k q; wait = λ k. waitTime p k q }
+
+  -- task i "holds or waits for (is in line for)" some resource
+  unfoldable pub busy : View → ℕ → Bool
+  busy s i = anyBelow (p .resources) (λ q. inLine i (s .lines q))
+
+  -- "Request: 11, unknown tag; 12, resource ≥ R; 13, no section of the task on it; 14, local; 15, the task already holds or waits."
+  unfoldable pub requestCode : View → ℕ → ℕ → ℕ
+  requestCode s tag q = cond (eqb (useCode p tag q) 0) (cond (busy s (taskNumber p tag)) 15 0) (useCode p tag q)
+
+  -- "Release: 11; 12; 16, the task does not hold it."
+  unfoldable pub releaseCode : View → ℕ → ℕ → ℕ
+  releaseCode s tag q =
+      cond (ltb (taskNumber p tag) (p .tasks)) (cond (ltb q (p .resources)) (cond (holds (taskNumber p tag) (s .lines q)) 0 16) 12) 11
+
+  -- "A start, a tick and the question of admission refuse nothing further."
+  abbrev pub callCode : View → Call → ℕ
+  callCode s (Request tag q) = requestCode s tag q
+  callCode s (Release tag q) = releaseCode s tag q
+  callCode s Tick = 0
+
+  -- what a call does that is not refused. "Resources do not affect each other in a tick."
+  abbrev pub effect : View → Call → View
+  effect s (Request tag q) = record { lines = change (s .lines) q (entered (terms q) (taskNumber p tag)) }
+  effect s (Release tag q) = record { lines = change (s .lines) q (released (terms q)) }
+  effect s Tick = record { lines = λ q. ticked (terms q) (s .lines q) }
+
+  -- what a call does: "The state is unchanged" where it is refused
+  unfoldable pub step : View → Call → View
+  step s c = cond (eqb (callCode s c) 0) (effect s c) s
+
+  -- "A request is answered "granted", or "waits" with the number of tasks ahead (of the same processor, holder included) and the
+  -- limit"
+  abbrev pub requestTold : ℕ → ℕ → Line → Answer
+  requestTold i q (line h b []) = Granted
+  requestTold i q (line h b (x ∷ rest)) =
+      Waits (length (tasksOf (processorOf p i) (x ∷ rest))) (limit (terms q) i (tasksOf (processorOf p i) (x ∷ rest)))
+
+  -- "A release is answered with the tag granted next, or "free"": the holder, once the task has left
+  abbrev pub releaseTold : Line → Answer
+  releaseTold (line h b []) = Free
+  releaseTold (line h b (turn k u us ∷ rest)) = Next (p .task u .tag)
+
+  -- the tick gives resource q a new grant: its holder is cut, and somebody holds it then
+  abbrev pub regranted : View → ℕ → Bool
+  regranted s q = cut (s .lines q) && held (ticked (terms q) (s .lines q))
+
+  -- "The tick's answer is two 16-bit words, bit q for resource q: those cut, and those with a new grant."
+  abbrev pub told : View → Call → Answer
+  told s (Request tag q) = requestTold (taskNumber p tag) q (s .lines q)
+  told s (Release tag q) = releaseTold (released (terms q) (s .lines q))
+  told s Tick = Ticked (wordBelow 16 (λ q. cut (s .lines q))) (wordBelow 16 (regranted s))
+
+  -- what a call is answered
+  unfoldable pub answer : View → Call → Answer
+  answer s c = cond (eqb (callCode s c) 0) (told s c) (Refused (callCode s c))
+
+  -- "each call gets the same plan and the state that the last one returned, refused or not"
+  abbrev pub after : View → List Call → View
+  after s [] = s
+  after s (c ∷ cs) = after (step s c) cs
+
+  -- "Who is in line, who is granted and which processor is head is told by this section's rules from the plan and the list alone"
+  abbrev pub run : List Call → View
+  run cs = after fresh cs
+
+-- document 01's number and values for each answer: the number of the refusal, 0 for none; then which answer it is, and its values
+abbrev pub answerTold : Answer → Told
+answerTold Granted = record { number = 0; values = 0 ∷ [] }
+answerTold (Waits ahead most) = record { number = 0; values = 1 ∷ ahead ∷ most ∷ [] }
+answerTold (Next tag) = record { number = 0; values = 2 ∷ tag ∷ [] }
+answerTold Free = record { number = 0; values = 3 ∷ [] }
+answerTold (Ticked cuts grants) = record { number = 0; values = 4 ∷ cuts ∷ grants ∷ [] }
+answerTold (Refused k) = record { number = k; values = [] }

@@ -1,0 +1,26 @@
+-- A sound state over ranks: what the laws of ranks ask of each line, and what is left to say of each task's row.
+use Prim.Native.Nat.{ℕ, _<_, _≤_}
+use mathlib.Core.List.{List}
+use mathlib.Core.Logic.{_⊎_}
+use mathlib.Core.Path.{_≡_}
+use Rattle.plan_reading.specs.Plan.{Plan}
+use Rattle.analysis_equations.specs.HoldTimes.{holdAt}
+use Rattle.machine_rules.specs.Machine.{terms}
+use Rattle.queue_ranks.proofs.Ranked.{Ranked, Queued, Timed}
+use Rattle.machine_state.specs.declared.Standing.{Standing}
+use Rattle.machine_state.specs.declared.Line.{Line}
+use Rattle.machine_state.specs.declared.State.{State}
+use Rattle.machine_state.specs.Shows.{standing, noneInLine, lineAt, slot, rank}
+
+-- the line of q, with the tasks' rows
+pub record Good (p : Plan) (ts : List Standing) (q : ℕ) (l : Line) : Type 0 where
+  pub small : l .queued ≤ 8
+  pub ranked : Ranked (p .tasks) (terms p q) (rank p ts q)
+  pub queued : Queued (p .tasks) (p .processors) (rank p ts q) (l .queued) (slot l)
+  pub rest : (i : ℕ) → l .queued ≤ i → i < 8 → slot l i ≡ 255
+  pub timed : Timed (p .tasks) (terms p q) (rank p ts q) (l .queued) (slot l) (l .«hold_left») (l .«budget_left»)
+
+-- the whole state
+pub record Whole (p : Plan) (s : State) : Type 0 where
+  pub rows : (u : ℕ) → u < 64 → (standing (s .tasks) u ≡ noneInLine) ⊎ (1 ≤ holdAt p u (standing (s .tasks) u .resource))
+  pub lines : (q : ℕ) → q < 16 → Good p (s .tasks) q (lineAt s q)

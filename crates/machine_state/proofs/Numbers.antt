@@ -1,0 +1,130 @@
+-- Laws of eight bytes as one number: it tells whether all of them are 0, and whether those from some place on are 255.
+use Prim.Native.Nat.{ℕ, zero, suc, _+_, _-_, _*_, _/_, _^_, _<_, _≤_}
+use mathlib.Core.Bool.{Bool, true, _||_, or-true}
+use mathlib.Core.List.{List}
+use mathlib.Core.Path.{_≡_, refl}
+use mathlib.Core.Logic.{_↔_}
+use native.Mathlib.Omega.{arith}
+use native.Mathlib.Nat.{pow-succ', div-lt-iff-lt-mul}
+use borrow.Author.Tests.{eqb-true, eq-eqb, ltb-true, lt-ltb}
+use lib.Dec.{eqb, ltb}
+use lib.ListN.{getD}
+use lib.Pow.{pow-pos, pow-add}
+use Rattle.folds.specs.Below.{allBelow}
+use Rattle.folds.specs.Bytes.{number}
+use Rattle.folds.proofs.Tests.{same-test, all-at, all-from, or-out}
+use Rattle.folds.proofs.Searches.{on-eq, on-le}
+use Rattle.machine_state.specs.Tests.{tailTest}
+
+module _ (s : List ℕ) where
+  number-more : (w at : ℕ) → number (suc w) s at ≡ getD s at 0 + 256 * number w s (at + 1)
+  unfolding number
+  number-more zero at = omega arith
+  number-more (suc w) at = refl
+
+  -- a number that is 0 has no other byte, and the other way round
+  zero-at : (w at x : ℕ) → number w s at ≡ 0 → at ≤ x → x < at + w → getD s x 0 ≡ 0
+  zero-at zero at x e l m = let bad : ⊥ = omega arith in absurd bad
+  zero-at (suc w) at x e l m =
+      on-eq (getD s x 0 ≡ 0) x at
+      (λ f. rw f (omega (arith, number-more w at)))
+      (λ f. zero-at w (at + 1) x (omega (arith, number-more w at)) (omega arith) (omega arith))
+
+  zero-from : (w at : ℕ) → ((x : ℕ) → at ≤ x → x < at + w → getD s x 0 ≡ 0) → number w s at ≡ 0
+  unfolding number
+  zero-from zero at h = refl
+  zero-from (suc w) at h =
+      omega (arith, number-more w at, h at (omega arith) (omega arith), zero-from w (at + 1) (λ x l m. h x (omega arith) (omega arith)))
+
+  pub all-zero : eqb (number 8 s 0) 0 ≡ allBelow 8 (λ k. eqb (getD s k 0) 0)
+  all-zero =
+      same-test (eqb (number 8 s 0) 0) (allBelow 8 (λ k. eqb (getD s k 0) 0))
+      (λ t. all-from 8 (λ k. eqb (getD s k 0) 0) (λ k l. eq-eqb _ 0 (zero-at 8 0 k (eqb-true _ 0 t) (omega arith) (omega arith))))
+      (λ t. eq-eqb (number 8 s 0) 0 (zero-from 8 0 (λ x l m. eqb-true _ 0 (all-at 8 x (λ k. eqb (getD s k 0) 0) t (omega arith)))))
+
+  module _ (low : (x : ℕ) → x < 8 → getD s x 0 < 256) where
+    below : (w at : ℕ) → at + w ≤ 8 → number w s at < 256 ^ w
+    unfolding number
+    below zero at h = omega arith
+    below (suc w) at h = omega (arith, number-more w at, low at (omega arith), below w (at + 1) (omega arith), pow-succ' 256 w)
+
+    -- the bytes from c on are 255 exactly when the number is within 256 ^ c of the end of its range
+    tail-at : (w c at x : ℕ) → at + w ≤ 8 → 256 ^ w ≤ number w s at + 256 ^ c → at + c ≤ x → x < at + w → getD s x 0 ≡ 255
+    tail-at zero c at x h e l m = let bad : ⊥ = omega arith in absurd bad
+    tail-at (suc w) zero at x h e l m =
+        let one = number-more w at in
+        let small = low at (omega arith) in
+        on-eq (getD s x 0 ≡ 255) x at
+        (λ f. rw f (omega (arith, below w (at + 1) (omega arith), pow-succ' 256 w)))
+        (λ f. tail-at w zero (at + 1) x (omega arith) (omega (arith, pow-succ' 256 w)) (omega arith) (omega arith))
+    tail-at (suc w) (suc c) at x h e l m =
+        let one = number-more w at in
+        let small = low at (omega arith) in
+        tail-at w c (at + 1) x (omega arith) (omega (arith, pow-succ' 256 w, pow-succ' 256 c)) (omega arith) (omega arith)
+
+    tail-from : (w c at : ℕ) → at + w ≤ 8 → c ≤ w → ((x : ℕ) → at + c ≤ x → x < at + w → getD s x 0 ≡ 255)
+        → 256 ^ w ≤ number w s at + 256 ^ c
+    tail-from zero zero at h l f = omega arith
+    tail-from zero (suc c) at h l f = let bad : ⊥ = omega arith in absurd bad
+    tail-from (suc w) zero at h l f =
+        let more = tail-from w zero (at + 1) (omega arith) (omega arith) (λ x a b. f x (omega arith) (omega arith)) in
+        omega (arith, number-more w at, f at (omega arith) (omega arith), pow-succ' 256 w)
+    tail-from (suc w) (suc c) at h l f =
+        let more = tail-from w c (at + 1) (omega arith) (omega arith) (λ x a b. f x (omega arith) (omega arith)) in
+        omega (arith, number-more w at, pow-succ' 256 w, pow-succ' 256 c)
+
+-- powers of 256 as powers of 2
+bits : (n : ℕ) → 256 ^ n ≡ 2 ^ (8 * n)
+bits zero = refl
+bits (suc n) =
+    let more : 8 * suc n ≡ 8 + 8 * n = omega arith in
+    rw (more, pow-add 2 8 (8 * n), ← bits n) (pow-succ' 256 n)
+
+power : (c : ℕ) → 1 ≤ c → 256 ^ c ≡ 256 * 2 ^ (8 * c - 8)
+power zero l = let bad : ⊥ = omega arith in absurd bad
+power (suc n) l =
+    let less : 8 * suc n - 8 ≡ 8 * n = omega arith in
+    rw (less, ← bits n) (pow-succ' 256 n)
+
+module _ (s : List ℕ) (low : (x : ℕ) → x < 8 → getD s x 0 < 256) (c : ℕ) (few : c ≤ 8) where
+  -- a test of that is the test of the slots
+  tail-tested : (b : Bool) → (b ≡ true → 18446744073709551616 ≤ number 8 s 0 + 256 ^ c)
+      → (18446744073709551616 ≤ number 8 s 0 + 256 ^ c → b ≡ true) → b ≡ tailTest s c
+  unfolding tailTest
+  tail-tested b f g = same-test b _ there back
+    where
+      test : ℕ → Bool
+      test i = ltb i c || eqb (getD s i 0) 255
+
+      there : b ≡ true → allBelow 8 test ≡ true
+      there t =
+          all-from 8 test
+          (λ i l. on-le (test i ≡ true) c i
+          (λ a. rw (eq-eqb _ 255 (tail-at s low 8 c 0 i (omega arith) (f t) (omega arith) (omega arith))) (or-true (ltb i c)))
+          (λ a. rw (lt-ltb i c a)))
+
+      back : allBelow 8 test ≡ true → b ≡ true
+      back t =
+          g (tail-from s low 8 c 0 (omega arith) few
+          (λ x l m. or-out (ltb x c) (eqb (getD s x 0) 255) (getD s x 0 ≡ 255) (all-at 8 x test t (omega arith))
+          (λ e. let a = ltb-true x c e in let bad : ⊥ = omega arith in absurd bad)
+          (λ e. eqb-true _ 255 e)))
+
+  -- for c = 0 by the number itself, and else by how far it is from the largest, without the last c - 1 bytes of that
+  pub whole-tail : c ≡ 0 → eqb (number 8 s 0) 18446744073709551615 ≡ tailTest s c
+  whole-tail z =
+      let one : 256 ^ c ≡ 1 = rw z in
+      tail-tested (eqb (number 8 s 0) 18446744073709551615)
+      (λ t. omega (arith, eqb-true (number 8 s 0) 18446744073709551615 t))
+      (λ h. eq-eqb (number 8 s 0) 18446744073709551615 (omega (arith, below s low 8 0 (omega arith))))
+
+  pub part-tail : 1 ≤ c → ltb ((18446744073709551615 - number 8 s 0) / 2 ^ (8 * c - 8)) 256 ≡ tailTest s c
+  part-tail some =
+      let k : ℕ = 2 ^ (8 * c - 8) in
+      let taken : ℕ = 18446744073709551615 - number 8 s 0 in
+      let pos : 0 < k = pow-pos (8 * c - 8) in
+      let e : 256 ^ c ≡ 256 * k = power c some in
+      let iff : (taken / k < 256) ↔ (taken < 256 * k) = div-lt-iff-lt-mul pos in
+      tail-tested (ltb (taken / k) 256)
+      (λ t. omega (arith, iff .0 (ltb-true (taken / k) 256 t)))
+      (λ h. lt-ltb (taken / k) 256 (iff .1 (omega arith)))

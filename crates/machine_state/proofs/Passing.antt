@@ -1,0 +1,83 @@
+-- The queue of a resource by what is left of its processors' first seats, what a test that has passed tells of its head, and the
+-- row of a free resource.
+use Prim.Native.Nat.{ℕ, zero, suc, _<_, _≤_}
+use mathlib.Core.Bool.{Bool, true, false, cond, _&&_, _||_, not, and-true, and-false, and-assoc, or-true, or-false}
+use mathlib.Core.List.{List}
+use mathlib.Core.Path.{_≡_, refl, sym, ap, _∙_}
+use native.Mathlib.Omega.{arith}
+use borrow.Author.Tests.{ltb-true, leb-true, lt-ltb, le-ltb}
+use lib.Dec.{eqb, leb, ltb}
+use lib.ListN.{length, getD, set, replicate, length-replicate}
+use lib.Seq.{getD-set-same, getD-set-other}
+use Rattle.folds.specs.Below.{allBelow, anyBelow}
+use Rattle.folds.specs.Bytes.{number, placedBelow}
+use Rattle.folds.proofs.Tests.{and-parts, all-at, all-same}
+use Rattle.folds.proofs.Arrays.{by-eq, placed-length, placed-at, stampedBelow, stamped-length}
+use Rattle.machine_state.specs.declared.Line.{Line}
+use Rattle.machine_state.specs.Tests.{firstSeat, stands, tailTest, slotTest, coreTest, queueTest, clockTest, freeTest, lineTest}
+use Rattle.machine_state.proofs.Numbers.{all-zero}
+
+-- what stands at x of a list in which the numbers f k with k below n are struck off
+struck-at : (n : ℕ) (f : ℕ → ℕ) (l : List ℕ) (x : ℕ) → x < length l
+    → getD (stampedBelow n f (λ k. 0) l) x 0 ≡ cond (anyBelow n (λ k. eqb (f k) x)) 0 (getD l x 0)
+unfolding stampedBelow anyBelow
+struck-at zero f l x h = refl
+struck-at (suc n) f l x h =
+    let g : List ℕ = stampedBelow n f (λ k. 0) l in
+    let a : Bool = anyBelow n (λ k. eqb (f k) x) in
+    by-eq (λ (b : Bool). getD (set g (f n) 0) x 0 ≡ cond (a || b) 0 (getD l x 0)) (f n) x
+    (λ e. rw (e, or-true) (getD-set-same g x 0 0 (rw stamped-length h)))
+    (λ d. getD-set-other g (f n) x 0 0 (λ e. d (sym e)) ∙ struck-at n f l x h ∙ ap (λ (b : Bool). cond b 0 (getD l x 0)) (sym (or-false a)))
+
+module _ (seats : List ℕ) (q : ℕ) (queue : List ℕ) where
+  -- the first seats of the processors that stand in none of the first n slots, 0 for the others
+  abbrev pub restBelow : ℕ → List ℕ
+  restBelow n = stampedBelow n (λ i. getD queue i 0) (λ i. 0) (placedBelow 8 (firstSeat seats q) (replicate 8 0))
+
+  rest-at : (n k : ℕ) → k < 8 → getD (restBelow n) k 0 ≡ cond (stands queue n k) 0 (firstSeat seats q k)
+  rest-at n k l =
+      struck-at n (λ i. getD queue i 0) (placedBelow 8 (firstSeat seats q) (replicate 8 0)) k (rw (placed-length, length-replicate) l)
+      ∙ ap (λ (x : ℕ). cond (stands queue n k) 0 x)
+      (placed-at 8 k (firstSeat seats q) (replicate 8 0) 0 l (rw length-replicate (omega arith)))
+
+  -- the test of a slot by them
+  pub slot-high : (i : ℕ) → 8 ≤ getD queue i 0 → slotTest seats q queue i ≡ false
+  unfolding slotTest
+  slot-high i h = rw (le-ltb (getD queue i 0) 8 h)
+
+  pub slot-is : (i k : ℕ) {rest : List ℕ} → k ≡ getD queue i 0 → k < 8 → rest ≡ restBelow i → slotTest seats q queue i ≡ leb 1 (getD rest k 0)
+  unfolding slotTest
+  slot-is i k e l r = rw (r, ← e, lt-ltb k 8 l, rest-at i k l) (struck (stands queue i k) (firstSeat seats q k))
+    where
+      struck : (b : Bool) (x : ℕ) → (leb 1 x && not b) ≡ leb 1 (cond b 0 x)
+      struck true x = and-false (leb 1 x)
+      struck false x = and-true (leb 1 x)
+
+  -- and of the processors
+  pub cores-are : (c : ℕ) → eqb (number 8 (restBelow c) 0) 0 ≡ allBelow 8 (coreTest seats q queue c)
+  unfolding coreTest
+  cores-are c =
+      all-zero (restBelow c)
+      ∙ all-same 8 (λ k. eqb (getD (restBelow c) k 0) 0) (coreTest seats q queue c)
+      (λ k l. rw (rest-at c k l) (struck (stands queue c k) (firstSeat seats q k)))
+    where
+      struck : (b : Bool) (x : ℕ) → eqb (cond b 0 x) 0 ≡ (eqb x 0 || b)
+      struck true x = sym (or-true (eqb x 0))
+      struck false x = sym (or-false (eqb x 0))
+
+  -- the head of a queue that passes, and its first task
+  pub head-passed : (c : ℕ) → queueTest seats q queue c ≡ true → 1 ≤ c → (getD queue 0 0 < 8) × (1 ≤ firstSeat seats q (getD queue 0 0))
+  unfolding queueTest slotTest
+  head-passed c e some =
+      let p = and-parts (allBelow c (slotTest seats q queue) && tailTest queue c) _ e in
+      let d = and-parts (allBelow c (slotTest seats q queue)) _ (p .0) in
+      let a = and-parts (ltb (getD queue 0 0) 8 && leb 1 (firstSeat seats q (getD queue 0 0))) _ (all-at c 0 (slotTest seats q queue) (d .0) some) in
+      let b = and-parts (ltb (getD queue 0 0) 8) _ (a .0) in
+      (ltb-true (getD queue 0 0) 8 (b .0), leb-true 1 _ (b .1))
+
+-- the row of a free resource
+pub free-line : (holds budgets seats : List ℕ) (q : ℕ) (l : Line) → l .queued ≡ 0 → freeTest seats q l ≡ lineTest holds budgets seats q l
+unfolding freeTest lineTest queueTest coreTest clockTest allBelow anyBelow
+free-line holds budgets seats q l e =
+    rw (e, all-same 8 (λ k. eqb (firstSeat seats q k) 0 || false) (λ k. eqb (firstSeat seats q k) 0) (λ k b. or-false (eqb (firstSeat seats q k) 0)))
+    (and-assoc (tailTest (l .queue) 0 && allBelow 8 (λ k. eqb (firstSeat seats q k) 0)) (eqb (l .«hold_left») 0) (eqb (l .«budget_left») 0))

@@ -1,0 +1,111 @@
+-- A sound state shows sound lines, in which nobody stands twice.
+use Prim.Native.Nat.{ℕ, zero, suc, _+_, _<_, _≤_}
+use mathlib.Core.Bool.{Bool, true, false, true≢false}
+use mathlib.Core.List.{_∷_}
+use mathlib.Core.Path.{_≡_, refl, sym, ap, _∙_}
+use native.Mathlib.Omega.{arith}
+use borrow.Author.Tests.{eqb-true, ne-eqb}
+use lib.Dec.{eqb}
+use lib.ListN.{length, List·getD-eq-default}
+use Rattle.folds.specs.Below.{maxBelow}
+use Rattle.folds.proofs.Tests.{or-out, is-not-true}
+use Rattle.plan_reading.specs.Plan.{Plan, Valid}
+use Rattle.analysis_equations.specs.HoldTimes.{holdAt}
+use Rattle.queue_rules.specs.Rules.{Terms, line, queueOf, among, hasTurn}
+use Rattle.queue_rules.proofs.Sound.{Owns, Proper, nobody, stands, Sound, is-free, is-held}
+use Rattle.queue_rules.proofs.Once.{Once, none, more, EachOnce, empty, next}
+use Rattle.machine_rules.proofs.SoundLines.{known, SoundAt}
+use Rattle.machine_rules.proofs.OnceLines.{Orderly}
+use Rattle.queue_ranks.specs.Ranks.{listFrom, taskAt, othersOf, turnOf, queueFrom}
+use Rattle.folds.proofs.Searches.{on-le}
+use Rattle.queue_ranks.proofs.Reading.{all-tasks}
+use Rattle.queue_ranks.proofs.Ranked.{Ranked, Queued, Timed, task-rank, owner, full}
+use Rattle.machine_state.specs.declared.State.{State}
+use Rattle.machine_state.specs.Shows.{noLine, lineAt, slot, shows}
+use Rattle.machine_state.specs.Sound.{sound}
+use Rattle.machine_state.proofs.Wholes.{hold-user, whole-of}
+
+-- one of a list is one of its numbers' figures
+among-out : (i : ℕ) (f : ℕ → ℕ) (c a : ℕ) (C : Type 0) → among i (listFrom c a f) ≡ true → ((j : ℕ) → a ≤ j → j < a + c → f j ≡ i → C) → C
+unfolding listFrom
+among-out i f zero a C e h = absurd (true≢false (sym e))
+among-out i f (suc c) a C e h =
+    or-out (eqb (f a) i) (among i (listFrom c (suc a) f)) C e (λ t. h a (omega arith) (omega arith) (eqb-true (f a) i t))
+    (λ t. among-out i f c (suc a) C t (λ j p l. h j (omega arith) (omega arith)))
+
+-- a list whose figures differ has each once
+once-from : (f : ℕ → ℕ) (c a : ℕ) → ((i j : ℕ) → a ≤ i → i < j → j < a + c → f i ≡ f j → ⊥) → Once (listFrom c a f)
+unfolding listFrom
+once-from f zero a h = none
+once-from f (suc c) a h =
+    more
+    (is-not-true (among (f a) (listFrom c (suc a) f))
+    (λ m. among-out (f a) f c (suc a) ⊥ m (λ j l b e. h a j (omega arith) l (omega arith) (sym e))))
+    (once-from f c (suc a) (λ i j l b d e. h i j (omega arith) b (omega arith) e))
+
+-- nobody stands in a line over ranks twice
+module _ {n : ℕ} {t : Terms} {R : ℕ → ℕ → ℕ} (r : Ranked n t R) where
+  turn-once : (k : ℕ) → 1 ≤ maxBelow n (R k) → Once (taskAt n (R k) 1 ∷ othersOf n (R k))
+  turn-once k a = rw (all-tasks n (R k) a) (once-from (taskAt n (R k)) (maxBelow n (R k)) 1 (λ i j l b h e. differ i j l b (omega arith) e))
+    where
+      differ : (i j : ℕ) → 1 ≤ i → i < j → j ≤ maxBelow n (R k) → taskAt n (R k) i ≡ taskAt n (R k) j → ⊥
+      differ i j l b h e =
+          omega (arith, task-rank n i (R k) (full r k i l (omega arith)), task-rank n j (R k) (full r k j (omega arith) h), ap (R k) e)
+
+  each-once : {m c : ℕ} {g : ℕ → ℕ} → Queued n m R c g → (d a : ℕ) → a + d ≤ c → EachOnce (listFrom d a (λ i. turnOf n R (g i)))
+  unfolding listFrom
+  each-once w zero a b = empty
+  each-once {g = g} w (suc d) a b = next (turn-once (g a) (w .served a (omega arith))) (each-once w d (suc a) (omega arith))
+
+-- a line over ranks, for whose tasks a hold time makes them known
+module _ {n m : ℕ} {t : Terms} {R : ℕ → ℕ → ℕ} (known : ℕ → Bool) (user : (u : ℕ) → 1 ≤ t .hold u → known u ≡ true) (r : Ranked n t R) where
+  -- the tasks of a turn
+  turn-owns : (k : ℕ) → 1 ≤ maxBelow n (R k) → Owns t known m k (taskAt n (R k) 1 ∷ othersOf n (R k))
+  turn-owns k a = record {
+    each = λ i e. among-out i (taskAt n (R k)) (maxBelow n (R k)) 1 _ (ap (among i) (sym (all-tasks n (R k) a)) ∙ e)
+        (λ j p l f. let b = full r k j p (omega arith) in
+        task i j p (rw f at b) (rw f at (task-rank n j (R k) b)));
+  }
+    where
+      task : (i j : ℕ) → 1 ≤ j → i < n → R k i ≡ j → (t .processor i ≡ k) × (known i ≡ true)
+      task i j p l e =
+          let o : k ≡ t .processor i = owner r k i l (omega arith) in
+          (sym o, user i (r .uses i l (rw (← o) (omega arith))))
+
+  module _ {c : ℕ} {g : ℕ → ℕ} (w : Queued n m R c g) where
+    -- nobody behind slot x has its processor
+    no-turn : (x d a : ℕ) → x < a → a + d ≤ c → hasTurn (g x) (listFrom d a (λ i. turnOf n R (g i))) ≡ false
+    unfolding listFrom
+    no-turn x zero a l b = refl
+    no-turn x (suc d) a l b =
+        rw (ne-eqb (g a) (g x) (λ e. omega (arith, w .once a x (omega arith) (omega arith) e))) (no-turn x d (suc a) (omega arith) (omega arith))
+
+    proper : (d a : ℕ) → a + d ≤ c → Proper t known m (listFrom d a (λ i. turnOf n R (g i)))
+    unfolding listFrom
+    proper zero a b = nobody
+    proper (suc d) a b =
+        stands (w .placed a (omega arith)) (no-turn a d (suc a) (omega arith) (omega arith)) (turn-owns (g a) (w .served a (omega arith)))
+        (proper d (suc a) (omega arith))
+
+  line-sound : (c : ℕ) (g : ℕ → ℕ) (h b : ℕ) → Queued n m R c g → Timed n t R c g h b → Sound t known m (line h b (queueFrom n R c g))
+  unfolding listFrom
+  line-sound zero g h b w k = let e = k .idle refl in rw (e .0, e .1) is-free
+  line-sound (suc c) g h b w k =
+      let x = k .runs (omega arith) in
+      is-held (record { runs = x .0; lent = x .1; covered = x .2; budgeted = x .3 }) (proper w (suc c) 0 (omega arith))
+
+-- past the last line nobody stands
+pub shown-orderly : (p : Plan) → Valid p → (s : State) → length (s .lines) ≡ 16 → sound p s ≡ true → Orderly p (shows p s)
+unfolding shows listFrom
+shown-orderly p v s long h = record { sound = λ q. at q .0; once = λ q. at q .1 }
+  where
+    at : (q : ℕ) → SoundAt p q (shows p s .lines q) × EachOnce (queueOf (shows p s .lines q))
+    at q =
+        on-le (SoundAt p q (shows p s .lines q) × EachOnce (queueOf (shows p s .lines q))) 16 q
+        (λ l. rw (List·getD-eq-default (s .lines) noLine {n = q} (rw long l)) (is-free, empty))
+        (λ l. let w = whole-of p v s h .lines q l in
+        let user : (u : ℕ) → 1 ≤ holdAt p u q → known p q u ≡ true = λ u a. hold-user p v u q a in
+        let count : ℕ = lineAt s q .queued in (
+          line-sound (known p q) user (w .ranked) count (slot (lineAt s q)) (lineAt s q .«hold_left») (lineAt s q .«budget_left») (w .queued) (w .timed),
+          each-once (w .ranked) (w .queued) count 0 (omega arith),
+        ))

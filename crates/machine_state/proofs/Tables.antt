@@ -1,0 +1,169 @@
+-- Laws of the tables: the seats of the tasks, and who sits where.
+use Prim.Native.Nat.{ℕ, zero, suc, _+_, _<_, _≤_, max}
+use mathlib.Core.Bool.{Bool, true, false, cond, _&&_}
+use mathlib.Core.List.{List, [], _∷_}
+use mathlib.Core.Path.{_≡_, refl, sym, ap, _∙_}
+use mathlib.Core.Logic.{_≢_}
+use native.Mathlib.Omega.{arith}
+use native.Mathlib.Nat.{max-zero}
+use borrow.Author.Tests.{eqb-true, eq-eqb, ltb-true, lt-ltb}
+use lib.Dec.{eqb, ltb}
+use lib.ListN.{length, getD, set, replicate, length-replicate, getD-replicate}
+use lib.Seq.{getD-set-same, getD-set-other}
+use Rattle.folds.specs.Below.{maxBelow}
+use Rattle.folds.specs.Bytes.{placedBelow}
+use Rattle.folds.proofs.Tests.{and-parts, is-not-false, same-test}
+use Rattle.folds.proofs.Figures.{max-same}
+use Rattle.folds.proofs.Ranges.{max-where-bound}
+use Rattle.folds.proofs.Arrays.{by-eq, placed-length, placed-later, placed-at, placed-step, stampedBelow, stamped-length}
+use Rattle.plan_reading.specs.Plan.{Plan, Valid}
+use Rattle.analysis_equations.specs.Sharing.{processorOf}
+use Rattle.machine_state.specs.declared.Standing.{Standing}
+use Rattle.machine_state.specs.Shows.{standing, rank}
+use Rattle.machine_state.specs.Seats.{seat, keyOf, Keys, Seats}
+
+module _ (p : Plan) where
+  -- the seats of the tasks below n
+  abbrev pub keysBelow : List Standing → ℕ → List ℕ
+  keysBelow ts n = placedBelow n (λ u. keyOf (standing ts u) (processorOf p u)) (replicate 64 8192)
+
+-- who of the tasks below n sits where
+abbrev pub seatsBelow : List ℕ → ℕ → List ℕ
+seatsBelow keys n = stampedBelow n (λ u. getD keys u 0) (λ u. u + 1) (replicate 8193 0)
+
+module _ (p : Plan) (v : Valid p) where
+  pub low-processor : (u : ℕ) → u < p .tasks → processorOf p u < 8
+  low-processor u l = omega (arith, v .processors, v .task-fits u l .processor)
+
+  -- the end of the loop over the tasks
+  pub keys-done : (ts : List Standing) (n : ℕ) {t : List ℕ} → n ≡ p .tasks → t ≡ keysBelow p ts n → Keys p ts t
+  keys-done ts n e f =
+      rw (f, e)
+      (record {
+        long = placed-length (p .tasks) key (replicate 64 8192) ∙ length-replicate {A = ℕ} 64 8192;
+        at = λ u l. placed-at (p .tasks) u key (replicate 64 8192) 0 l (rw length-replicate (v .tasks));
+        rest = λ u l m. placed-later (p .tasks) u key (replicate 64 8192) 0 m ∙ getD-replicate {A = ℕ} 64 u 8192 0 l;
+      })
+    where
+      key : ℕ → ℕ
+      key u = keyOf (standing ts u) (processorOf p u)
+
+module _ (s : Standing) where
+  -- the row names a resource and a place
+  abbrev inLine : Bool
+  inLine = ltb (s .resource) 16 && ltb (s .place) 64
+
+  pub row-low : inLine ≡ true → (s .resource < 16) × (s .place < 64)
+  row-low t =
+      let a = and-parts (ltb (s .resource) 16) (ltb (s .place) 64) t in
+      (ltb-true (s .resource) 16 (a .0), ltb-true (s .place) 64 (a .1))
+
+  -- its seat by that test
+  pub key-at : (m : ℕ) → inLine ≡ true → keyOf s m ≡ seat (s .resource) m (s .place)
+  unfolding keyOf
+  key-at m t = rw t
+
+  pub key-off : (m : ℕ) → inLine ≡ false → keyOf s m ≡ 8192
+  unfolding keyOf
+  key-off m t = rw t
+
+  pub key-on : (m : ℕ) → keyOf s m ≢ 8192 → (s .resource < 16) × (s .place < 64)
+  key-on m n = row-low (is-not-false inLine (λ t. n (key-off m t)))
+
+-- a turn that puts nothing down, where it would put down what stands there
+set-own : (l : List ℕ) (i : ℕ) → set l i (getD l i 0) ≡ l
+set-own [] i = refl
+set-own (x ∷ l) zero = refl
+set-own (x ∷ l) (suc i) = ap (λ (m : List ℕ). x ∷ m) (set-own l i)
+
+pub placed-skip : (n : ℕ) (f : ℕ → ℕ) (l : List ℕ) {m : List ℕ} → m ≡ placedBelow n f l → f n ≡ getD l n 0 → m ≡ placedBelow (n + 1) f l
+placed-skip n f l {m} e same =
+    let own : f n ≡ getD m n 0 = rw (e, placed-later n n f l 0 (omega arith)) same in
+    sym (set-own m n) ∙ placed-step n f l e (sym own)
+
+-- a task of processor m with this row stands in place j of k's queue for q
+abbrev pub Stands : Standing → ℕ → ℕ → ℕ → ℕ → Type 0
+Stands s m q k j = (m ≡ k) × (s .resource ≡ q) × (s .place ≡ j)
+
+-- its seat tells that, and so does its rank
+pub key-in : (s : Standing) (m q k j : ℕ) → q < 16 → j < 64 → Stands s m q k j → keyOf s m ≡ seat q k j
+unfolding keyOf
+key-in s m q k j lq lj h = rw (h .0, h .1, h .2, lt-ltb q 16 lq, lt-ltb j 64 lj)
+
+key-out : (s : Standing) (m q k j : ℕ) → m < 8 → k < 8 → q < 16 → j < 64 → keyOf s m ≡ seat q k j → Stands s m q k j
+unfolding keyOf
+key-out s m q k j lm lk lq lj h = go (ltb (s .resource) 16) (ltb (s .place) 64) refl h
+  where
+    go : (a b : Bool) → ltb (s .place) 64 ≡ b → cond (a && b) (seat (s .resource) m (s .place)) 8192 ≡ seat q k j → Stands s m q k j
+    go true true t e = let l = ltb-true (s .place) 64 t in (omega arith, omega arith, omega arith)
+    go true false t e = let bad : ⊥ = omega arith in absurd bad
+    go false b t e = let bad : ⊥ = omega arith in absurd bad
+
+module _ (p : Plan) (ts : List Standing) where
+  pub rank-in : (q k j u : ℕ) → Stands (standing ts u) (processorOf p u) q k j → rank p ts q k u ≡ j + 1
+  unfolding rank
+  rank-in q k j u h = rw (h .0, h .1, h .2, eq-eqb k k refl, eq-eqb q q refl)
+
+  pub rank-out : (q k j u : ℕ) → rank p ts q k u ≡ j + 1 → Stands (standing ts u) (processorOf p u) q k j
+  unfolding rank
+  rank-out q k j u h = go (eqb (processorOf p u) k) (eqb (standing ts u .resource) q) refl refl h
+    where
+      go : (a b : Bool) → eqb (processorOf p u) k ≡ a → eqb (standing ts u .resource) q ≡ b → cond (a && b) (standing ts u .place + 1) 0 ≡ j + 1 → Stands (standing ts u) (processorOf p u) q k j
+      go true true own on e = (eqb-true _ _ own, eqb-true _ _ on, omega arith)
+      go true false own on e = let bad : ⊥ = omega arith in absurd bad
+      go false b own on e = let bad : ⊥ = omega arith in absurd bad
+
+  key-rank : (q k j u : ℕ) → processorOf p u < 8 → q < 16 → k < 8 → j < 64 → eqb (keyOf (standing ts u) (processorOf p u)) (seat q k j) ≡ eqb (rank p ts q k u) (j + 1)
+  key-rank q k j u lm lq lk lj =
+      same-test _ _
+      (λ t. eq-eqb _ _ (rank-in q k j u (key-out (standing ts u) (processorOf p u) q k j lm lk lq lj (eqb-true _ _ t))))
+      (λ t. eq-eqb _ _ (key-in (standing ts u) (processorOf p u) q k j lq lj (rank-out q k j u (eqb-true _ _ t))))
+
+key-high : (s : Standing) (m : ℕ) → m < 8 → keyOf s m < 8193
+unfolding keyOf
+key-high s m l = go (ltb (s .resource) 16) (ltb (s .place) 64) refl refl
+  where
+    go : (a b : Bool) → ltb (s .resource) 16 ≡ a → ltb (s .place) 64 ≡ b → cond (a && b) (seat (s .resource) m (s .place)) 8192 < 8193
+    go true true x y = omega (arith, ltb-true (s .resource) 16 x, ltb-true (s .place) 64 y)
+    go true false x y = omega arith
+    go false b x y = omega arith
+
+-- what stands at x is the last whose key is x, as its number plus 1
+pub stamped-last : (n m : ℕ) (f : ℕ → ℕ) (x : ℕ) → x < m → getD (stampedBelow n f (λ k. k + 1) (replicate m 0)) x 0 ≡ maxBelow n (λ k. cond (eqb (f k) x) (k + 1) 0)
+unfolding stampedBelow maxBelow
+stamped-last zero m f x l = getD-replicate m x 0 0 l
+stamped-last (suc n) m f x l =
+    let g : List ℕ = stampedBelow n f (λ k. k + 1) (replicate m 0) in
+    let s : ℕ = maxBelow n (λ k. cond (eqb (f k) x) (k + 1) 0) in
+    let ih : getD g x 0 ≡ s = stamped-last n m f x l in
+    let len : length g ≡ m = stamped-length n f (λ k. k + 1) (replicate m 0) ∙ length-replicate m 0 in
+    let low : s ≤ n = max-where-bound n n (λ k. eqb (f k) x) (λ k. k + 1) (λ k lk t. omega arith) in
+    by-eq (λ (b : Bool). getD (set g (f n) (n + 1)) x 0 ≡ max s (cond b (n + 1) 0)) (f n) x
+    (λ e. rw e (getD-set-same g x (n + 1) 0 (rw len l) ∙ later s low))
+    (λ d. getD-set-other g (f n) x (n + 1) 0 (λ e. d (sym e)) ∙ ih ∙ sym (max-zero s))
+  where
+    later : (s : ℕ) → s ≤ n → n + 1 ≡ max s (n + 1)
+    later s h = omega arith
+
+module _ (p : Plan) (v : Valid p) (ts : List Standing) (keys : List ℕ) (h : Keys p ts keys) where
+  pub seat-high : (u : ℕ) → u < p .tasks → getD keys u 0 < 8193
+  seat-high u l = rw (h .at u l) (key-high (standing ts u) (processorOf p u) (low-processor p v u l))
+
+  -- the end of the loop that seats the tasks
+  pub seats-done : (n : ℕ) {t : List ℕ} → n ≡ p .tasks → t ≡ seatsBelow keys n → Seats p ts t
+  seats-done n e f =
+      rw (f, e)
+      (record {
+        long = stamped-length (p .tasks) key (λ u. u + 1) (replicate 8193 0) ∙ length-replicate {A = ℕ} 8193 0;
+        at = λ q k j lq lk lj. stamped-last (p .tasks) 8193 key (seat q k j) (omega arith) ∙ max-same (p .tasks) _ _ (one q k j lq lk lj);
+        low = λ x l. omega (arith, v .tasks, stamped-last (p .tasks) 8193 key x l, last x);
+      })
+    where
+      key : ℕ → ℕ
+      key u = getD keys u 0
+
+      one : (q k j : ℕ) → q < 16 → k < 8 → j < 64 → (u : ℕ) → u < p .tasks → cond (eqb (key u) (seat q k j)) (u + 1) 0 ≡ cond (eqb (rank p ts q k u) (j + 1)) (u + 1) 0
+      one q k j lq lk lj u l = rw (h .at u l, key-rank p ts q k j u (low-processor p v u l) lq lk lj)
+
+      last : (x : ℕ) → maxBelow (p .tasks) (λ u. cond (eqb (key u) x) (u + 1) 0) ≤ p .tasks
+      last x = max-where-bound (p .tasks) (p .tasks) (λ u. eqb (key u) x) (λ u. u + 1) (λ u l t. omega arith)

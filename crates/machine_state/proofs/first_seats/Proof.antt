@@ -1,0 +1,33 @@
+-- The invariant: the processors below `k` have their first seat in `first`.
+use Prim.Native.Nat.{_≤_, _-_}
+use mathlib.Core.Path.{_≡_, refl}
+use native.Mathlib.Nat.{add-zero}
+use native.Mathlib.Omega.{arith}
+use Rattle.folds.specs.Bytes.{placedBelow}
+use Rattle.folds.proofs.Arrays.{placed-step, placed-done}
+use Rattle.machine_state.specs.Tests.{firstSeat}
+use Rattle.machine_state.proofs.first_seats.Statement.{statement}
+use Rattle.machine_state.proofs.first_seats.Tie as tie
+
+abbrev Inv-loop : tie.InvT-loop
+Inv-loop seats q first₀ k₀ first k = (k ≤ 8) × (first ≡ placedBelow k (firstSeat seats q) first₀)
+
+abbrev μ-loop : tie.MeasureT-loop
+μ-loop seats q first₀ k₀ first k = 8 - k
+
+loop-holds : tie.Need-loop-holds Inv-loop μ-loop
+unfolding placedBelow
+loop-holds c = (omega arith, refl)
+
+loop-again : tie.Need-loop-again Inv-loop μ-loop
+loop-again c = (omega arith, placed-step _ _ _ (c .before .before .loop .inv .1) (rw add-zero))
+
+returns : tie.Need-returns Inv-loop μ-loop
+returns c = placed-done 8 (c .before .loop .k) _ _ (omega arith) (c .before .loop .inv .1)
+
+pub first-seats-spec : {M : Type 1} → statement M
+first-seats-spec =
+    tie.close
+    (tie.spec
+    Inv-loop μ-loop loop-holds (λ c. omega arith) (λ c. omega arith) (λ c. omega arith) (λ c. omega arith) (λ c. omega arith)
+    (λ c. omega arith) (λ c. omega arith) loop-again returns)

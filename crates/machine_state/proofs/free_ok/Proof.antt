@@ -1,0 +1,24 @@
+-- The slots by their number, then the rest as it stands.
+use borrow.Author.Needs.{needs}
+use mathlib.Core.Path.{refl}
+use native.Mathlib.Omega.{arith}
+use Rattle.machine_state.specs.Tests.{freeTest}
+use Rattle.machine_state.proofs.Numbers.{whole-tail}
+use Rattle.machine_state.proofs.free_ok.Statement.{statement}
+use Rattle.machine_state.proofs.free_ok.Tie as tie
+
+eight-requires : tie.Need-eight-requires
+eight-requires c κs = search needs
+
+none-waits-requires : tie.Need-none-waits-requires
+none-waits-requires c κs = search needs
+
+returns : tie.Need-returns
+unfolding freeTest
+returns c =
+    let a = c .before .before .before .before .before .before .args in
+    let number = c .before .before .before .eight .ensures in
+    rw (number .0, c .before .before .none-waits .ensures, whole-tail (a .line .queue) (number .1) 0 (omega arith) refl)
+
+pub free-ok-spec : {M : Type 1} → statement M
+free-ok-spec = tie.close (tie.spec eight-requires none-waits-requires returns)

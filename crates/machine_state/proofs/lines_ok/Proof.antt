@@ -1,0 +1,43 @@
+-- The invariant: the rows passed are as they must be.
+use Prim.Native.Nat.{_≤_, _-_}
+use mathlib.Core.Bool.{true}
+use mathlib.Core.Path.{_≡_, refl, sym}
+use native.Mathlib.Omega.{arith}
+use lib.ListN.{getD}
+use Rattle.folds.specs.Below.{allBelow}
+use Rattle.folds.proofs.Tests.{held, failed, all-more, all-left, all-done}
+use Rattle.machine_state.specs.Shows.{noLine}
+use Rattle.machine_state.specs.Tests.{lineTest}
+use Rattle.machine_state.proofs.lines_ok.Statement.{statement}
+use Rattle.machine_state.proofs.lines_ok.Tie as tie
+
+abbrev Inv-loop : tie.InvT-loop
+Inv-loop holds budgets seats lines q₀ q = (q ≤ 16) × (allBelow q (λ k. lineTest holds budgets seats k (getD lines k noLine)) ≡ true)
+
+abbrev μ-loop : tie.MeasureT-loop
+μ-loop holds budgets seats lines q₀ q = 16 - q
+
+loop-holds : tie.Need-loop-holds Inv-loop μ-loop
+unfolding allBelow
+loop-holds c = (omega arith, refl)
+
+line-ok-requires : tie.Need-line-ok-requires Inv-loop μ-loop
+line-ok-requires c κs = let p = c .before .before .before .before .before .before .pre in (p .0, p .1, p .2, omega arith, p .3)
+
+returns : tie.Need-returns Inv-loop μ-loop
+returns c = all-left 16 (c .before .before .before .before .loop .q) _ (omega arith) (failed (c .before .line-ok .ensures) (c .if1 .taken))
+
+loop-again : tie.Need-loop-again Inv-loop μ-loop
+loop-again c =
+    let l = c .before .before .before .before .loop in
+    (omega arith, all-more (l .q) _ (l .inv .1) (held (c .before .line-ok .ensures) (c .if1 .left)))
+
+returns-2 : tie.Need-returns-2 Inv-loop μ-loop
+returns-2 c = all-done 16 (c .before .loop .q) _ (omega arith) (sym (c .before .loop .inv .1))
+
+pub lines-ok-spec : {M : Type 1} → statement M
+lines-ok-spec =
+    tie.close
+    (tie.spec
+    Inv-loop μ-loop loop-holds (λ c. omega arith) (λ c. omega arith) line-ok-requires returns (λ c. omega arith)
+    (λ c. omega arith) loop-again returns-2)

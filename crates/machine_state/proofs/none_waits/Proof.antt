@@ -1,0 +1,34 @@
+-- The invariant: `ok` says whether nobody has the first seats passed.
+use Prim.Native.Nat.{_≤_, _-_}
+use mathlib.Core.Path.{_≡_, refl}
+use native.Mathlib.Nat.{add-zero}
+use native.Mathlib.Omega.{arith}
+use lib.Dec.{eqb}
+use Rattle.folds.specs.Below.{allBelow}
+use Rattle.folds.proofs.Tests.{all-step, all-done}
+use Rattle.machine_state.specs.Tests.{firstSeat}
+use Rattle.machine_state.proofs.none_waits.Statement.{statement}
+use Rattle.machine_state.proofs.none_waits.Tie as tie
+
+abbrev Inv-loop : tie.InvT-loop
+Inv-loop seats q ok₀ k₀ ok k = (k ≤ 8) × (ok ≡ allBelow k (λ i. eqb (firstSeat seats q i) 0))
+
+abbrev μ-loop : tie.MeasureT-loop
+μ-loop seats q ok₀ k₀ ok k = 8 - k
+
+loop-holds : tie.Need-loop-holds Inv-loop μ-loop
+unfolding allBelow
+loop-holds c = (omega arith, refl)
+
+loop-again : tie.Need-loop-again Inv-loop μ-loop
+loop-again c = (omega arith, all-step _ _ (c .before .before .loop .inv .1) (rw add-zero))
+
+returns : tie.Need-returns Inv-loop μ-loop
+returns c = all-done _ (c .before .loop .k) _ (omega arith) (c .before .loop .inv .1)
+
+pub none-waits-spec : {M : Type 1} → statement M
+none-waits-spec =
+    tie.close
+    (tie.spec
+    Inv-loop μ-loop loop-holds (λ c. omega arith) (λ c. omega arith) (λ c. omega arith) (λ c. omega arith) (λ c. omega arith)
+    (λ c. omega arith) loop-again returns)

@@ -1,0 +1,34 @@
+-- The slots from c on are empty exactly when what is left of the largest number is below 256 ^ c.
+use borrow.Author.Needs.{needs}
+use Rattle.machine_state.proofs.Numbers.{part-tail}
+use Rattle.machine_state.proofs.tail_ok.Statement.{statement}
+use Rattle.machine_state.proofs.tail_ok.Tie as tie
+
+eight-requires : tie.Need-eight-requires
+eight-requires c κs = search needs
+
+sub-taken : tie.Need-sub-taken
+sub-taken c = search needs
+
+byte-requires : tie.Need-byte-requires
+byte-requires c κs = search needs
+
+mul-result : tie.Need-mul-result
+mul-result c = search needs
+
+sub-result : tie.Need-sub-result
+sub-result c = search needs
+
+shr-result : tie.Need-shr-result
+shr-result c = search needs
+
+returns : tie.Need-returns
+returns c =
+    let start = c .before .before in
+    let number = c .before .eight .ensures in
+    rw (number .0, c .byte .ensures .0) (part-tail (start .args .queue) (number .1) (start .args .c) (start .pre .1) (start .pre .0))
+
+pub tail-ok-spec : {M : Type 1} → statement M
+tail-ok-spec =
+    tie.close
+    (tie.spec eight-requires sub-taken byte-requires mul-result sub-result shr-result returns)

@@ -1,0 +1,66 @@
+-- A task in the first place has its own seat looked at twice.
+use borrow.Author.Needs.{needs}
+use Prim.Native.Nat.{ℕ, _+_, _*_, _-_, _/_, _%_, _≤_}
+use mathlib.Core.Bool.{Bool, true, false, _&&_, _||_}
+use mathlib.Core.List.{List}
+use mathlib.Core.Path.{_≡_, refl, sym, ap, _∙_}
+use native.Mathlib.Omega.{arith}
+use borrow.Author.Tests.{eq-eqb, ne-eqb, eqb-true, ltb-true, ltb-false, le-leb}
+use lib.Dec.{eqb, leb, ltb}
+use lib.ListN.{getD}
+use mir.Val.{boolByte}
+use Rattle.analysis_hold_times.specs.Holds.{cell}
+use Rattle.machine_state.specs.Tests.{taskTest}
+use Rattle.machine_state.proofs.task_ok.Statement.{statement}
+use Rattle.machine_state.proofs.task_ok.Tie as tie
+
+-- the hold time that the code reads
+hold-at : (holds : List ℕ) (base key u : ℕ) → base ≡ u * 8192 → getD holds ((base + key) / 512) 0 ≡ getD holds (cell u (key / 512)) 0
+hold-at holds base key u e = ap (λ (k : ℕ). getD holds k 0) (omega arith)
+
+-- no further back than the first place
+back-low : (key : ℕ) (b : Bool) → ltb 0 (key % 64) ≡ b → boolByte b ≤ key
+back-low key true e = omega (arith, ltb-true 0 (key % 64) e)
+back-low key false e = omega arith
+
+-- the seat before, or its own
+module _ (seats : List ℕ) (key u : ℕ) where
+  own-taken : (b : Bool) → eqb (getD seats key 0) (u + 1) ≡ b → (b && leb 1 (getD seats key 0)) ≡ (b && true)
+  own-taken true e = le-leb 1 (getD seats key 0) (omega (arith, eqb-true (getD seats key 0) (u + 1) e))
+  own-taken false e = refl
+
+  assoc : (a b c : Bool) → (a && b && c) ≡ (a && (b && c))
+  assoc true b c = refl
+  assoc false b c = refl
+
+  back-same : (a b : Bool) → ltb 0 (key % 64) ≡ b
+      → (a && eqb (getD seats key 0) (u + 1) && leb 1 (getD seats (key - boolByte b) 0))
+      ≡ (a && eqb (getD seats key 0) (u + 1) && (eqb (key % 64) 0 || leb 1 (getD seats (key - 1) 0)))
+  back-same a true e = rw (ne-eqb (key % 64) 0 (λ z. omega (arith, ltb-true 0 (key % 64) e)))
+  back-same a false e =
+      let z : key % 64 ≡ 0 = omega (arith, ltb-false 0 (key % 64) e) in
+      let k : key - 0 ≡ key = omega arith in
+      rw (eq-eqb (key % 64) 0 z, k)
+      (assoc a _ _ ∙ ap (λ (x : Bool). a && x) (own-taken (eqb (getD seats key 0) (u + 1)) refl) ∙ sym (assoc a _ true))
+
+returns : tie.Need-returns
+unfolding taskTest
+returns c = rw (eq-eqb _ _ (c .before .before .if1 .taken))
+
+sub-result : tie.Need-sub-result
+sub-result c = back-low _ _ refl
+
+returns-2 : tie.Need-returns-2
+unfolding taskTest
+returns-2 c =
+    let start = c .before .before .before .before .before .before .before in
+    let a = start .args in
+    rw (ne-eqb _ _ (c .before .before .before .before .if1 .left), c .before .wide .ensures .0, hold-at (a .holds .now) (a .base) (a .key) (a .u) (start .pre .4))
+    (back-same (a .seats .now) (a .key) (a .u) (leb 1 (getD (a .holds .now) (cell (a .u) (a .key / 512)) 0)) _ refl)
+
+pub task-ok-spec : {M : Type 1} → statement M
+task-ok-spec =
+    tie.close
+    (tie.spec
+    returns (λ c. search needs) (λ c. search needs) (λ c. search needs) (λ c. search needs) (λ c. search needs)
+    (λ c κs. search needs) (λ c. search needs) sub-result (λ c. search needs) returns-2)

@@ -1,0 +1,43 @@
+-- The invariant: `ok` says whether the rows passed are as they must be.
+use Prim.Native.Nat.{_≤_, _-_, _*_}
+use mathlib.Core.Path.{_≡_, refl}
+use native.Mathlib.Omega.{arith}
+use lib.ListN.{getD}
+use Rattle.folds.specs.Below.{allBelow}
+use Rattle.folds.proofs.Tests.{all-step, all-done}
+use Rattle.machine_state.specs.Shows.{standing}
+use Rattle.machine_state.specs.Tests.{taskTest}
+use Rattle.machine_state.proofs.tasks_ok.Statement.{statement}
+use Rattle.machine_state.proofs.tasks_ok.Tie as tie
+
+abbrev Inv-loop : tie.InvT-loop
+Inv-loop holds keys seats tasks ok₀ u₀ base₀ ok u base =
+    (u ≤ 64) × (base ≡ u * 8192) × (ok ≡ allBelow u (λ v. taskTest holds seats (standing tasks v) (getD keys v 0) v))
+
+abbrev μ-loop : tie.MeasureT-loop
+μ-loop holds keys seats tasks ok₀ u₀ base₀ ok u base = 64 - u
+
+loop-holds : tie.Need-loop-holds Inv-loop μ-loop
+unfolding allBelow
+loop-holds c = (omega arith, omega arith, refl)
+
+task-ok-requires : tie.Need-task-ok-requires Inv-loop μ-loop
+task-ok-requires c κs =
+    let l = c .before .before .before .loop in
+    let p = c .before .before .before .before .before .before .before .pre in
+    (p .0, p .2, omega arith, p .3 (l .u) (omega arith), l .inv .1)
+
+loop-again : tie.Need-loop-again Inv-loop μ-loop
+loop-again c =
+    let l = c .before .before .before .before .loop in
+    (omega arith, omega arith, all-step (l .u) _ (l .inv .2) (c .task-ok .ensures))
+
+returns : tie.Need-returns Inv-loop μ-loop
+returns c = all-done 64 (c .before .loop .u) _ (omega arith) (c .before .loop .inv .2)
+
+pub tasks-ok-spec : {M : Type 1} → statement M
+tasks-ok-spec =
+    tie.close
+    (tie.spec
+    Inv-loop μ-loop loop-holds (λ c. omega arith) (λ c. omega arith) (λ c. omega arith) (λ c. omega arith) task-ok-requires
+    (λ c. omega arith) (λ c. omega arith) (λ c. omega arith) loop-again returns)

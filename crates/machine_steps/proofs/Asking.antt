@@ -1,0 +1,153 @@
+-- What the tables tell of the tasks ahead, what a request is answered, and which tasks are in line.
+use Prim.Native.Nat.{ℕ, zero, suc, _+_, _*_, _-_, _<_, _≤_}
+use mathlib.Core.Bool.{Bool, true, false, cond, not}
+use mathlib.Core.List.{List, [], _∷_, _++_}
+use mathlib.Core.Logic.{_⊎_, inl, inr}
+use mathlib.Core.Path.{_≡_, refl, sym, ap, ap₂, _∙_}
+use native.Mathlib.Numerals.{add-one}
+use native.Mathlib.Omega.{arith}
+use borrow.Author.Tests.{eqb-true, eqb-false, eq-eqb, ne-eqb, lt-ltb, le-ltb, not-true}
+use lib.Dec.{eqb, ltb}
+use lib.ListN.{length, getD}
+use Rattle.folds.specs.Below.{anyBelow, sumBelow, maxBelow}
+use Rattle.folds.proofs.Tests.{same-test, all-from, any-at, any-out, any-same, find-none}
+use Rattle.folds.proofs.Figures.{max-at, sum-same}
+use Rattle.plan_reading.specs.Plan.{Plan, Valid}
+use Rattle.analysis_equations.specs.Sharing.{processorOf}
+use Rattle.analysis_equations.specs.HoldTimes.{holdAt, waitTime}
+use Rattle.queue_rules.specs.Rules.{line, queueOf, inLine, tasksOf, sumOf, limit}
+use Rattle.machine_rules.specs.declared.Answer.the-variants.{Granted, Waits}
+use Rattle.machine_rules.specs.Machine.{terms, busy, requestTold}
+use Rattle.queue_ranks.specs.Ranks.{listFrom, taskAt, queueFrom}
+use Rattle.folds.proofs.Searches.{on-le, find-is}
+use Rattle.machine_steps.proofs.Ready.{seat-task}
+use Rattle.queue_ranks.proofs.Lists.{list-snoc, list-length}
+use Rattle.queue_ranks.proofs.Ranked.{task-rank, ranks-few, full}
+use Rattle.analysis_hold_times.specs.Holds.{cell, Cells}
+use Rattle.machine_state.specs.declared.Standing.{Standing}
+use Rattle.machine_state.specs.declared.Line.{Line}
+use Rattle.machine_state.specs.declared.State.{State}
+use Rattle.machine_state.specs.Shows.{standing, lineAt, slot, rank, shows, noneInLine}
+use Rattle.machine_state.specs.Seats.{seat, Seats}
+use Rattle.machine_state.proofs.Tables.{low-processor}
+use Rattle.machine_state.proofs.Good.{Whole}
+use Rattle.machine_state.proofs.Wholes.{hold-resource}
+use Rattle.machine_state.proofs.Told.{ahead-list, stands-is}
+use Rattle.machine_steps.specs.Steps.{taken, takenHolds}
+
+-- a sum over a list goes from its head, one over a range from its end
+sum-last : (f : ℕ → ℕ) (us : List ℕ) (u : ℕ) → sumOf f (us ++ (u ∷ [])) ≡ sumOf f us + f u
+sum-last f [] u = omega arith
+sum-last f (v ∷ us) u = omega (arith, sum-last f us u)
+
+sum-list : (n : ℕ) (h f : ℕ → ℕ) → sumBelow n (λ j. h (f (suc j))) ≡ sumOf h (listFrom n 1 f)
+unfolding sumBelow listFrom
+sum-list zero h f = refl
+sum-list (suc n) h f =
+    ap (λ (x : ℕ). x + h (f (suc n))) (sum-list n h f)
+    ∙ sym (ap (sumOf h) (list-snoc n 1 (suc n) f (omega arith)) ∙ sum-last h (listFrom n 1 f) (f (suc n)))
+
+-- ── the tasks ahead ──
+module _ (p : Plan) (v : Valid p) (s : State) (w : Whole p s) (q k : ℕ) (lq : q < 16) where
+  abbrev ranks : ℕ → ℕ
+  ranks = rank p (s .tasks) q k
+
+  abbrev most : ℕ
+  most = maxBelow (p .tasks) ranks
+
+  module _ (lk : k < 8) {seats : List ℕ} (t : Seats p (s .tasks) seats) where
+    few : most ≤ 64
+    few = omega (arith, v .tasks, ranks-few (w .lines q lq .ranked) k)
+
+    sits : (j : ℕ) → j < 64
+        → getD seats (seat q k j) 0 ≡ cond (ltb (taskAt (p .tasks) ranks (j + 1)) (p .tasks)) (taskAt (p .tasks) ranks (j + 1) + 1) 0
+    sits j l = seat-task p s w t q k j lq lk l
+
+    -- the seats are taken from the first on, as many as there are tasks
+    pub seat-taken : (j : ℕ) → j < most → getD seats (seat q k j) 0 ≡ taskAt (p .tasks) ranks (suc j) + 1
+    seat-taken j l =
+        let a : taskAt (p .tasks) ranks (j + 1) < p .tasks = full (w .lines q lq .ranked) k (j + 1) (omega arith) (omega arith) in
+        sits j (omega (arith, few)) ∙ rw (lt-ltb _ _ a, add-one j)
+
+    pub seat-empty : (j : ℕ) → most ≤ j → j < 64 → getD seats (seat q k j) 0 ≡ 0
+    seat-empty j m l = sits j l ∙ rw (le-ltb _ _ past)
+      where
+        past : p .tasks ≤ taskAt (p .tasks) ranks (j + 1)
+        past =
+            on-le (p .tasks ≤ taskAt (p .tasks) ranks (j + 1)) (p .tasks) (taskAt (p .tasks) ranks (j + 1)) (λ a. a)
+            (λ a. omega (arith, task-rank (p .tasks) (j + 1) ranks a, max-at (p .tasks) (taskAt (p .tasks) ranks (j + 1)) ranks a))
+
+    pub taken-is : taken seats q k ≡ most
+    unfolding taken
+    taken-is =
+        on-le (taken seats q k ≡ most) 64 most
+        (λ a. find-none 64 test (all-from 64 (λ j. not (test j)) (λ j l. ap not (full-at j (omega arith)))) ∙ omega (arith, few))
+        (λ l. find-is 64 most test l (eq-eqb _ 0 (seat-empty most (omega arith) l)) full-at)
+      where
+        test : ℕ → Bool
+        test j = eqb (getD seats (seat q k j) 0) 0
+
+        full-at : (j : ℕ) → j < most → test j ≡ false
+        full-at j l = ne-eqb (getD seats (seat q k j) 0) 0 (λ e. omega (arith, seat-taken j l))
+
+    pub ahead-count : length (tasksOf k (queueOf (shows p s .lines q))) ≡ taken seats q k
+    ahead-count = ap length (ahead-list p v s w q k lq) ∙ list-length most 1 (taskAt (p .tasks) ranks) ∙ sym taken-is
+
+    module _ {holds : List ℕ} (c : Cells (holdAt p) holds) where
+      pub taken-holds : takenHolds holds seats q k ≡ sumOf (terms p q .hold) (listFrom most 1 (taskAt (p .tasks) ranks))
+      unfolding takenHolds
+      taken-holds =
+          rw taken-is (sum-same most _ _ hold ∙ sum-list most (λ u. holdAt p u q) (taskAt (p .tasks) ranks))
+        where
+          hold : (j : ℕ) → j < most → getD holds (cell (getD seats (seat q k j) 0 - 1) q) 0 ≡ holdAt p (taskAt (p .tasks) ranks (suc j)) q
+          hold j l =
+              let u : ℕ = taskAt (p .tasks) ranks (suc j) in
+              let a : u < p .tasks = full (w .lines q lq .ranked) k (suc j) (omega arith) l in
+              let e : getD seats (seat q k j) 0 - 1 ≡ u = omega (arith, seat-taken j l) in
+              rw e (c .at u q (omega (arith, v .tasks)) lq)
+
+      pub ahead-holds : sumOf (terms p q .hold) (tasksOf k (queueOf (shows p s .lines q))) ≡ takenHolds holds seats q k
+      ahead-holds = ap (sumOf (terms p q .hold)) (ahead-list p v s w q k lq) ∙ sym taken-holds
+
+-- ── the answer ──
+-- of a held line
+told-held : (p : Plan) (i q n : ℕ) (R : ℕ → ℕ → ℕ) (c : ℕ) (g : ℕ → ℕ) (h b : ℕ) → 1 ≤ c
+    → requestTold p i q (line h b (queueFrom n R c g))
+    ≡ Waits (length (tasksOf (processorOf p i) (queueFrom n R c g))) (limit (terms p q) i (tasksOf (processorOf p i) (queueFrom n R c g)))
+unfolding listFrom
+told-held p i q n R zero g h b a = let bad : ⊥ = omega arith in absurd bad
+told-held p i q n R (suc c) g h b a = refl
+
+module _ (p : Plan) (v : Valid p) (s : State) (w : Whole p s) (i q : ℕ) where
+  pub request-granted : lineAt s q .queued ≡ 0 → requestTold p i q (shows p s .lines q) ≡ Granted
+  unfolding shows listFrom
+  request-granted e = rw e
+
+  pub request-waits : {seats holds : List ℕ} → 1 ≤ lineAt s q .queued → q < 16 → i < p .tasks → Seats p (s .tasks) seats → Cells (holdAt p) holds
+      → requestTold p i q (shows p s .lines q)
+      ≡ Waits (taken seats q (processorOf p i))
+      (takenHolds holds seats q (processorOf p i) + (taken seats q (processorOf p i) + 1) * waitTime p (processorOf p i) q)
+  unfolding shows
+  request-waits {seats} {holds} a lq lt t c =
+      let k : ℕ = processorOf p i in
+      let lk : k < 8 = low-processor p v i lt in
+      let l : Line = lineAt s q in
+      told-held p i q (p .tasks) (rank p (s .tasks) q) (l .queued) (slot l) (l .«hold_left») (l .«budget_left») a
+      ∙ ap₂ (λ (x y : ℕ). Waits x (y + (x + 1) * waitTime p k q)) (ahead-count p v s w q k lq lk t) (ahead-holds p v s w q k lq lk t c)
+
+-- ── who is in line ──
+module _ (p : Plan) (v : Valid p) (s : State) (w : Whole p s) (i : ℕ) (lt : i < p .tasks) where
+  pub busy-is : busy p (shows p s) i ≡ not (eqb (standing (s .tasks) i .resource) 255)
+  unfolding busy
+  busy-is =
+      any-same (p .resources) (λ q. inLine i (shows p s .lines q)) (eqb r) (stands-is p v s w i lt)
+      ∙ same-test (anyBelow (p .resources) (eqb r)) (not (eqb r 255))
+      (λ e. any-out (p .resources) (eqb r) _ e (λ q l t. ap not (ne-eqb r 255 (λ f. omega (arith, v .resources, eqb-true r q t)))))
+      (λ e. some e (w .rows i (omega (arith, v .tasks))))
+    where
+      r : ℕ
+      r = standing (s .tasks) i .resource
+
+      some : not (eqb r 255) ≡ true → (standing (s .tasks) i ≡ noneInLine) ⊎ (1 ≤ holdAt p i r) → anyBelow (p .resources) (eqb r) ≡ true
+      some e (inl none) = absurd (eqb-false r 255 (not-true (eqb r 255) e) (ap (λ (x : Standing). x .resource) none))
+      some e (inr h) = any-at (p .resources) r (eqb r) (hold-resource p v i r h) (eq-eqb r r refl)

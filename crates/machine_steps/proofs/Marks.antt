@@ -1,0 +1,125 @@
+-- Laws of what a tick tells: the words of resources, and the queues that lose their first.
+use Prim.Native.Nat.{ℕ, zero, suc, _+_, _*_, _/_, _<_, _≤_}
+use mathlib.Core.Bool.{Bool, true, false, cond, _&&_}
+use mathlib.Core.List.{List}
+use mathlib.Core.Path.{_≡_, refl, sym, ap, ap₂, _∙_}
+use native.Mathlib.Omega.{arith}
+use lib.Dec.{eqb, ltb}
+use lib.ListN.{length, getD, set, replicate}
+use lib.Pow.{pow-pos}
+use lib.Seq.{set-getD}
+use borrow.Author.Tests.{ltb-true}
+use Rattle.folds.specs.Below.{anyBelow}
+use Rattle.folds.proofs.Tests.{and-parts}
+use Rattle.folds.proofs.Searches.{on-le}
+use Rattle.folds.specs.Each.{eachBelow}
+use Rattle.folds.specs.Words.{bitOf, wordBelow}
+use Rattle.folds.proofs.Arrays.{stampedBelow, stamped-step, stamped-at}
+use Rattle.folds.proofs.EachLaws.{each-at, each-later}
+use Rattle.folds.proofs.WordLaws.{word-done, word-same}
+use Rattle.machine_state.specs.declared.Standing.{Standing}
+use Rattle.machine_state.specs.declared.Line.{Line}
+use Rattle.machine_state.specs.Shows.{noStanding, noLine, slot}
+use Rattle.machine_state.specs.Seats.{queueAt}
+use Rattle.machine_steps.specs.Steps.{fallen, lowered, ends, endedOf, stepped, steppedLines, cutWord, grantWord}
+
+-- where a tick cuts the holder, somebody is queued
+pub cut-queued : (l : Line) → ends l ≡ true → 1 ≤ l .queued
+cut-queued l e = ltb-true 0 (l .queued) (and-parts (ltb 0 (l .queued)) (eqb (l .«hold_left») 1) e .0)
+
+-- the queues of the resources below n that lose their first
+abbrev pub endedBelow : List Line → ℕ → List ℕ
+endedBelow ls n =
+    stampedBelow n (λ q. cond (ends (getD ls q noLine)) (queueAt (slot (getD ls q noLine) 0) q) 128)
+    (λ q. cond (ends (getD ls q noLine)) 1 0) (replicate 129 0)
+
+-- a turn of the loop where the tick cuts the holder, one where it does not, and its end
+module _ (ls : List Line) (n : ℕ) {m : List ℕ} (p : m ≡ endedBelow ls n) where
+  ended-cut : {k : ℕ} → ends (getD ls n noLine) ≡ true → k ≡ slot (getD ls n noLine) 0 → set m (n * 8 + k) 1 ≡ endedBelow ls (n + 1)
+  ended-cut e q = stamped-step n _ _ _ p (rw (e, q)) (rw e)
+
+  ended-kept : ends (getD ls n noLine) ≡ false → set m 128 0 ≡ endedBelow ls (n + 1)
+  ended-kept e = stamped-step n _ _ _ p (rw e) (rw e)
+
+  pub ended-done : n ≡ 16 → m ≡ endedOf ls
+  unfolding endedOf
+  ended-done e = rw (← e, p)
+
+-- a resource with a new grant, by its line before the tick
+module _ (holds budgets seats : List ℕ) (ls : List Line) where
+  abbrev pub newly : ℕ → Bool
+  newly q = ends (getD ls q noLine) && ltb 0 (stepped holds budgets seats q (getD ls q noLine) .queued)
+
+  pub grants-done : (n : ℕ) {w : ℕ} → 16 ≤ length ls → n ≡ 16 → w ≡ wordBelow n newly → w ≡ grantWord ls (steppedLines holds budgets seats ls)
+  unfolding grantWord steppedLines
+  grants-done n h e p =
+      word-done 16 n newly e p
+      ∙ word-same 16 _ _
+      (λ q l. ap (λ (x : Line). ends (getD ls q noLine) && ltb 0 (x .queued)) (sym (each-at noLine (λ r x. stepped holds budgets seats r x) 16 q ls l h)))
+
+  -- a turn of the loop over the lines: the line that it takes is as it was, and so are the bits that it adds
+  module _ (n : ℕ) {m : List Line} (p : m ≡ eachBelow noLine (λ r l. stepped holds budgets seats r l) n ls) where
+    pub line-kept : getD m n noLine ≡ getD ls n noLine
+    line-kept = ap (λ (x : List Line). getD x n noLine) p ∙ each-later _ _ n n _ (omega arith)
+
+    module _ {on : Bool} (e : on ≡ ends (getD m n noLine)) where
+      pub ends-kept : on ≡ ends (getD ls n noLine)
+      ends-kept = e ∙ ap (λ (x : Line). ends x) line-kept
+
+      pub kept-queued : on ≡ true → 1 ≤ getD ls n noLine .queued
+      kept-queued t = cut-queued (getD ls n noLine) (sym ends-kept ∙ t)
+
+      -- the marks, where the tick cuts the holder and where it does not
+      pub mark-cut : {t : List ℕ} {k : ℕ} → t ≡ endedBelow ls n → on ≡ true → k ≡ slot (getD m n noLine) 0 → set t (n * 8 + k) 1 ≡ endedBelow ls (n + 1)
+      mark-cut f t k = ended-cut ls n f (sym ends-kept ∙ t) (k ∙ ap (λ (x : Line). slot x 0) line-kept)
+
+      pub mark-kept : {t : List ℕ} → t ≡ endedBelow ls n → on ≡ false → set t 128 0 ≡ endedBelow ls (n + 1)
+      mark-kept f t = ended-kept ls n f (sym ends-kept ∙ t)
+
+      pub cut-bit : {b : ℕ} → b ≡ bitOf on n → b ≡ bitOf (ends (getD ls n noLine)) n
+      cut-bit f = f ∙ ap (λ (x : Bool). bitOf x n) ends-kept
+
+      pub grant-bit : {b : ℕ} {after : Line} → after ≡ stepped holds budgets seats n (getD m n noLine) → b ≡ bitOf (on && ltb 0 (after .queued)) n → b ≡ bitOf (newly n) n
+      grant-bit g f =
+          f
+          ∙ ap₂ (λ (x : Bool) (y : Line). bitOf (x && ltb 0 (y .queued)) n) ends-kept
+          (g ∙ ap (λ (x : Line). stepped holds budgets seats n x) line-kept)
+
+-- ── a tick that cuts nobody ──
+
+-- a word of no bits
+word-none : (n : ℕ) (f : ℕ → Bool) → wordBelow n f ≡ 0 → (q : ℕ) → q < n → f q ≡ false
+unfolding wordBelow
+word-none zero f e q l = let bad : ⊥ = omega arith in absurd bad
+word-none (suc n) f e q l =
+    on-le (f q ≡ false) n q
+    (λ h. let i : q ≡ n = omega arith in rw i (none (f n) refl))
+    (λ h. word-none n f (omega arith) q h)
+  where
+    none : (b : Bool) → f n ≡ b → b ≡ false
+    none true t = let bad : ⊥ = omega (arith, ap (λ (x : Bool). bitOf x n) t, pow-pos n) in absurd bad
+    none false t = refl
+
+-- a loop that changes nothing
+each-kept : {A : Type 0} (d : A) (g : ℕ → A → A) (n : ℕ) (l : List A) → ((u : ℕ) → u < n → g u (getD l u d) ≡ getD l u d) → eachBelow d g n l ≡ l
+unfolding eachBelow
+each-kept d g zero l h = refl
+each-kept {A} d g (suc n) l h =
+    ap₂ (λ (x : List A) (y : A). set x n y) (each-kept d g n l (λ u b. h u (omega arith))) (h n (omega arith)) ∙ set-getD l n d
+
+-- the rows of the tasks stay as they are
+pub rows-kept : (keys : List ℕ) (ls : List Line) (ts : List Standing) → ((u : ℕ) → u < 64 → getD keys u 0 < 8193) → cutWord ls ≡ 0 → lowered keys (endedOf ls) ts ≡ ts
+unfolding cutWord endedOf lowered fallen
+rows-kept keys ls ts low e = each-kept noStanding _ 64 ts (λ u l. rw (unmarked (getD keys u 0 / 64) (omega (arith, low u l))))
+  where
+    queue : ℕ → ℕ
+    queue q = cond (ends (getD ls q noLine)) (queueAt (slot (getD ls q noLine) 0) q) 128
+
+    nothing : (b : Bool) → cond {A = ℕ} b 0 0 ≡ 0
+    nothing true = refl
+    nothing false = refl
+
+    unmarked : (x : ℕ) → x < 129 → getD (endedOf ls) x 0 ≡ 0
+    unmarked x l =
+        stamped-at 16 129 queue (λ q. cond (ends (getD ls q noLine)) 1 0) (λ y. 0) x l (λ q b. rw (word-none 16 _ e q b))
+        ∙ nothing (anyBelow 16 (λ q. eqb (queue q) x))

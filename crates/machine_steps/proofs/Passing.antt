@@ -1,0 +1,58 @@
+-- What the tables tell of a line that goes on to its next task.
+use Prim.Native.Nat.{ℕ, _+_, _*_, _-_, _≤_, _<_}
+use mathlib.Core.Bool.{Bool, true, false, cond}
+use mathlib.Core.List.{List}
+use mathlib.Core.Path.{_≡_, refl, sym, ap, subst, _∙_}
+use native.Mathlib.Omega.{arith}
+use borrow.Author.Tests.{eq-eqb, ne-eqb}
+use lib.Dec.{eqb}
+use lib.ListN.{getD}
+use lib.Seq.{getD-set-other}
+use mir.Val.{boolByte}
+use Rattle.folds.proofs.Arrays.{by-eq}
+use Rattle.machine_state.specs.declared.Line.{Line}
+use Rattle.machine_state.specs.Shows.{slot}
+use Rattle.machine_state.specs.Seats.{seat}
+use Rattle.machine_steps.specs.Steps.{Ready, shifted, turned}
+
+-- a seat read by a copy w of its processor's number
+pub seat-read : (t : List ℕ) (q k j : ℕ) {w r : ℕ} → w ≡ k → r ≡ getD t ((q * 8 + w) * 64 + j) 0 → r ≡ getD t (seat q k j) 0
+seat-read t q k j e p = p ∙ ap (λ (v : ℕ). getD t ((q * 8 + v) * 64 + j) 0) e
+
+-- a test as a number
+pub flag : (b : Bool) → boolByte b ≡ cond b 1 0
+flag true = refl
+flag false = refl
+
+pub flag-low : (b : Bool) → boolByte b ≤ 1
+flag-low true = omega arith
+flag-low false = omega arith
+
+-- processor k can begin once the first task of processor `gone` left
+abbrev pub Begins : List ℕ → ℕ → ℕ → ℕ → Type 0
+Begins seats q gone k = (k < 8) × (1 ≤ getD seats (seat q k (cond (eqb k gone) 1 0)) 0)
+
+-- the second in line can once the head left
+pub next-begins : (seats : List ℕ) (q : ℕ) (l : Line) → Ready seats q l → 2 ≤ l .queued → Begins seats q (slot l 0) (slot l 1)
+next-begins seats q l r m =
+    (r .placed 1 (omega arith), rw (ne-eqb (slot l 1) (slot l 0) (r .once 1 (omega arith) (omega arith))) (r .seated 1 (omega arith)))
+
+-- and so can the head of the turned queue: the second in line, or a lone head with another task
+pub turned-begins : (seats : List ℕ) (q : ℕ) (l : Line) → Ready seats q l → 1 ≤ getD seats (seat q (slot l 0) 1) 0
+    → Begins seats q (slot l 0) (getD (turned (l .queue) (l .queued)) 0 0)
+turned-begins seats q l r m =
+    by-eq (λ (b : Bool). Begins seats q (slot l 0) (getD (turned (l .queue) (l .queued)) 0 0)) (l .queued) 1
+    (λ e. subst (Begins seats q (slot l 0)) (sym (lone e)) (r .placed 0 (omega (arith, r .some)), rw (eq-eqb (slot l 0) (slot l 0) refl) m))
+    (λ d. subst (Begins seats q (slot l 0)) (sym (more d)) (next-begins seats q l r (omega (arith, r .some))))
+  where
+    lone : l .queued ≡ 1 → getD (turned (l .queue) (l .queued)) 0 0 ≡ slot l 0
+    lone e = rw e
+
+    more : (l .queued ≡ 1 → ⊥) → getD (turned (l .queue) (l .queued)) 0 0 ≡ slot l 1
+    more d = getD-set-other (shifted (l .queue)) (l .queued - 1) 0 (slot l 0) 0 (λ e. omega (arith, r .some))
+
+-- the clock of a line is no matter
+pub ready-again : (seats : List ℕ) (q : ℕ) (l : Line) (hold budget : ℕ) → Ready seats q l
+    → Ready seats q (record { queued = l .queued; queue = l .queue; «hold_left» = hold; «budget_left» = budget })
+ready-again seats q l hold budget r =
+    record { some = r .some; few = r .few; placed = r .placed; once = r .once; seated = r .seated }

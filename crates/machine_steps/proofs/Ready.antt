@@ -1,0 +1,77 @@
+-- What the functions rely on, from a sound state and its tables.
+use Prim.Native.Nat.{ℕ, _+_, _<_, _≤_}
+use mathlib.Core.Bool.{cond}
+use mathlib.Core.List.{List}
+use mathlib.Core.Path.{_≡_, _∙_}
+use native.Mathlib.Omega.{arith}
+use borrow.Author.Tests.{lt-ltb}
+use lib.Dec.{ltb}
+use lib.ListN.{length, getD}
+use Rattle.plan_reading.specs.Plan.{Plan, Valid}
+use Rattle.analysis_equations.specs.HoldTimes.{holdAt}
+use Rattle.analysis_hold_times.specs.Holds.{Cells, Shares}
+use Rattle.queue_ranks.specs.Ranks.{taskAt}
+use Rattle.folds.proofs.Searches.{on-le}
+use Rattle.queue_ranks.proofs.Ranked.{seated, sole, full}
+use Rattle.machine_state.specs.declared.State.{State}
+use Rattle.machine_state.specs.Shows.{lineAt, slot, rank}
+use Rattle.machine_state.specs.Seats.{seat, Keys, Seats}
+use Rattle.machine_state.proofs.Good.{Whole}
+use Rattle.machine_state.proofs.Tables.{seat-high}
+use Rattle.machine_steps.specs.Steps.{Sized, Ready, Running}
+
+-- the tables of a state, and the lengths of its rows
+pub record Tabled (p : Plan) (s : State) (holds budgets keys seats : List ℕ) : Type 0 where
+  pub holds-at : Cells (holdAt p) holds
+  pub budgets-at : Shares p budgets
+  pub keys-at : Keys p (s .tasks) keys
+  pub seats-at : Seats p (s .tasks) seats
+  pub tasks-long : length (s .tasks) ≡ 64
+  pub lines-long : length (s .lines) ≡ 16
+
+module _ (p : Plan) (s : State) (w : Whole p s) where
+  -- the first task of a processor that is queued
+  pub first-task : (q i : ℕ) → q < 16 → i < lineAt s q .queued → taskAt (p .tasks) (rank p (s .tasks) q (slot (lineAt s q) i)) 1 < p .tasks
+  first-task q i lq l = let g = w .lines q lq in full (g .ranked) (slot (lineAt s q) i) 1 (omega arith) (g .queued .served i l)
+
+  module _ {seats : List ℕ} (t : Seats p (s .tasks) seats) where
+    -- who sits where: the task of that rank
+    pub seat-task : (q k j : ℕ) → q < 16 → k < 8 → j < 64
+        → getD seats (seat q k j) 0
+        ≡ cond (ltb (taskAt (p .tasks) (rank p (s .tasks) q k) (j + 1)) (p .tasks)) (taskAt (p .tasks) (rank p (s .tasks) q k) (j + 1) + 1) 0
+    seat-task q k j lq lk lj =
+        t .at q k j lq lk lj ∙ seated (p .tasks) (rank p (s .tasks) q k) (sole (w .lines q lq .ranked) k) (j + 1) (omega arith)
+
+    -- where there is one
+    pub seat-some : (q k j : ℕ) → q < 16 → k < 8 → j < 64 → taskAt (p .tasks) (rank p (s .tasks) q k) (j + 1) < p .tasks
+        → getD seats (seat q k j) 0 ≡ taskAt (p .tasks) (rank p (s .tasks) q k) (j + 1) + 1
+    seat-some q k j lq lk lj l = seat-task q k j lq lk lj ∙ rw (lt-ltb _ _ l)
+
+module _ (p : Plan) (v : Valid p) (s : State) (w : Whole p s) {holds budgets keys seats : List ℕ} (t : Tabled p s holds budgets keys seats) where
+  pub sized : Sized holds budgets keys seats
+  sized = record {
+    holds-long = t .holds-at .long;
+    budgets-long = t .budgets-at .long;
+    keys-long = t .keys-at .long;
+    seats-long = t .seats-at .long;
+    keys-low = λ u l. on-le (getD keys u 0 < 8193) (p .tasks) u
+        (λ a. omega (arith, t .keys-at .rest u l a)) (λ a. seat-high p v (s .tasks) keys (t .keys-at) u a);
+    seats-low = t .seats-at .low;
+  }
+
+  module _ (q : ℕ) (lq : q < 16) (held : 1 ≤ lineAt s q .queued) where
+    low-slot : (i : ℕ) → i < lineAt s q .queued → slot (lineAt s q) i < 8
+    low-slot i l = omega (arith, v .processors, w .lines q lq .queued .placed i l)
+
+    pub ready : Ready seats q (lineAt s q)
+    ready = record {
+      some = held;
+      few = w .lines q lq .small;
+      placed = low-slot;
+      once = λ i a l e. omega (arith, w .lines q lq .queued .once i 0 l held e);
+      seated = λ i l.
+          omega (arith, seat-some p s w (t .seats-at) q (slot (lineAt s q) i) 0 lq (low-slot i l) (omega arith) (first-task p s w q i lq l));
+    }
+
+    pub running : Running seats q (lineAt s q)
+    running = let y = w .lines q lq .timed .runs held in record { ready = ready; low = y .0; within = y .2 }

@@ -1,0 +1,64 @@
+-- Counting the taken seats of a queue, from the first on, with the hold times of those who sit there.
+use Prim.Native.Nat.{ℕ, _+_, _*_, _-_, _≤_, _<_}
+use mathlib.Core.Bool.{Bool, true, not}
+use mathlib.Core.List.{List}
+use mathlib.Core.Path.{_≡_, refl, sym, ap, _∙_}
+use native.Mathlib.Omega.{arith}
+use borrow.Author.Tests.{eq-eqb, ne-eqb}
+use lib.Dec.{eqb}
+use lib.ListN.{getD}
+use Rattle.folds.specs.Below.{allBelow, sumBelow}
+use Rattle.folds.proofs.Tests.{all-more, find-at, find-none}
+use Rattle.folds.proofs.Figures.{sum-step}
+use Rattle.analysis_hold_times.specs.Holds.{cell}
+use Rattle.machine_state.specs.Seats.{seat}
+use Rattle.machine_steps.specs.Steps.{taken, takenHolds}
+
+module _ (holds seats : List ℕ) (q k : ℕ) where
+  -- nobody has the i-th seat of the queue of processor k for q
+  abbrev empty : ℕ → Bool
+  empty i = eqb (getD seats (seat q k i) 0) 0
+
+  -- the hold time of the task with this number plus 1, and that of who has the i-th seat
+  abbrev holdBy : ℕ → ℕ
+  holdBy r = getD holds (cell (r - 1) q) 0
+
+  abbrev holdIn : ℕ → ℕ
+  holdIn i = holdBy (getD seats (seat q k i) 0)
+
+  -- the first j seats are taken, by tasks with this sum of hold times
+  pub record Counted (j sum : ℕ) : Type 0 where
+    pub few : j ≤ 64
+    pub full : allBelow j (λ i. not (empty i)) ≡ true
+    pub sums : sum ≡ sumBelow j holdIn
+    pub small : sum ≤ j * 65535
+
+  pub counted-none : Counted 0 0
+  unfolding allBelow sumBelow
+  counted-none = record { few = omega arith; full = refl; sums = refl; small = omega arith }
+
+  pub counted-more : (j sum r x : ℕ) → Counted j sum → j < 64 → r ≡ getD seats (seat q k j) 0 → (r ≡ 0 → ⊥) → x ≡ holdBy r → x < 65536
+      → Counted (j + 1) (sum + x)
+  counted-more j sum r x c l e n h b =
+      record {
+        few = omega arith;
+        full = all-more j (λ i. not (empty i)) (c .full) (rw (ne-eqb (getD seats (seat q k j) 0) 0 (λ z. n (e ∙ z))));
+        sums = sum-step j holdIn (c .sums) (h ∙ ap holdBy e);
+        small = omega (arith, c .small);
+      }
+
+  -- what is found at the first empty seat, and where there is none
+  abbrev pub Found : ℕ → ℕ → Type 0
+  Found j sum = (j ≡ taken seats q k) × (sum ≡ takenHolds holds seats q k) × (j ≤ 64) × (sum ≤ 4194240)
+
+  found : (j sum : ℕ) → Counted j sum → taken seats q k ≡ j → Found j sum
+  unfolding takenHolds
+  found j sum c e = (sym e, rw e (c .sums), c .few, omega (arith, c .small, c .few))
+
+  pub found-empty : (j sum : ℕ) → Counted j sum → j < 64 → getD seats (seat q k j) 0 ≡ 0 → Found j sum
+  unfolding taken
+  found-empty j sum c l e = found j sum c (find-at 64 j empty l (c .full) (eq-eqb (getD seats (seat q k j) 0) 0 e))
+
+  pub found-none : (sum : ℕ) → Counted 64 sum → Found 64 sum
+  unfolding taken
+  found-none sum c = found 64 sum c (find-none 64 empty (c .full))

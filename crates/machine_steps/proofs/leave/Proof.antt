@@ -1,0 +1,21 @@
+-- The head of the line is there, so the mark of its queue is within the table.
+use native.Mathlib.Omega.{arith}
+use borrow.Author.Needs.{needs}
+use Rattle.machine_steps.proofs.leave.Statement.{statement}
+use Rattle.machine_steps.proofs.leave.Tie as tie
+
+array-write-marks : tie.Need-array-write-marks
+array-write-marks c =
+    let p = c .before .before .before .before .before .before .before .pre in
+    omega (arith, p .1, p .2 .placed 0 (p .2 .some), c .wide .ensures)
+
+returns : tie.Need-returns
+returns c = rw (c .pass .ensures, c .before .lower .ensures, c .before .before .before .before .wide .ensures .0)
+
+pub leave-spec : {M : Type 1} → statement M
+leave-spec =
+    tie.close
+    (tie.spec
+    (λ c. search needs) (λ c. search needs) (λ c. search needs) (λ c. search needs) (λ c κs. search needs) (λ c. search needs)
+    array-write-marks (λ c. search needs) (λ c κs. search needs) (λ c κs. search needs) (λ c. search needs) (λ c. search needs)
+    returns)

@@ -1,0 +1,55 @@
+-- The invariant: the rows passed have fallen where their queue lost its first.
+use Prim.Native.Nat.{_/_, _-_, _≤_}
+use mathlib.Core.Path.{_≡_, refl}
+use native.Mathlib.Omega.{arith}
+use lib.Dec.{eqb}
+use lib.ListN.{getD}
+use Rattle.folds.specs.Each.{eachBelow}
+use Rattle.folds.proofs.EachLaws.{each-step, each-done}
+use Rattle.machine_state.specs.Shows.{noStanding}
+use Rattle.machine_steps.specs.Steps.{fallen, lowered}
+use Rattle.machine_steps.proofs.lower.Statement.{statement}
+use Rattle.machine_steps.proofs.lower.Tie as tie
+
+abbrev Inv-loop : tie.InvT-loop
+Inv-loop keys ended next₀ u₀ next u =
+    (u ≤ 64) × (next ≡ eachBelow noStanding (λ i s. fallen (eqb (getD ended (getD keys i 0 / 64) 0) 1) s) u next₀)
+
+abbrev μ-loop : tie.MeasureT-loop
+μ-loop keys ended next₀ u₀ next u = 64 - u
+
+loop-holds : tie.Need-loop-holds Inv-loop μ-loop
+unfolding eachBelow
+loop-holds c = (omega arith, refl)
+
+shared-slice-read-queue : tie.Need-shared-slice-read-queue Inv-loop μ-loop
+shared-slice-read-queue c = omega (arith, c .before .before .before .before .before .before .pre .0)
+
+cast-queue : tie.Need-cast-queue Inv-loop μ-loop
+cast-queue c =
+    let u = c .before .before .before .loop .u in
+    omega (arith, c .before .before .before .before .before .before .pre .2 u (omega arith))
+
+shared-slice-read-on : tie.Need-shared-slice-read-on Inv-loop μ-loop
+shared-slice-read-on c =
+    let u = c .before .before .before .before .loop .u in
+    let a = c .before .before .before .before .before .before .before in
+    omega (arith, a .pre .1, a .pre .2 u (omega arith))
+
+fall-requires : tie.Need-fall-requires Inv-loop μ-loop
+fall-requires c κs = tt
+
+loop-again : tie.Need-loop-again Inv-loop μ-loop
+loop-again c = (omega arith, each-step noStanding _ _ _ (c .before .before .before .before .before .loop .inv .1) (c .fall .ensures))
+
+returns : tie.Need-returns Inv-loop μ-loop
+unfolding lowered
+returns c = each-done noStanding _ 64 (c .before .loop .u) _ (omega arith) (c .before .loop .inv .1)
+
+pub lower-spec : {M : Type 1} → statement M
+lower-spec =
+    tie.close
+    (tie.spec
+    Inv-loop μ-loop loop-holds (λ c. omega arith) (λ c. omega arith) (λ c. omega arith) shared-slice-read-queue cast-queue
+    shared-slice-read-on fall-requires (λ c. omega arith) (λ c. omega arith) (λ c. omega arith) (λ c. omega arith) loop-again
+    returns)

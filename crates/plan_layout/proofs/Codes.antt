@@ -1,0 +1,42 @@
+-- Numbers of checks in order: one that fails is the number of the whole, and one that holds passes it on.
+use Prim.Native.Nat.{ℕ, suc}
+use mathlib.Core.Bool.{Bool, true, false, cond}
+use mathlib.Core.List.{List}
+use mathlib.Core.Path.{_≡_, refl, sym}
+use native.Mathlib.Omega.{arith}
+use Rattle.plan_rules.specs.declared.Counts.{Counts}
+use Rattle.plan_rules.specs.Rules.{uniqueOk, namesOk}
+use Rattle.plan_layout.specs.Layout.{taskRows, taskRowsOk, taskCode, lengthRows, lengthRowsOk, sectionCode, restCode, partsCode}
+
+stop : (a b : Bool) (x m l : ℕ) {k : ℕ} → k ≡ cond a (cond b 0 (suc m)) (suc l) → (k ≡ 0 → ⊥) → cond a (cond b x (suc m)) (suc l) ≡ k
+stop true true x m l e d = absurd (d e)
+stop true false x m l e d = sym e
+stop false b x m l e d = sym e
+
+pass : (a b : Bool) (x m l : ℕ) {k : ℕ} → k ≡ cond a (cond b 0 (suc m)) (suc l) → k ≡ 0 → cond a (cond b x (suc m)) (suc l) ≡ x
+pass true true x m l e z = refl
+pass true false x m l e z = let bad : ⊥ = omega arith in absurd bad
+pass false b x m l e z = let bad : ⊥ = omega arith in absurd bad
+
+module _ (c : Counts) (tasks resources sections names : List ℕ) where
+  pub tasks-fail : {k : ℕ} → k ≡ taskCode (c .tasks) (c .processors) tasks → (k ≡ 0 → ⊥) → partsCode c tasks resources sections names ≡ k
+  unfolding partsCode taskCode
+  tasks-fail e d =
+      stop (taskRowsOk (c .tasks) (c .processors) tasks) (uniqueOk (c .tasks) (taskRows (c .tasks) tasks)) (restCode c tasks resources sections names) 5 4 e d
+
+  pub tasks-hold : {k : ℕ} → k ≡ taskCode (c .tasks) (c .processors) tasks → k ≡ 0 → partsCode c tasks resources sections names ≡ restCode c tasks resources sections names
+  unfolding partsCode taskCode
+  tasks-hold e z =
+      pass (taskRowsOk (c .tasks) (c .processors) tasks) (uniqueOk (c .tasks) (taskRows (c .tasks) tasks)) (restCode c tasks resources sections names) 5 4 e z
+
+  pub starts-fail : lengthRowsOk (c .resources) resources ≡ false → restCode c tasks resources sections names ≡ 7
+  unfolding restCode
+  starts-fail a = rw a
+
+  pub names-fail : lengthRowsOk (c .resources) resources ≡ true → namesOk (c .resources) (lengthRows (c .resources) resources) names ≡ false → restCode c tasks resources sections names ≡ 7
+  unfolding restCode
+  names-fail a b = rw (a, b)
+
+  pub names-hold : lengthRowsOk (c .resources) resources ≡ true → namesOk (c .resources) (lengthRows (c .resources) resources) names ≡ true → restCode c tasks resources sections names ≡ sectionCode (c .tasks) (c .sections) (c .resources) tasks sections
+  unfolding restCode
+  names-hold a b = rw (a, b)

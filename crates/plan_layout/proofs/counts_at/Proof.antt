@@ -1,0 +1,14 @@
+-- The counts are the header's bytes.
+
+use borrow.Author.Needs.{needs}
+use Rattle.plan_layout.proofs.counts_at.Statement.{statement}
+use Rattle.plan_layout.proofs.counts_at.Tie as tie
+
+returns : tie.Need-returns
+returns c = rw (c .half-at .ensures)
+
+pub counts-at-spec : {M : Type 1} → statement M
+counts-at-spec =
+    tie.close
+    (tie.spec
+    (λ c. search needs) (λ c. search needs) (λ c. search needs) (λ c κs. search needs) returns)

@@ -1,0 +1,17 @@
+-- Each part begins where the counts say, and lies in the file.
+use borrow.Author.Needs.{needs}
+use Rattle.folds.proofs.Parts.{part-rest}
+use Rattle.plan_layout.proofs.file_code.Statement.{statement}
+use Rattle.plan_layout.proofs.file_code.Tie as tie
+
+returns : tie.Need-returns
+returns c =
+    rw (part-rest, part-rest, part-rest, c .before .before .before .before .sections-at .ensures, c .before .before .before .before .before .resources-at .ensures) at (c .parts-code .ensures)
+
+pub file-code-spec : {M : Type 1} → statement M
+file-code-spec =
+    tie.close
+    (tie.spec
+    (λ c κs. search needs) (λ c κs. search needs) (λ c. search needs) (λ c. search needs) (λ c. search needs) (λ c. search needs)
+    (λ c. search needs) (λ c. search needs) (λ c. search needs) (λ c. search needs) (λ c. search needs) (λ c κs. search needs)
+    returns)

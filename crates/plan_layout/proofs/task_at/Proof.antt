@@ -1,0 +1,21 @@
+-- The fields stand where the layout says.
+use Prim.Native.Nat.{_+_, _*_}
+use mathlib.Core.Path.{sym}
+use native.Mathlib.Omega.{arith}
+use Rattle.plan_layout.proofs.Laws.{task-fields}
+use borrow.Author.Needs.{needs}
+use Rattle.plan_layout.proofs.task_at.Statement.{statement}
+use Rattle.plan_layout.proofs.task_at.Tie as tie
+
+cast-t9 : tie.Need-cast-t9
+cast-t9 c = omega (arith, c .shared-slice-known3 .given (c .before .before .before .args .i * 8 + 1))
+
+returns : tie.Need-returns
+returns c = rw (c .half-at2 .ensures, c .before .half-at .ensures) (sym (task-fields _ _))
+
+pub task-at-spec : {M : Type 1} → statement M
+task-at-spec =
+    tie.close
+    (tie.spec
+    (λ c. search needs) (λ c. search needs) (λ c. search needs) (λ c. search needs) cast-t9 (λ c. search needs)
+    (λ c. search needs) (λ c. search needs) (λ c κs. search needs) (λ c. search needs) (λ c κs. search needs) returns)

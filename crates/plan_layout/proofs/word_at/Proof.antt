@@ -1,0 +1,19 @@
+use native.Mathlib.Omega.{arith}
+use Rattle.folds.specs.Bytes.{number}
+use borrow.Author.Needs.{needs}
+use Rattle.plan_layout.proofs.word_at.Statement.{statement}
+use Rattle.plan_layout.proofs.word_at.Tie as tie
+use Rattle.plan_layout.proofs.word_at.Reads as reads
+use Rattle.plan_layout.proofs.word_at.Lts as lts
+use Rattle.folds.proofs.wide.Reads as wide-reads
+
+returns : tie.Need-returns
+unfolding number
+returns c = omega arith
+
+pub word-at-spec : {M : Type 1} → statement M
+word-at-spec =
+    tie.close
+    (tie.spec
+    (λ c. search needs) (λ c κs. search needs) (λ c. search needs) (λ c. search needs) (λ c κs. search needs) (λ c. search needs)
+    (λ c. search needs) returns)

@@ -1,0 +1,332 @@
+-- What a file that passed its checks tells.
+use Prim.Native.Nat.{ℕ, suc, _+_, _*_, _<_, _≤_}
+use mathlib.Core.Bool.{Bool, true, false, cond, _&&_, not, true≢false}
+use mathlib.Core.List.{List, [], _∷_}
+use mathlib.Core.Path.{_≡_, refl, sym, ap, ap₂, _∙_}
+use native.Mathlib.Omega.{arith}
+use borrow.Author.Tests.{ltb-true, ltb-false, leb-true, eqb-true, eqb-false, eq-eqb, ne-eqb, not-true}
+use lib.Dec.{eqb, ltb}
+use lib.ListN.{length, getD, drop, length-drop, length-take, List·getD-eq-default}
+use lib.Seq.{getD-drop}
+use Rattle.folds.specs.Below.{sumBelow}
+use Rattle.folds.specs.Bytes.{number}
+use Rattle.folds.proofs.Tests.{and-parts, is-not-true, code-zero, code-next, first-zero, then-zero, all-at}
+use Rattle.folds.proofs.Figures.{sum-at}
+use Rattle.folds.proofs.Arrays.{by-eq}
+use Rattle.folds.proofs.RowLaws.{Bytes}
+use Rattle.plan_rules.specs.Rules.{taskOf, countsOk, taskOk, tagNew, priorityNew, uniqueOk, namesOk, sumsOk, lengthOf, lengthsOk}
+use Rattle.plan_rules.specs.declared.Counts.{Counts}
+use Rattle.plan_rules.specs.declared.TaskRow.{TaskRow}
+use Rattle.plan_layout.specs.Layout.{countsOf, tasksAt, resourcesAt, sectionsAt, namesAt, offsetsOk, taskAt, taskSpare, sectionAt, taskRowsOk, lengthRowsOk, sectionRowsOk, sectionCode, restCode, partsCode, tasksOf, lengthsOf, sectionsOf, rowsOf, namesOf, startAt, lengthAt, resourceSpare}
+use Rattle.plan_rules.proofs.Laws.{InRange, counts-facts, task-facts, section-facts, length-facts}
+use Rattle.plan_layout.proofs.Laws.{task-read, length-read, start-read, task-fields}
+use Rattle.plan_reading.specs.declared.ReadAnswer.{ReadAnswer}
+use Rattle.plan_reading.specs.declared.ReadAnswer.the-variants.{Accepted, Refused}
+use Rattle.plan_reading.specs.Plan.{planOf, Checked, TaskFits, SectionFits, Valid}
+use Rattle.plan_reading.specs.Reading.{headerCode, rowsCode, refusal, given, reading, refusedWith, told, readTold, nameRefusal, namePart}
+
+-- what the number of a file is after each check that fails or holds
+module _ (f : List ℕ) where
+  pub header-fails : {k : ℕ} → k ≡ headerCode f → (k ≡ 0 → ⊥) → refusal f ≡ k
+  unfolding refusal
+  header-fails e d = rw (← e, ne-eqb _ _ d)
+
+  pub header-holds : {k : ℕ} → k ≡ headerCode f → k ≡ 0 → refusal f ≡ rowsCode f
+  unfolding refusal
+  header-holds e z = rw (eq-eqb (headerCode f) 0 (sym e ∙ z))
+
+  -- and what a reading then is
+  pub read-refused : {k : ℕ} → k ≡ refusal f → (k ≡ 0 → ⊥) → reading f ≡ refusedWith k
+  unfolding given
+  read-refused e d = rw (← e, ne-eqb _ _ d)
+
+  pub read-accepted : {k : ℕ} → k ≡ refusal f → k ≡ 0 → reading f ≡ record { answer = Accepted (countsOf f); rows = rowsOf f }
+  unfolding given
+  read-accepted e z = rw (eq-eqb (refusal f) 0 (sym e ∙ z))
+
+-- the header
+pub record Header (f : List ℕ) : Type 0 where
+  pub long : 16 ≤ length f
+  pub whole : number 2 f 14 ≡ length f
+  pub edition : getD f 0 0 ≡ 1
+  pub counts : countsOk (countsOf f) ≡ true
+  pub ranges : InRange (countsOf f)
+  pub tasks-at : number 2 f 6 ≡ tasksAt
+  pub resources-at : number 2 f 8 ≡ resourcesAt (countsOf f)
+  pub sections-at : number 2 f 10 ≡ sectionsAt (countsOf f)
+  pub names-at : number 2 f 12 ≡ namesAt (countsOf f)
+  pub ends : namesAt (countsOf f) ≤ length f
+
+first-fails : (b : Bool) (k m : ℕ) → cond b (suc m) k ≡ 0 → b ≡ false
+first-fails true k m e = let bad : ⊥ = omega arith in absurd bad
+first-fails false k m e = refl
+
+first-next : (b : Bool) (k m : ℕ) → cond b (suc m) k ≡ 0 → k ≡ 0
+first-next true k m e = let bad : ⊥ = omega arith in absurd bad
+first-next false k m e = e
+
+pub header-facts : (f : List ℕ) → headerCode f ≡ 0 → Header f
+unfolding headerCode
+header-facts f e =
+    let e1 = first-next (ltb (length f) 16) _ 0 e in
+    let e2 = code-next (eqb (number 2 f 14) (length f)) _ 0 e1 in
+    let e3 = code-next (eqb (getD f 0 0) 1) _ 1 e2 in
+    let e4 = code-next (countsOk (countsOf f)) _ 2 e3 in
+    let ok : countsOk (countsOf f) ≡ true = code-zero _ _ 2 e3 in
+    let a = and-parts _ _ (code-zero (offsetsOk (countsOf f) f) _ 3 e4) in
+    let b = and-parts _ _ (a .0) in
+    let d = and-parts _ _ (b .0) in
+    let g = and-parts _ _ (d .0) in
+    record {
+      long = ltb-false _ _ (first-fails (ltb (length f) 16) _ 0 e);
+      whole = eqb-true _ _ (code-zero _ _ 0 e1);
+      edition = eqb-true _ _ (code-zero _ _ 1 e2);
+      counts = ok;
+      ranges = counts-facts (countsOf f) ok;
+      tasks-at = eqb-true _ _ (g .0);
+      resources-at = eqb-true _ _ (g .1);
+      sections-at = eqb-true _ _ (d .1);
+      names-at = eqb-true _ _ (b .1);
+      ends = leb-true _ _ (a .1);
+    }
+
+-- a whole plan
+pub record Whole (f : List ℕ) : Type 0 where
+  pub header : Header f
+  pub tasks : taskRowsOk (countsOf f .tasks) (countsOf f .processors) (drop tasksAt f) ≡ true
+  pub unique : uniqueOk (countsOf f .tasks) (tasksOf f) ≡ true
+  pub starts : lengthRowsOk (countsOf f .resources) (drop (resourcesAt (countsOf f)) f) ≡ true
+  pub names : namesOk (countsOf f .resources) (lengthsOf f) (namesOf f) ≡ true
+  pub sections : sectionRowsOk (countsOf f .sections) (countsOf f .tasks) (countsOf f .resources) (drop (sectionsAt (countsOf f)) f) ≡ true
+  pub sums : sumsOk (countsOf f .tasks) (countsOf f .sections) (tasksOf f) (sectionsOf f) ≡ true
+
+pub header-clear : (f : List ℕ) → refusal f ≡ 0 → headerCode f ≡ 0
+unfolding refusal
+header-clear f e = first-zero (headerCode f) (rowsCode f) e
+
+pub whole-facts : (f : List ℕ) → refusal f ≡ 0 → Whole f
+unfolding refusal partsCode restCode sectionCode
+whole-facts f e =
+    let h : headerCode f ≡ 0 = first-zero (headerCode f) _ e in
+    let r1 = then-zero (headerCode f) _ e in
+    let r2 = code-next (taskRowsOk (countsOf f .tasks) (countsOf f .processors) (drop tasksAt f)) _ 4 r1 in
+    let r3 = code-next (uniqueOk (countsOf f .tasks) (tasksOf f)) _ 5 r2 in
+    let r4 = code-next (lengthRowsOk (countsOf f .resources) (drop (resourcesAt (countsOf f)) f)) _ 6 r3 in
+    let r5 = code-next (namesOk (countsOf f .resources) (lengthsOf f) (namesOf f)) _ 6 r4 in
+    let r6 = code-next (sectionRowsOk (countsOf f .sections) (countsOf f .tasks) (countsOf f .resources) (drop (sectionsAt (countsOf f)) f)) _ 7 r5 in
+    record {
+      header = header-facts f h;
+      tasks = code-zero _ _ 4 r1;
+      unique = code-zero _ _ 5 r2;
+      starts = code-zero _ _ 6 r3;
+      names = code-zero _ _ 6 r4;
+      sections = code-zero _ _ 7 r5;
+      sums = code-zero _ _ 8 r6;
+    }
+
+-- what the answer of a reading tells
+pub record Got (f : List ℕ) (c : Counts) : Type 0 where
+  pub none : refusal f ≡ 0
+  pub counts : c ≡ countsOf f
+  pub rows : reading f .rows ≡ rowsOf f
+
+counts-in : ReadAnswer → Counts
+counts-in (Accepted c) = c
+counts-in (Refused k) = record { processors = 0; tasks = 0; resources = 0; sections = 0 }
+
+number-in : ReadAnswer → ℕ
+number-in (Accepted c) = 0
+number-in (Refused k) = suc k
+
+pub given-told : (f : List ℕ) → told (reading f .answer) ≡ readTold f
+unfolding given
+given-told f =
+    by-eq
+    (λ (b : Bool). told ((cond b (record { answer = Accepted (countsOf f); rows = rowsOf f }) (refusedWith (refusal f))) .answer) ≡ record { number = refusal f; values = cond b (getD f 1 0 ∷ getD f 2 0 ∷ getD f 3 0 ∷ number 2 f 4 ∷ []) [] })
+    (refusal f) 0 (λ q. rw q) (λ d. refl)
+
+pub got-plan : (f : List ℕ) (c : Counts) → reading f .answer ≡ Accepted c → Got f c
+unfolding given counts-in number-in
+got-plan f c e = go (eqb (refusal f) 0) refl e
+  where
+    go : (b : Bool) → eqb (refusal f) 0 ≡ b → (cond b (record { answer = Accepted (countsOf f); rows = rowsOf f }) (refusedWith (refusal f))) .answer ≡ Accepted c → Got f c
+    go true t a = record { none = eqb-true _ _ t; counts = sym (ap counts-in a); rows = rw t }
+    go false t a = let bad : suc (refusal f) ≡ 0 = ap number-in a in let off : ⊥ = omega arith in absurd off
+
+pub got-refusal : (f : List ℕ) (k : ℕ) → reading f .answer ≡ Refused k → (refusal f ≡ k) × (k ≡ 0 → ⊥)
+unfolding given number-in
+got-refusal f k e = go (eqb (refusal f) 0) refl e
+  where
+    go : (b : Bool) → eqb (refusal f) 0 ≡ b → (cond b (record { answer = Accepted (countsOf f); rows = rowsOf f }) (refusedWith (refusal f))) .answer ≡ Refused k → (refusal f ≡ k) × (k ≡ 0 → ⊥)
+    go true t a = let bad : 0 ≡ suc k = ap number-in a in let off : ⊥ = omega arith in absurd off
+    go false t a = let same : suc (refusal f) ≡ suc k = ap number-in a in (omega arith, λ z. eqb-false (refusal f) 0 t (omega arith))
+
+-- a name that is asked for rightly lies in the file, and is as long as its rule says
+pub record Named (f : List ℕ) (q : ℕ) : Type 0 where
+  pub whole : Whole f
+  pub below : q < countsOf f .resources
+  pub fits : namesAt (countsOf f) + (startAt (drop (resourcesAt (countsOf f)) f) q + lengthAt (drop (resourcesAt (countsOf f)) f) q) ≤ length f
+  pub short : lengthAt (drop (resourcesAt (countsOf f)) f) q ≤ 12
+
+pub name-facts : (f : List ℕ) (q : ℕ) → refusal f ≡ 0 → q < countsOf f .resources → Named f q
+unfolding lengthRowsOk namesOk
+name-facts f q e l =
+    let part : List ℕ = drop (resourcesAt (countsOf f)) f in
+    let r : ℕ = countsOf f .resources in
+    let w = whole-facts f e in
+    let at = and-parts (eqb (startAt part q) (sumBelow q (lengthAt part))) (eqb (resourceSpare part q) 0) (all-at r q _ (w .starts) l) in
+    let start : startAt part q ≡ sumBelow q (lengthAt part) = eqb-true _ _ (at .0) in
+    let kept = and-parts (eqb (sumBelow r (lengthOf (lengthsOf f))) (length (namesOf f))) _ (w .names) in
+    let total : sumBelow r (lengthAt part) ≡ length (namesOf f) = sym (start-read r part r (omega arith) (w .header .ranges .resources)) ∙ eqb-true _ _ (kept .0) in
+    let rule = length-facts r q (lengthsOf f) (and-parts (lengthsOk r (lengthsOf f)) _ (kept .1) .0) l in
+    record {
+      whole = w;
+      below = l;
+      fits = omega (arith, sum-at r q (lengthAt part) l, length-drop (namesAt (countsOf f)) f, w .header .ends);
+      short = omega (arith, rule .high, length-read r part q l (w .header .ranges .resources));
+    }
+
+-- a part of the file that is such a name
+pub name-said : (part f : List ℕ) (q : ℕ) → Named f q → part ≡ namePart f q → (part ≡ namePart f q) × (length part ≤ 12)
+unfolding namePart
+name-said part f q n e =
+    (e, rw e (omega (arith, length-take (lengthAt (drop (resourcesAt (countsOf f)) f) q) (drop (namesAt (countsOf f) + startAt (drop (resourcesAt (countsOf f)) f) q) f), n .short)))
+
+-- what a question for a name that is not refused says
+pub record Answered (f : List ℕ) (q : ℕ) : Type 0 where
+  pub none : refusal f ≡ 0
+  pub below : q < countsOf f .resources
+
+pub name-answered : (f : List ℕ) (q : ℕ) → nameRefusal f q ≡ 0 → Answered f q
+unfolding nameRefusal
+name-answered f q e =
+    let r : ℕ = countsOf f .resources in
+    record {
+      none = first-zero (refusal f) (cond (ltb q r) 0 12) e;
+      below = ltb-true q r (code-zero (ltb q r) 0 11 (then-zero (refusal f) (cond (ltb q r) 0 12) e));
+    }
+
+-- the plan of a file has the counts in its header
+module _ (f : List ℕ) where
+  pub plan-processors : planOf f .processors ≡ countsOf f .processors
+  unfolding planOf
+  plan-processors = refl
+
+  pub plan-tasks : planOf f .tasks ≡ countsOf f .tasks
+  unfolding planOf
+  plan-tasks = refl
+
+  pub plan-resources : planOf f .resources ≡ countsOf f .resources
+  unfolding planOf
+  plan-resources = refl
+
+  pub plan-sections : planOf f .sections ≡ countsOf f .sections
+  unfolding planOf
+  plan-sections = refl
+
+-- what is read past the end of a file is 0, so a byte too
+checked-bytes : (f : List ℕ) → Checked f → Bytes f
+checked-bytes f h k = go (ltb k (length f)) refl
+  where
+    go : (b : Bool) → ltb k (length f) ≡ b → getD f k 0 < 256
+    go true t = h .bytes k (ltb-true _ _ t)
+    go false t = rw (List·getD-eq-default f 0 (ltb-false _ _ t)) (omega arith)
+
+bytes-drop : (n : ℕ) (s : List ℕ) → Bytes s → Bytes (drop n s)
+bytes-drop n s b i = rw getD-drop (b (n + i))
+
+word-below : (s : List ℕ) (at : ℕ) → Bytes s → number 2 s at < 65536
+unfolding number
+word-below s at b = omega (arith, b at, b (at + 1))
+
+-- a checked file holds a plan in its ranges
+pub valid-plan : (f : List ℕ) → Checked f → Valid (planOf f)
+unfolding planOf taskRowsOk sectionRowsOk uniqueOk priorityNew
+valid-plan f h =
+    record {
+      processor = r .processor;
+      processors = r .processors;
+      task = r .task;
+      tasks = r .tasks;
+      resource = r .resource;
+      resources = r .resources;
+      sections = r .sections;
+      task-fits = task-fits;
+      unique = unique;
+      section-fits = section-fits;
+    }
+  where
+    c : Counts
+    c = countsOf f
+
+    w : Whole f
+    w = whole-facts f (h .none)
+
+    r : InRange c
+    r = w .header .ranges
+
+    task-fits : (i : ℕ) → i < c .tasks → TaskFits (c .processors) (taskAt (drop tasksAt f) i)
+    task-fits i l =
+        let part : List ℕ = drop tasksAt f in
+        let b : Bytes part = bytes-drop tasksAt f (checked-bytes f h) in
+        let ok = and-parts (taskOk (c .processors) (taskAt part i)) (eqb (taskSpare part i) 0) (all-at (c .tasks) i _ (w .tasks) l) .0 in
+        let t = task-facts (c .processors) (taskAt part i) ok in
+        let priority : taskAt part i .priority ≡ getD part (i * 8 + 2) 0 = ap (λ (v : TaskRow). v .priority) (task-fields part i) in
+        let period : taskAt part i .period ≡ number 2 part (i * 8 + 4) = ap (λ (v : TaskRow). v .period) (task-fields part i) in
+        record {
+          processor = t .processor;
+          tag = omega (arith, t .tag);
+          low = t .priority;
+          high = omega (arith, b (i * 8 + 2));
+          execution = t .execution;
+          within = t .period;
+          period = omega (arith, word-below part (i * 8 + 4) b);
+        }
+
+    task : ℕ → TaskRow
+    task = taskAt (drop tasksAt f)
+
+    -- no earlier task has both, by the check of unique rows
+    earlier : (i j : ℕ) → i < c .tasks → j < i → task i .processor ≡ task j .processor → task i .priority ≡ task j .priority → ⊥
+    earlier i j l m p q =
+        let rows : List TaskRow = tasksOf f in
+        let at : taskOf rows i ≡ task i = task-read (c .tasks) (drop tasksAt f) i l (r .tasks) in
+        let before : taskOf rows j ≡ task j = task-read (c .tasks) (drop tasksAt f) j (omega arith) (r .tasks) in
+        let new : priorityNew rows i ≡ true = and-parts (tagNew rows i) (priorityNew rows i) (all-at (c .tasks) i _ (w .unique) l) .1 in
+        let off = not-true _ (all-at i j (λ k. not (eqb (taskOf rows i .processor) (taskOf rows k .processor) && eqb (taskOf rows i .priority) (taskOf rows k .priority))) new m) in
+        let processor : eqb (taskOf rows i .processor) (taskOf rows j .processor) ≡ true = eq-eqb _ _ (ap (λ (v : TaskRow). v .processor) at ∙ p ∙ sym (ap (λ (v : TaskRow). v .processor) before)) in
+        let priority : eqb (taskOf rows i .priority) (taskOf rows j .priority) ≡ true = eq-eqb _ _ (ap (λ (v : TaskRow). v .priority) at ∙ q ∙ sym (ap (λ (v : TaskRow). v .priority) before)) in
+        true≢false (sym (ap₂ _&&_ processor priority) ∙ off)
+
+    unique : (i j : ℕ) → i < c .tasks → j < c .tasks → task i .processor ≡ task j .processor → task i .priority ≡ task j .priority → i ≡ j
+    unique i j l m p q =
+        let up : i ≤ j = ltb-false j i (is-not-true _ (λ b. earlier i j l (ltb-true j i b) p q)) in
+        let down : j ≤ i = ltb-false i j (is-not-true _ (λ b. earlier j i m (ltb-true i j b) (sym p) (sym q))) in
+        omega arith
+
+    section-fits : (s : ℕ) → s < c .sections → SectionFits (c .tasks) (c .resources) (sectionAt (drop (sectionsAt c) f) s)
+    section-fits s l =
+        let part : List ℕ = drop (sectionsAt c) f in
+        let t = section-facts (c .tasks) (c .resources) (sectionAt part s) (all-at (c .sections) s _ (w .sections) l) in
+        record { task = t .task; resource = t .resource; low = t .low; high = t .high }
+
+-- and its tags are unique
+pub tags-differ : (f : List ℕ) → Checked f → (i j : ℕ) → i < planOf f .tasks → j < planOf f .tasks → planOf f .task i .tag ≡ planOf f .task j .tag → i ≡ j
+unfolding planOf uniqueOk tagNew
+tags-differ f h i j l m e =
+    let up : i ≤ j = ltb-false j i (is-not-true _ (λ b. earlier i j l (ltb-true j i b) e)) in
+    let down : j ≤ i = ltb-false i j (is-not-true _ (λ b. earlier j i m (ltb-true i j b) (sym e))) in
+    omega arith
+  where
+    -- no earlier task has the tag, by the check of unique rows
+    earlier : (i j : ℕ) → i < countsOf f .tasks → j < i → taskAt (drop tasksAt f) i .tag ≡ taskAt (drop tasksAt f) j .tag → ⊥
+    earlier i j l m e =
+        let c : Counts = countsOf f in
+        let w = whole-facts f (h .none) in
+        let rows : List TaskRow = tasksOf f in
+        let tag : TaskRow → ℕ = λ v. v .tag in
+        let at = ap tag (task-read (c .tasks) (drop tasksAt f) i l (w .header .ranges .tasks)) in
+        let before = ap tag (task-read (c .tasks) (drop tasksAt f) j (omega arith) (w .header .ranges .tasks)) in
+        let new : tagNew rows i ≡ true = and-parts (tagNew rows i) (priorityNew rows i) (all-at (c .tasks) i _ (w .unique) l) .0 in
+        let off = not-true _ (all-at i j (λ k. not (eqb (taskOf rows i .tag) (taskOf rows k .tag))) new m) in
+        eqb-false (taskOf rows i .tag) (taskOf rows j .tag) off (at ∙ e ∙ sym before)

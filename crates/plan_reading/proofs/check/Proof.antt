@@ -1,0 +1,26 @@
+-- Each return is the branch of the definition.
+use mathlib.Core.Path.{sym, _∙_}
+use borrow.Author.Needs.{needs}
+use Rattle.plan_reading.proofs.Laws.{header-facts, header-fails, header-holds}
+use Rattle.plan_reading.proofs.check.Statement.{statement}
+use Rattle.plan_reading.proofs.check.Tie as tie
+
+header-code-requires : tie.Need-header-code-requires
+header-code-requires c κs = search needs
+
+returns : tie.Need-returns
+returns c = sym (header-fails _ (c .before .header-code .ensures) (c .if1 .taken))
+
+counts-at-requires : tie.Need-counts-at-requires
+counts-at-requires c κs = header-facts _ (sym (c .before .header-code .ensures) ∙ c .if1 .left) .long
+
+rows-code-requires : tie.Need-rows-code-requires
+rows-code-requires c κs = search needs
+
+returns-2 : tie.Need-returns-2
+returns-2 c = c .rows-code .ensures ∙ sym (header-holds _ (c .before .before .before .header-code .ensures) (c .before .before .if1 .left))
+
+pub check-spec : {M : Type 1} → statement M
+check-spec =
+    tie.close
+    (tie.spec header-code-requires returns counts-at-requires rows-code-requires returns-2)

@@ -1,0 +1,19 @@
+-- The header of a checked file is whole, and the plan has its counts.
+use mathlib.Core.Path.{ap}
+use Rattle.plan_rules.specs.declared.Counts.{Counts}
+use Rattle.plan_reading.specs.Plan.{planOf}
+use Rattle.plan_reading.proofs.Laws.{whole-facts}
+use Rattle.plan_reading.proofs.checked.counts.Statement.{statement}
+use Rattle.plan_reading.proofs.checked.counts.Tie as tie
+
+counts-at-requires : tie.Need-counts-at-requires
+counts-at-requires c κs = whole-facts _ (c .before .pre .none) .header .long
+
+returns : tie.Need-returns
+unfolding planOf
+returns c =
+    let e = c .counts-at .ensures in
+    (ap (λ (k : Counts). k .processors) e, ap (λ (k : Counts). k .tasks) e, ap (λ (k : Counts). k .resources) e, ap (λ (k : Counts). k .sections) e)
+
+pub counts-spec : {M : Type 1} → statement M
+counts-spec = tie.close (tie.spec counts-at-requires returns)

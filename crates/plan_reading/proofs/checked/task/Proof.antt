@@ -1,0 +1,32 @@
+-- A row of the plan lies in the part of a checked file that begins at the task rows.
+use native.Mathlib.Omega.{arith}
+use borrow.Author.Needs.{needs}
+use lib.ListN.{length-drop}
+use Rattle.folds.proofs.Parts.{part-rest}
+use Rattle.plan_reading.specs.Plan.{planOf}
+use Rattle.plan_reading.proofs.Laws.{whole-facts, plan-tasks}
+use Rattle.plan_reading.proofs.checked.task.Statement.{statement}
+use Rattle.plan_reading.proofs.checked.task.Tie as tie
+
+sub-task-at : tie.Need-sub-task-at
+sub-task-at c = omega (arith, whole-facts _ (c .before .pre .0 .none) .header .long)
+
+part-task-at-start : tie.Need-part-task-at-start
+part-task-at-start c = omega (arith, whole-facts _ (c .before .pre .0 .none) .header .long)
+
+part-task-at-end : tie.Need-part-task-at-end
+part-task-at-end c = search needs
+
+task-at-requires : tie.Need-task-at-requires
+task-at-requires c κs =
+    let a = c .before .before in
+    let h = whole-facts _ (a .pre .0 .none) .header in
+    simp (part-rest, length-drop) (omega (arith, a .pre .1, plan-tasks (a .args .file .now), h .ranges .tasks, h .ends))
+
+returns : tie.Need-returns
+unfolding planOf
+returns c = rw (c .task-at .ensures, part-rest)
+
+pub task-spec : {M : Type 1} → statement M
+task-spec =
+    tie.close (tie.spec sub-task-at part-task-at-start part-task-at-end task-at-requires returns)

@@ -1,0 +1,36 @@
+-- The names begin where the counts say, and the header's checks gave that this lies in the file.
+use mathlib.Core.Path.{ap, _∙_}
+use native.Mathlib.Omega.{arith}
+use borrow.Author.Needs.{needs}
+use Rattle.folds.proofs.Parts.{part-rest}
+use Rattle.plan_layout.specs.Layout.{namesAt}
+use Rattle.plan_reading.proofs.Laws.{header-facts}
+use Rattle.plan_reading.proofs.rows_code.Statement.{statement}
+use Rattle.plan_reading.proofs.rows_code.Tie as tie
+
+sub-file-code : tie.Need-sub-file-code
+sub-file-code c =
+    let h = header-facts _ (c .before .before .pre .0) in
+    let e = c .names-at .ensures ∙ ap namesAt (c .before .before .pre .1) in
+    omega (arith, h .ends)
+
+part-file-code-start : tie.Need-part-file-code-start
+part-file-code-start c =
+    let h = header-facts _ (c .before .before .pre .0) in
+    let e = c .names-at .ensures ∙ ap namesAt (c .before .before .pre .1) in
+    omega (arith, h .ends)
+
+file-code-requires : tie.Need-file-code-requires
+file-code-requires c κs =
+    let a = c .before .before .before in
+    let h = header-facts _ (a .pre .0) in
+    rw (a .pre .1) (h .counts, h .ends)
+
+returns : tie.Need-returns
+returns c = rw (part-rest, c .before .before .names-at .ensures, c .before .before .before .before .pre .1) at (c .file-code .ensures)
+
+pub rows-code-spec : {M : Type 1} → statement M
+rows-code-spec =
+    tie.close
+    (tie.spec
+    (λ c κs. search needs) sub-file-code part-file-code-start (λ c. search needs) file-code-requires returns)

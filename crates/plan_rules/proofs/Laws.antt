@@ -1,0 +1,161 @@
+-- What counts, rows and lengths that keep their rules have, and the laws of the numbers of names.
+use Prim.Native.Nat.{ℕ, _+_, _-_, _*_, _/_, _<_, _≤_}
+use mathlib.Core.Bool.{Bool, true, false, cond, _&&_, not}
+use mathlib.Core.List.{List}
+use mathlib.Core.Path.{_≡_, refl, sym, ap, _∙_}
+use native.Mathlib.Nat.{add-zero, add-assoc}
+use native.Mathlib.Omega.{arith}
+use borrow.Author.Tests.{le-leb, ltb-true, ltb-false, leb-true, eq-eqb, ne-eqb, eqb-true, eqb-false, not-true}
+use lib.Dec.{leb, ltb, eqb}
+use lib.ListN.{length, getD, replicate}
+use Rattle.folds.proofs.Tests.{and-parts, all-at, all-from}
+use Rattle.folds.specs.Bytes.{number}
+use Rattle.folds.proofs.RowLaws.{number-same}
+use Rattle.folds.proofs.Arrays.{by-eq, placed-at}
+use Rattle.plan_rules.specs.declared.Counts.{Counts}
+use Rattle.plan_rules.specs.declared.TaskRow.{TaskRow}
+use Rattle.plan_rules.specs.declared.SectionRow.{SectionRow}
+use Rattle.plan_rules.specs.Rules.{taskOf, countsOk, taskOk, tasksOk, tagsOk, sectionOk, lengthOf, startOf, lengthsOk, sameBytes, differ, nameNew, namesDiffer}
+use Rattle.plan_rules.specs.Digests.{digestOf, digestsOf, numberNew, numbersDiffer}
+
+-- counts in their ranges
+pub record InRange (c : Counts) : Type 0 where
+  pub processor : 1 ≤ c .processors
+  pub processors : c .processors ≤ 8
+  pub task : 1 ≤ c .tasks
+  pub tasks : c .tasks ≤ 64
+  pub resource : 1 ≤ c .resources
+  pub resources : c .resources ≤ 16
+  pub sections : c .sections ≤ 255
+
+pub counts-facts : (c : Counts) → countsOk c ≡ true → InRange c
+counts-facts c h =
+    let g = and-parts _ _ h in
+    let f = and-parts _ _ (g .0) in
+    let e = and-parts _ _ (f .0) in
+    let d = and-parts _ _ (e .0) in
+    let k = and-parts _ _ (d .0) in
+    let p = and-parts _ _ (k .0) in
+    record {
+      processor = leb-true _ _ (p .0);
+      processors = leb-true _ _ (p .1);
+      task = leb-true _ _ (k .1);
+      tasks = leb-true _ _ (d .1);
+      resource = leb-true _ _ (e .1);
+      resources = leb-true _ _ (f .1);
+      sections = leb-true _ _ (g .1);
+    }
+
+-- a task that keeps its rule in a plan of p processors
+pub record Task (p : ℕ) (t : TaskRow) : Type 0 where
+  pub processor : t .processor < p
+  pub tag : t .tag ≤ 255
+  pub priority : 1 ≤ t .priority
+  pub execution : 1 ≤ t .execution
+  pub period : t .execution ≤ t .period
+
+pub task-facts : (p : ℕ) (t : TaskRow) → taskOk p t ≡ true → Task p t
+task-facts p t h =
+    let e = and-parts _ _ h in
+    let d = and-parts _ _ (e .0) in
+    let c = and-parts _ _ (d .0) in
+    let b = and-parts _ _ (c .0) in
+    record {
+      processor = ltb-true _ _ (b .0);
+      tag = leb-true _ _ (b .1);
+      priority = leb-true _ _ (c .1);
+      execution = leb-true _ _ (d .1);
+      period = leb-true _ _ (e .1);
+    }
+
+pub task-at : (n p i : ℕ) (tasks : List TaskRow) → tasksOk n p tasks ≡ true → i < n → Task p (taskOf tasks i)
+unfolding tasksOk
+task-at n p i tasks h l = task-facts p (taskOf tasks i) (all-at n i (λ k. taskOk p (taskOf tasks k)) h l)
+
+-- tasks that keep their rule have tags of one byte
+pub tags-kept : (n p : ℕ) (tasks : List TaskRow) → tasksOk n p tasks ≡ true → tagsOk n tasks ≡ true
+unfolding tagsOk
+tags-kept n p tasks h = all-from n _ (λ i l. le-leb _ _ (task-at n p i tasks h l .tag))
+
+-- a section that keeps its rule in a plan of n tasks and r resources
+pub record Section (n r : ℕ) (s : SectionRow) : Type 0 where
+  pub task : s .task < n
+  pub resource : s .resource < r
+  pub low : 1 ≤ s .length
+  pub high : s .length ≤ 1000
+
+pub section-facts : (n r : ℕ) (s : SectionRow) → sectionOk n r s ≡ true → Section n r s
+section-facts n r s h =
+    let d = and-parts _ _ h in
+    let c = and-parts _ _ (d .0) in
+    let b = and-parts _ _ (c .0) in
+    record {
+      task = ltb-true _ _ (b .0);
+      resource = ltb-true _ _ (b .1);
+      low = leb-true _ _ (c .1);
+      high = leb-true _ _ (d .1);
+    }
+
+-- a processor and a priority below 256 as one number
+pub place-eqb : (p q a b : ℕ) → a < 256 → b < 256 → eqb (p * 256 + a) (q * 256 + b) ≡ (eqb p q && eqb a b)
+place-eqb p q a b la lb =
+    by-eq (λ (t : Bool). eqb (p * 256 + a) (q * 256 + b) ≡ (t && eqb a b)) p q
+    (λ e. by-eq (λ (t : Bool). eqb (p * 256 + a) (q * 256 + b) ≡ t) a b (λ f. eq-eqb (p * 256 + a) (q * 256 + b) (omega arith)) (λ d. ne-eqb (p * 256 + a) (q * 256 + b) (λ f. d (omega arith))))
+    (λ d. ne-eqb (p * 256 + a) (q * 256 + b) (λ f. d (omega arith)))
+
+-- a name length that keeps its rule
+pub record Length (l : ℕ) : Type 0 where
+  pub low : 1 ≤ l
+  pub high : l ≤ 12
+
+pub length-facts : (r i : ℕ) (lengths : List ℕ) → lengthsOk r lengths ≡ true → i < r → Length (lengthOf lengths i)
+unfolding lengthsOk
+length-facts r i lengths h l =
+    let a = and-parts (leb 1 (lengthOf lengths i)) (leb (lengthOf lengths i) 12) (all-at r i _ h l) in
+    record { low = leb-true _ _ (a .0); high = leb-true _ _ (a .1) }
+
+-- the number of name i among those of r names
+pub digest-at : (r i : ℕ) (lengths names : List ℕ) → i < r → r ≤ 16 → getD (digestsOf r lengths names) i 0 ≡ digestOf names (startOf lengths i) (lengthOf lengths i)
+unfolding digestsOf
+digest-at r i lengths names l h =
+    placed-at r i (λ k. digestOf names (startOf lengths k) (lengthOf lengths k)) (replicate 16 0) 0 l h
+
+-- the same bytes have one number
+pub digest-same : (names : List ℕ) (a b len : ℕ) → 1 ≤ len → sameBytes names a b len ≡ true → digestOf names a len ≡ digestOf names b len
+unfolding sameBytes digestOf
+digest-same names a b len h e = go (ltb len 4) refl
+  where
+    same : (k : ℕ) → k < len → getD names (a + k) 0 ≡ getD names (b + k) 0
+    same k l = eqb-true _ _ (all-at len k (λ j. eqb (getD names (a + j) 0) (getD names (b + j) 0)) e l)
+
+    four : (o : ℕ) → o + 4 ≤ len → number 4 names (a + o) ≡ number 4 names (b + o)
+    four o l =
+        number-same 4 names (a + o) (b + o)
+        (λ k m. ap (λ (n : ℕ). getD names n 0) (add-assoc a o k) ∙ same (o + k) (omega arith) ∙ sym (ap (λ (n : ℕ). getD names n 0) (add-assoc b o k)))
+
+    go : (t : Bool) → ltb len 4 ≡ t → cond t (getD names a 0 + 256 * getD names (a + len / 2) 0 + 65536 * getD names (a + (len - 1)) 0) (number 4 names a + 3 * number 4 names (a + (len - 4) / 2) + 5 * number 4 names (a + (len - 4))) ≡ cond t (getD names b 0 + 256 * getD names (b + len / 2) 0 + 65536 * getD names (b + (len - 1)) 0) (number 4 names b + 3 * number 4 names (b + (len - 4) / 2) + 5 * number 4 names (b + (len - 4)))
+    go true t = omega (arith, simp add-zero at (same 0 (omega arith)), same (len / 2) (omega arith), same (len - 1) (omega arith))
+    go false t =
+        let l : 4 ≤ len = ltb-false len 4 t in
+        omega (arith, simp add-zero at (four 0 (omega arith)), four ((len - 4) / 2) (omega arith), four (len - 4) (omega arith))
+
+-- names whose numbers differ are not equal
+pub digest-differ : (lengths names : List ℕ) (i j a b : ℕ) → 1 ≤ lengthOf lengths i → (digestOf names a (lengthOf lengths i) ≡ digestOf names b (lengthOf lengths j) → ⊥) → differ lengths names i j a b ≡ true
+unfolding differ
+digest-differ lengths names i j a b h d =
+    either (eqb (lengthOf lengths i) (lengthOf lengths j)) (sameBytes names a b (lengthOf lengths i))
+    (λ e f. d (digest-same names a b (lengthOf lengths i) h f ∙ ap (digestOf names b) (eqb-true (lengthOf lengths i) (lengthOf lengths j) e)))
+  where
+    either : (x y : Bool) → (x ≡ true → y ≡ true → ⊥) → not (x && y) ≡ true
+    either true true g = absurd (g refl refl)
+    either true false g = refl
+    either false y g = refl
+
+pub digests-differ : (r : ℕ) (lengths names : List ℕ) → r ≤ 16 → lengthsOk r lengths ≡ true → numbersDiffer r (digestsOf r lengths names) ≡ true → namesDiffer r lengths names ≡ true
+unfolding numbersDiffer numberNew namesDiffer nameNew
+digests-differ r lengths names h ok t =
+    let l : List ℕ = digestsOf r lengths names in
+    all-from r (nameNew lengths names)
+    (λ i p. all-from i (λ j. differ lengths names i j (startOf lengths i) (startOf lengths j))
+    (λ j q. digest-differ lengths names i j (startOf lengths i) (startOf lengths j) (length-facts r i lengths ok p .low)
+    (λ e. eqb-false (getD l i 0) (getD l j 0) (not-true _ (all-at i j (λ k. not (eqb (getD l i 0) (getD l k 0))) (all-at r i (numberNew l) t p) q)) (digest-at r i lengths names p h ∙ e ∙ sym (digest-at r j lengths names (omega arith) h)))))

@@ -1,0 +1,23 @@
+-- Names of different lengths differ; else their bytes decide.
+use borrow.Author.Tests.{eq-eqb, ne-eqb}
+use Rattle.plan_rules.specs.Rules.{differ}
+use borrow.Author.Needs.{needs}
+use Rattle.plan_rules.proofs.names.differs.Statement.{statement}
+use Rattle.plan_rules.proofs.names.differs.Tie as tie
+
+returns : tie.Need-returns
+unfolding differ
+returns c =
+    simp (← c .before .before .wide .ensures .0, ← c .before .wide2 .ensures .0, ne-eqb _ _ (c .if1 .taken))
+
+returns-2 : tie.Need-returns-2
+unfolding differ
+returns-2 c =
+    simp (← c .before .before .before .wide .ensures .0, ← c .before .before .wide2 .ensures .0, eq-eqb _ _ (c .before .if1 .left), c .same-bytes .ensures)
+
+pub differs-spec : {M : Type 1} → statement M
+differs-spec =
+    tie.close
+    (tie.spec
+    (λ c. search needs) (λ c κs. search needs) (λ c. search needs) (λ c κs. search needs) returns (λ c κs. search needs)
+    returns-2)

@@ -1,0 +1,23 @@
+-- Each return is the branch of the definition.
+use borrow.Author.Tests.{lt-ltb, le-ltb}
+use Rattle.plan_rules.specs.Digests.{digestOf}
+use borrow.Author.Needs.{needs}
+use Rattle.plan_rules.proofs.names.digest_of.Statement.{statement}
+use Rattle.plan_rules.proofs.names.digest_of.Tie as tie
+
+returns : tie.Need-returns
+unfolding digestOf
+returns c = rw (lt-ltb _ _ (c .before .before .before .before .before .before .if1 .taken), c .wide3 .ensures .0, c .before .before .wide2 .ensures .0, c .before .before .before .before .wide .ensures .0)
+
+returns-2 : tie.Need-returns-2
+unfolding digestOf
+returns-2 c = rw (le-ltb _ _ (c .before .before .before .if1 .left), c .quad3 .ensures .0, c .before .quad2 .ensures .0, c .before .before .quad .ensures .0)
+
+pub digest-of-spec : {M : Type 1} → statement M
+digest-of-spec =
+    tie.close
+    (tie.spec
+    (λ c. search needs) (λ c κs. search needs) (λ c. search needs) (λ c. search needs) (λ c κs. search needs) (λ c. search needs)
+    (λ c. search needs) (λ c. search needs) (λ c κs. search needs) (λ c. search needs) (λ c. search needs) (λ c. search needs)
+    (λ c. search needs) returns (λ c κs. search needs) (λ c. search needs) (λ c κs. search needs) (λ c. search needs)
+    (λ c. search needs) (λ c. search needs) (λ c κs. search needs) (λ c. search needs) (λ c. search needs) returns-2)

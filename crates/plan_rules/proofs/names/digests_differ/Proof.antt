@@ -1,0 +1,40 @@
+-- The loop's invariant: `ok` says whether each number below `i` is new.
+use Prim.Native.Nat.{_-_, _≤_}
+use mathlib.Core.Path.{_≡_, refl}
+use native.Mathlib.Omega.{arith}
+use Rattle.folds.specs.Below.{allBelow}
+use Rattle.folds.proofs.Tests.{all-step, all-done}
+use Rattle.plan_rules.specs.Digests.{numberNew, numbersDiffer}
+use Rattle.plan_rules.proofs.names.digests_differ.Statement.{statement}
+use Rattle.plan_rules.proofs.names.digests_differ.Tie as tie
+
+abbrev Inv-loop : tie.InvT-loop
+Inv-loop found r ok₀ i₀ ok i = (i ≤ r) × (ok ≡ allBelow i (numberNew found))
+
+abbrev μ-loop : tie.MeasureT-loop
+μ-loop found r ok₀ i₀ ok i = r - i
+
+loop-holds : tie.Need-loop-holds Inv-loop μ-loop
+unfolding allBelow
+loop-holds c = (omega arith, refl)
+
+digest-is-new-requires : tie.Need-digest-is-new-requires Inv-loop μ-loop
+digest-is-new-requires c κs = omega arith
+
+add-i : tie.Need-add-i Inv-loop μ-loop
+add-i c = omega arith
+
+loop-less : tie.Need-loop-less Inv-loop μ-loop
+loop-less c = omega arith
+
+loop-again : tie.Need-loop-again Inv-loop μ-loop
+loop-again c = (omega arith, all-step _ _ (c .before .before .loop .inv .1) (c .digest-is-new .ensures))
+
+returns : tie.Need-returns Inv-loop μ-loop
+unfolding numbersDiffer
+returns c = all-done _ (c .before .loop .i) _ (omega arith) (c .before .loop .inv .1)
+
+pub digests-differ-spec : {M : Type 1} → statement M
+digests-differ-spec =
+    tie.close
+    (tie.spec Inv-loop μ-loop loop-holds digest-is-new-requires add-i loop-less loop-again returns)

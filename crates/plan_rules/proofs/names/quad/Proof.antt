@@ -1,0 +1,25 @@
+-- The sum of the four bytes, each times its power.
+use Prim.Native.Nat.{ℕ, _+_}
+use mathlib.Core.Path.{_≡_, ap}
+use native.Mathlib.Omega.{arith}
+use lib.ListN.{getD}
+use Rattle.folds.specs.Bytes.{number}
+use borrow.Author.Needs.{needs}
+use Rattle.plan_rules.proofs.names.quad.Statement.{statement}
+use Rattle.plan_rules.proofs.names.quad.Tie as tie
+
+returns : tie.Need-returns
+unfolding number
+returns c =
+    let a = c .before .before .before .before .before .before .before .before .before .args in
+    let two : getD (a .s .now) (a .at + 1 + 1) 0 ≡ getD (a .s .now) (a .at + 2) 0 = ap (λ (k : ℕ). getD (a .s .now) k 0) (omega arith) in
+    let three : getD (a .s .now) (a .at + 1 + 1 + 1) 0 ≡ getD (a .s .now) (a .at + 3) 0 = ap (λ (k : ℕ). getD (a .s .now) k 0) (omega arith) in
+    omega (arith, c .wide4 .ensures, c .before .before .wide3 .ensures, c .before .before .before .before .wide2 .ensures, c .before .before .before .before .before .before .wide .ensures)
+
+pub quad-spec : {M : Type 1} → statement M
+quad-spec =
+    tie.close
+    (tie.spec
+    (λ c. search needs) (λ c κs. search needs) (λ c. search needs) (λ c. search needs) (λ c κs. search needs) (λ c. search needs)
+    (λ c. search needs) (λ c. search needs) (λ c. search needs) (λ c κs. search needs) (λ c. search needs) (λ c. search needs)
+    (λ c κs. search needs) (λ c. search needs) (λ c. search needs) (λ c. search needs) (λ c. search needs) returns)

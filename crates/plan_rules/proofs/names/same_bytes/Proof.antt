@@ -1,0 +1,41 @@
+-- The loop's invariant: the bytes below `k` are the same.
+use Prim.Native.Nat.{_+_, _≤_, _-_}
+use mathlib.Core.Bool.{true}
+use mathlib.Core.Path.{_≡_, refl, sym}
+use native.Mathlib.Omega.{arith}
+use borrow.Author.Tests.{eq-eqb, ne-eqb}
+use lib.Dec.{eqb}
+use lib.ListN.{getD}
+use Rattle.folds.specs.Below.{allBelow}
+use Rattle.folds.proofs.Tests.{all-more, all-left, all-done}
+use Rattle.plan_rules.specs.Rules.{sameBytes}
+use Rattle.plan_rules.proofs.names.same_bytes.Statement.{statement}
+use Rattle.plan_rules.proofs.names.same_bytes.Tie as tie
+
+abbrev Inv-loop : tie.InvT-loop
+Inv-loop names a b len k₀ k = (k ≤ len) × (allBelow k (λ j. eqb (getD names (a + j) 0) (getD names (b + j) 0)) ≡ true)
+
+abbrev μ-loop : tie.MeasureT-loop
+μ-loop names a b len k₀ k = len - k
+
+loop-holds : tie.Need-loop-holds Inv-loop μ-loop
+unfolding allBelow
+loop-holds c = (omega arith, refl)
+
+returns : tie.Need-returns Inv-loop μ-loop
+unfolding sameBytes
+returns c = all-left _ (c .before .before .before .before .loop .k) _ (omega arith) (ne-eqb _ _ (c .if1 .taken))
+
+loop-again : tie.Need-loop-again Inv-loop μ-loop
+loop-again c = (omega arith, all-more _ _ (c .before .before .before .before .loop .inv .1) (eq-eqb _ _ (c .if1 .left)))
+
+returns-2 : tie.Need-returns-2 Inv-loop μ-loop
+unfolding sameBytes
+returns-2 c = all-done _ (c .before .loop .k) _ (omega arith) (sym (c .before .loop .inv .1))
+
+pub same-bytes-spec : {M : Type 1} → statement M
+same-bytes-spec =
+    tie.close
+    (tie.spec
+    Inv-loop μ-loop loop-holds (λ c. omega arith) (λ c. omega arith) (λ c. omega arith) (λ c. omega arith) returns
+    (λ c. omega arith) (λ c. omega arith) loop-again returns-2)

@@ -1,0 +1,32 @@
+-- The loop's invariant: `sum` is the sum of the lengths below `i`, and at most 255 for each.
+use Prim.Native.Nat.{_≤_, _-_, _*_}
+use mathlib.Core.Path.{_≡_, refl}
+use native.Mathlib.Omega.{arith}
+use Rattle.folds.specs.Below.{sumBelow}
+use Rattle.folds.proofs.Figures.{sum-step, sum-done}
+use Rattle.plan_rules.specs.Rules.{lengthOf}
+use Rattle.plan_rules.proofs.names.total_length.Statement.{statement}
+use Rattle.plan_rules.proofs.names.total_length.Tie as tie
+
+abbrev Inv-loop : tie.InvT-loop
+Inv-loop r lengths sum₀ i₀ sum i = (i ≤ r) × (sum ≤ i * 255) × (sum ≡ sumBelow i (lengthOf lengths))
+
+abbrev μ-loop : tie.MeasureT-loop
+μ-loop r lengths sum₀ i₀ sum i = r - i
+
+loop-holds : tie.Need-loop-holds Inv-loop μ-loop
+unfolding sumBelow
+loop-holds c = (omega arith, omega arith, refl)
+
+loop-again : tie.Need-loop-again Inv-loop μ-loop
+loop-again c = (omega arith, omega arith, sum-step _ _ (c .before .before .loop .inv .2) (c .wide .ensures .0))
+
+returns : tie.Need-returns Inv-loop μ-loop
+returns c = (sum-done _ (c .before .loop .i) _ (omega arith) (c .before .loop .inv .2), omega arith)
+
+pub total-length-spec : {M : Type 1} → statement M
+total-length-spec =
+    tie.close
+    (tie.spec
+    Inv-loop μ-loop loop-holds (λ c. omega arith) (λ c κs. omega arith) (λ c. omega arith) (λ c. omega arith) (λ c. omega arith)
+    loop-again returns)

@@ -1,0 +1,88 @@
+-- Laws of the writer: what stands at the front of a buffer after each part that is put, and the lengths of the parts.
+use Prim.Native.Nat.{ℕ, _+_, _-_, _*_, _<_, _≤_}
+use mathlib.Core.Bool.{true}
+use mathlib.Core.List.{List, [], _∷_, _++_}
+use mathlib.Core.Path.{_≡_, ap, _∙_}
+use native.Mathlib.Omega.{arith}
+use borrow.Author.Tests.{eqb-true, leb-true}
+use lib.Dec.{leb, eqb}
+use lib.ListN.{length, take, drop, length-append}
+use Rattle.folds.specs.Below.{sumBelow}
+use Rattle.folds.specs.Bytes.{bytesBelow, width}
+use Rattle.folds.proofs.Tests.{and-parts, all-at}
+use Rattle.folds.proofs.Figures.{sum-bound}
+use Rattle.folds.proofs.Parts.{put-part, put-length, bytes-length, bytes-step}
+use Rattle.folds.proofs.RowLaws.{row-length}
+use Rattle.plan_rules.specs.Rules.{taskOf, sectionOf, lengthOf, startOf, tagsOk, lengthsOk, namesOk, valuesCode}
+use Rattle.plan_rules.specs.declared.TaskRow.{TaskRow}
+use Rattle.plan_rules.specs.declared.SectionRow.{SectionRow}
+use Rattle.plan_rules.specs.declared.Counts.{Counts}
+use Rattle.plan_rules.specs.declared.Rows.{Rows}
+use Rattle.plan_rules.proofs.Laws.{InRange, counts-facts, length-facts}
+use Rattle.plan_layout.specs.Layout.{taskWidths, resourceWidths, sectionWidths}
+use Rattle.plan_writing.specs.Encode.{taskNumbers, taskBytes, resourceBytes, sectionNumbers, sectionBytes}
+use Rattle.plan_writing.proofs.Same.{Kept, kept-facts}
+
+-- m is l with the o bytes of x at its front
+pub record Front (x : List ℕ) (o : ℕ) (l m : List ℕ) : Type 0 where
+  pub size : length x ≡ o
+  pub bytes : m ≡ x ++ drop o l
+  pub kept : length m ≡ length l
+
+pub put-front : {x l m : List ℕ} {o : ℕ} → m ≡ x ++ drop o l → length x ≡ o → o ≤ length l → Front x o l m
+put-front {x} {l} {m} {o} e s h = record { size = s; bytes = e; kept = ap length e ∙ put-length x l o s h }
+
+-- a call was lent `&mut m[o..]` and put x at the front of it
+pub part-more : {a l m y : List ℕ} {o : ℕ} (x : List ℕ) (k p : ℕ) → Front a o l m → y ≡ x ++ drop k (take (length m - o) (drop o m)) → length x ≡ k → o + k ≡ p → p ≤ length l → Front (a ++ x) p l (take o m ++ (y ++ drop (length m - o) (drop o m)))
+part-more {a} {l} {m} {y} {o} x k p f q s e h =
+    put-front (rw (← e) (put-part a x l m y o k (f .size) s (f .bytes) q)) (length-append a x ∙ omega (arith, f .size)) h
+
+-- and x was n rows of w bytes
+pub rows-part : {a l m y : List ℕ} {o : ℕ} (w : ℕ) (f : ℕ → List ℕ) → ((k : ℕ) → length (f k) ≡ w) → (n p : ℕ) → Front a o l m → y ≡ bytesBelow n f ++ drop (n * w) (take (length m - o) (drop o m)) → o + n * w ≡ p → p ≤ length l → Front (a ++ bytesBelow n f) p l (take o m ++ (y ++ drop (length m - o) (drop o m)))
+rows-part w f each n p g q e h = part-more (bytesBelow n f) (n * w) p g q (bytes-length w f each n) e h
+
+-- and x was row n of rows of w bytes
+pub rows-more : (w : ℕ) (f : ℕ → List ℕ) → ((k : ℕ) → length (f k) ≡ w) → (n : ℕ) {l m y : List ℕ} → Front (bytesBelow n f) (n * w) l m → y ≡ f n ++ drop w (take (length m - n * w) (drop (n * w) m)) → (n + 1) * w ≤ length l → Front (bytesBelow (n + 1) f) ((n + 1) * w) l (take (n * w) m ++ (y ++ drop (length m - n * w) (drop (n * w) m)))
+rows-more w f each n {l} {m} {y} p q h = put-front (bytes-step w f each n l m y (p .bytes) q) (bytes-length w f each (n + 1)) h
+
+-- all rows
+pub rows-all : (w : ℕ) (f : ℕ → List ℕ) (n i : ℕ) {l m : List ℕ} → i ≡ n → Front (bytesBelow i f) (i * w) l m → m ≡ bytesBelow n f ++ drop (n * w) l
+rows-all w f n i e p = rw (← e) (p .bytes)
+
+-- how long the rows are
+pub task-length : (tasks : List TaskRow) (i : ℕ) → length (taskBytes tasks i) ≡ 8
+unfolding taskBytes width
+task-length tasks i = row-length taskWidths (taskNumbers (taskOf tasks i))
+
+pub resource-length : (lengths : List ℕ) (i : ℕ) → length (resourceBytes lengths i) ≡ 4
+unfolding resourceBytes width
+resource-length lengths i = row-length resourceWidths (startOf lengths i ∷ lengthOf lengths i ∷ 0 ∷ [])
+
+pub section-length : (sections : List SectionRow) (i : ℕ) → length (sectionBytes sections i) ≡ 4
+unfolding sectionBytes width
+section-length sections i = row-length sectionWidths (sectionNumbers (sectionOf sections i))
+
+-- the tag of a task has one byte
+pub tag-at : (n i : ℕ) (tasks : List TaskRow) → tagsOk n tasks ≡ true → i < n → taskOf tasks i .tag ≤ 255
+unfolding tagsOk
+tag-at n i tasks h l = leb-true _ _ (all-at n i (λ k. leb (taskOf tasks k .tag) 255) h l)
+
+-- a name has at most 12 bytes
+names-length : (r : ℕ) (lengths names : List ℕ) → namesOk r lengths names ≡ true → length names ≤ r * 12
+unfolding namesOk
+names-length r lengths names e =
+    let a = and-parts (eqb (sumBelow r (lengthOf lengths)) (length names)) _ e in
+    let b = and-parts (lengthsOk r lengths) _ (a .1) in
+    omega (arith, eqb-true (sumBelow r (lengthOf lengths)) (length names) (a .0), sum-bound r 12 (lengthOf lengths) (λ k l. length-facts r k lengths (b .0) l .high))
+
+-- values that keep every rule, and how much they are
+pub record Sized (c : Counts) (rows : Rows) (names : List ℕ) : Type 0 where
+  pub rules : Kept c rows names
+  pub ranges : InRange c
+  pub short : length names ≤ 192
+
+pub sized : (c : Counts) (rows : Rows) (names : List ℕ) → valuesCode c rows names ≡ 0 → Sized c rows names
+sized c rows names e =
+    let k = kept-facts c rows names e in
+    let g = counts-facts c (k .counts) in
+    record { rules = k; ranges = g; short = omega (arith, names-length (c .resources) (rows .lengths) names (k .named)) }

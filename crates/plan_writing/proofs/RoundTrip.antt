@@ -1,0 +1,227 @@
+-- Demand 2: a file and the values that it holds. Both round trips go by what the file has at each place.
+use Prim.Native.Nat.{ℕ, _+_, _<_}
+use mathlib.Core.Bool.{true}
+use mathlib.Core.List.{List, [], _∷_, _++_, append-assoc}
+use mathlib.Core.Path.{_≡_, refl, sym, ap, ap₂, subst, _∙_}
+use native.Mathlib.Omega.{arith}
+use borrow.Author.Tests.{lt-ltb, le-ltb, le-leb, eq-eqb, eqb-true}
+use lib.Dec.{eqb}
+use lib.ListN.{length, getD, take, drop, replicate, length-append, length-drop, take-append-drop}
+use lib.Seq.{drop-at, drop-drop}
+use Rattle.folds.specs.Below.{sumBelow}
+use Rattle.folds.specs.Bytes.{number, width, fields, rowAt, rowBytes, bytesBelow}
+use Rattle.folds.proofs.Tests.{all-at, and-parts}
+use Rattle.folds.proofs.Arrays.{placed-same}
+use Rattle.folds.proofs.RowLaws.{Bytes, solid, fields-back, fields-forth}
+use Rattle.plan_rules.specs.Rules.{noTask, noSection, lengthOf, startOf, taskOk, namesOk}
+use Rattle.plan_rules.specs.declared.Counts.{Counts}
+use Rattle.plan_rules.specs.declared.Rows.{Rows}
+use Rattle.plan_layout.specs.Layout.{countsOf, tasksAt, resourcesAt, sectionsAt, namesAt, taskWidths, resourceWidths, sectionWidths, taskAt, taskSpare, startAt, lengthAt, resourceSpare, sectionAt, taskRows, lengthRows, sectionRows, taskRowsOk, lengthRowsOk, sectionCode, restCode, partsCode, rowsOf, namesOf}
+use Rattle.plan_rules.proofs.Laws.{InRange, counts-facts}
+use Rattle.plan_layout.proofs.Laws.{task-read, length-read, section-read, start-read, tasks-kept, sections-kept}
+use Rattle.plan_reading.specs.Reading.{headerCode, refusal, nameRefusal, namePart, nameOf}
+use Rattle.plan_reading.proofs.Laws.{Header, Whole, whole-facts}
+use Rattle.plan_writing.specs.Encode.{headerWidths, headerNumbers, headerBytes, taskNumbers, taskBytes, resourceBytes, sectionNumbers, sectionBytes, fileLength, fileOf}
+use Rattle.plan_writing.specs.RoundTrip.{trimmed, nameIn, SameFile, WrittenThenRead, ReadThenWritten}
+use Rattle.plan_writing.proofs.Same.{Kept, kept-facts, kept-code, rows-joined}
+use Rattle.plan_writing.proofs.Values.{taskRow, resourceRow, sectionRow, at, RowsIn, headed, sections-end, rows-in, header-length, task-same, length-same, start-same, section-same, tasks-checked, unique-checked, starts-checked, names-checked, sections-checked, sums-checked}
+
+-- the file f has the numbers of these values at their places, and ends with the names
+pub record Holds (f : List ℕ) (c : Counts) (rows : Rows) (names : List ℕ) : Type 0 where
+  pub size : length f ≡ fileLength c names
+  pub header : fields headerWidths f 0 ≡ headerNumbers c (fileLength c names)
+  pub stand : RowsIn f c rows
+  pub rest : drop (namesAt c) f ≡ names
+
+-- the file of values holds them
+pub file-holds : (c : Counts) (rows : Rows) (names : List ℕ) → Holds (fileOf c rows names) c rows names
+unfolding fileOf headerBytes solid
+file-holds c rows names =
+    let v : List ℕ = headerNumbers c (fileLength c names) in
+    let h : List ℕ = headerBytes c (fileLength c names) in
+    let t : List ℕ = bytesBelow (c .tasks) (taskBytes (rows .tasks)) in
+    let r : List ℕ = bytesBelow (c .resources) (resourceBytes (rows .lengths)) in
+    let s : List ℕ = bytesBelow (c .sections) (sectionBytes (rows .sections)) in
+    let lh : length h ≡ 16 = header-length c (fileLength c names) in
+    let behind : headed h c rows ++ names ≡ h ++ (t ++ (r ++ (s ++ names))) = simp append-assoc in
+    record {
+      size = length-append (headed h c rows) names ∙ omega (arith, sections-end c rows h lh);
+      header = rw behind (fields-back headerWidths v (t ++ (r ++ (s ++ names))) refl refl);
+      stand = rows-in c rows h lh names;
+      rest = drop-at (headed h c rows) names (namesAt c) (sections-end c rows h lh);
+    }
+
+-- a file that holds values of its own counts: its rows are theirs
+module _ (f : List ℕ) (rows : Rows) (names : List ℕ) (h : Holds f (countsOf f) rows names) where
+  rows-held : rowsOf f ≡ trimmed (countsOf f) rows
+  unfolding trimmed taskRows lengthRows sectionRows
+  rows-held =
+      let t = placed-same _ _ _ (replicate 64 noTask) (task-same f (countsOf f) rows (h .stand)) in
+      let l = placed-same _ _ _ (replicate 16 0) (length-same f (countsOf f) rows (h .stand)) in
+      let s = placed-same _ _ _ (replicate 255 noSection) (section-same f (countsOf f) rows (h .stand)) in
+      λ i. record { tasks = t i; lengths = l i; sections = s i }
+
+  -- the part of it that is a name is that name of theirs
+  name-held : (r : ℕ) → r < countsOf f .resources → namePart f r ≡ nameIn (rows .lengths) names r
+  unfolding namePart
+  name-held r l =
+      let start : ℕ = startOf (rows .lengths) r in
+      let behind : drop (namesAt (countsOf f) + start) f ≡ drop start names = sym (drop-drop start (namesAt (countsOf f)) f) ∙ ap (λ (x : List ℕ). drop start x) (h .rest) in
+      rw (length-same f (countsOf f) rows (h .stand) r l, start-same f (countsOf f) rows (h .stand) r l) (ap (λ (x : List ℕ). take (lengthOf (rows .lengths) r) x) behind)
+
+  -- and it passes every check where they keep their rules
+  header-held : Kept (countsOf f) rows names → Header f
+  unfolding fields number
+  header-held k =
+      let field : (j : ℕ) → at j (fields headerWidths f 0) ≡ at j (headerNumbers (countsOf f) (fileLength (countsOf f) names)) = λ j. ap (at j) (h .header) in
+      record {
+        long = omega (arith, h .size);
+        whole = field 9 ∙ sym (h .size);
+        edition = field 0;
+        counts = k .counts;
+        ranges = counts-facts (countsOf f) (k .counts);
+        tasks-at = field 5;
+        resources-at = field 6;
+        sections-at = field 7;
+        names-at = field 8;
+        ends = omega (arith, h .size);
+      }
+
+  whole-held : Kept (countsOf f) rows names → Whole f
+  whole-held k =
+      let c : Counts = countsOf f in
+      let g : InRange c = counts-facts c (k .counts) in
+      record {
+        header = header-held k;
+        tasks = tasks-checked f c rows (h .stand) ∙ k .tasks;
+        unique = unique-checked f c rows (h .stand) g ∙ k .unique;
+        starts = starts-checked f c rows (h .stand);
+        names = names-checked f c rows (h .stand) g (namesOf f) ∙ ap (namesOk (c .resources) (rows .lengths)) (h .rest) ∙ k .named;
+        sections = sections-checked f c rows (h .stand) ∙ k .sections;
+        sums = sums-checked f c rows (h .stand) g ∙ k .sums;
+      }
+
+-- a file that passes every check is not refused
+header-read : (f : List ℕ) → Header f → headerCode f ≡ 0
+unfolding headerCode
+header-read f h =
+    rw (le-ltb _ _ (h .long), eq-eqb _ _ (h .whole), eq-eqb _ _ (h .edition), h .counts, eq-eqb _ _ (h .tasks-at), eq-eqb _ _ (h .resources-at), eq-eqb _ _ (h .sections-at), eq-eqb _ _ (h .names-at), le-leb _ _ (h .ends))
+
+whole-read : (f : List ℕ) → Whole f → refusal f ≡ 0
+unfolding refusal partsCode restCode sectionCode
+whole-read f w =
+    rw (header-read f (w .header), w .tasks, w .unique, w .starts, w .names, w .sections, w .sums)
+
+-- the question for the name of a resource of such a file is answered
+name-clear : (f : List ℕ) (r : ℕ) → refusal f ≡ 0 → r < countsOf f .resources → nameRefusal f r ≡ 0
+unfolding nameRefusal
+name-clear f r e l = rw (e, lt-ltb _ _ l)
+
+name-given : (f : List ℕ) (r : ℕ) → refusal f ≡ 0 → r < countsOf f .resources → nameOf f r ≡ namePart f r
+unfolding nameOf
+name-given f r e l = rw (name-clear f r e l)
+
+-- a file has the counts of the values that it holds
+counts-held : (f : List ℕ) (c : Counts) (rows : Rows) (names : List ℕ) → Holds f c rows names → countsOf f ≡ c
+unfolding fields number
+counts-held f c rows names h =
+    ap {B = Counts} (λ (v : List ℕ). record { processors = at 1 v; tasks = at 2 v; resources = at 3 v; sections = at 4 v }) (h .header)
+
+pub written-then-read : WrittenThenRead
+written-then-read c rows names e =
+    let f : List ℕ = fileOf c rows names in
+    let counts : countsOf f ≡ c = counts-held f c rows names (file-holds c rows names) in
+    let h : Holds f (countsOf f) rows names = subst (λ (k : Counts). Holds f k rows names) (sym counts) (file-holds c rows names) in
+    let k : Kept (countsOf f) rows names = subst (λ (k : Counts). Kept k rows names) (sym counts) (kept-facts c rows names e) in
+    let none : refusal f ≡ 0 = whole-read f (whole-held f rows names h k) in
+    let below : (r : ℕ) → r < c .resources → r < countsOf f .resources = λ r l. omega (arith, ap (λ (k : Counts). k .resources) counts) in
+    record {
+      accepted = none;
+      counts = counts;
+      rows-read = rows-held f rows names h ∙ ap (λ (k : Counts). trimmed k rows) counts;
+      names-read = h .rest;
+      name-answered = λ r l. name-clear f r none (below r l);
+      name-read = λ r l. name-given f r none (below r l) ∙ name-held f rows names h r (below r l);
+    }
+
+-- the numbers of a row whose spare byte is 0
+task-row : (part : List ℕ) (i : ℕ) → taskSpare part i ≡ 0 → rowAt taskWidths part i ≡ taskNumbers (taskAt part i)
+unfolding taskSpare taskAt rowAt fields
+task-row part i e = rw e
+
+resource-row : (part : List ℕ) (i : ℕ) → resourceSpare part i ≡ 0 → rowAt resourceWidths part i ≡ startAt part i ∷ lengthAt part i ∷ 0 ∷ []
+unfolding resourceSpare startAt lengthAt rowAt fields
+resource-row part i e = rw e
+
+section-row : (part : List ℕ) (i : ℕ) → rowAt sectionWidths part i ≡ sectionNumbers (sectionAt part i)
+unfolding sectionAt rowAt fields
+section-row part i = refl
+
+one-byte : (s : List ℕ) (at : ℕ) → number 1 s at ≡ getD s at 0
+unfolding number
+one-byte s at = refl
+
+-- a file that passes every check holds the values that are read from it
+read-holds : (f : List ℕ) → Whole f → Holds f (countsOf f) (rowsOf f) (namesOf f)
+unfolding fields taskRowsOk lengthRowsOk
+read-holds f w =
+    let h : Header f = w .header in
+    let g : InRange (countsOf f) = h .ranges in
+    let n : ℕ = countsOf f .tasks in
+    let r : ℕ = countsOf f .resources in
+    let s : ℕ = countsOf f .sections in
+    let tasks : List ℕ = drop tasksAt f in
+    let resources : List ℕ = drop (resourcesAt (countsOf f)) f in
+    let sections : List ℕ = drop (sectionsAt (countsOf f)) f in
+    let size : length f ≡ fileLength (countsOf f) (namesOf f) = omega (arith, length-drop (namesAt (countsOf f)) f, h .ends) in
+    let start : (i : ℕ) → i < r → (eqb (startAt resources i) (sumBelow i (lengthAt resources)) ≡ true) × (eqb (resourceSpare resources i) 0 ≡ true) = λ i l. and-parts (eqb (startAt resources i) (sumBelow i (lengthAt resources))) _ (all-at r i _ (w .starts) l) in
+    record {
+      size = size;
+      header = rw (one-byte f 0, h .edition, one-byte f 1, one-byte f 2, one-byte f 3, h .tasks-at, h .resources-at, h .sections-at, h .names-at, h .whole, size);
+      stand = record {
+        task = λ i l. task-row tasks i (eqb-true _ _ (and-parts (taskOk (countsOf f .processors) (taskAt tasks i)) _ (all-at n i _ (w .tasks) l) .1)) ∙ ap taskNumbers (sym (task-read n tasks i l (g .tasks)));
+        resource = λ i l.
+            resource-row resources i (eqb-true _ _ (start i l .1))
+            ∙ ap₂ (λ (a b : ℕ). a ∷ b ∷ 0 ∷ []) (eqb-true _ _ (start i l .0) ∙ sym (start-read r resources i (omega arith) (g .resources))) (sym (length-read r resources i l (g .resources)));
+        section = λ i l. section-row sections i ∙ ap sectionNumbers (sym (section-read s sections i l (g .sections)));
+      };
+      rest = refl;
+    }
+
+-- and they keep every rule
+read-kept : (f : List ℕ) → Whole f → Kept (countsOf f) (rowsOf f) (namesOf f)
+read-kept f w =
+    let c : Counts = countsOf f in
+    let g : InRange c = w .header .ranges in
+    record {
+      counts = w .header .counts;
+      tasks = tasks-kept (c .tasks) (drop tasksAt f) (c .processors) (g .tasks) (w .tasks);
+      unique = w .unique;
+      named = w .names;
+      sections = sections-kept (c .sections) (drop (sectionsAt c) f) (c .tasks) (c .resources) (g .sections) ∙ w .sections;
+      sums = w .sums;
+    }
+
+-- a file of bytes is the file of what it holds
+holds-file : (f : List ℕ) (c : Counts) (rows : Rows) (names : List ℕ) → Bytes f → Holds f c rows names → fileOf c rows names ≡ f
+unfolding fileOf headerBytes taskBytes resourceBytes sectionBytes width
+holds-file f c rows names b h =
+    let head : headerBytes c (fileLength c names) ≡ take 16 f = ap (rowBytes headerWidths) (sym (h .header)) ∙ fields-forth headerWidths f 0 b (omega (arith, h .size)) in
+    let tasks = rows-joined taskWidths (taskRow rows) (c .tasks) f 16 (resourcesAt c) b (h .stand .task) (omega arith) (omega (arith, h .size)) head in
+    let resources = rows-joined resourceWidths (resourceRow rows) (c .resources) f (resourcesAt c) (sectionsAt c) b (h .stand .resource) (omega arith) (omega (arith, h .size)) tasks in
+    let sections = rows-joined sectionWidths (sectionRow rows) (c .sections) f (sectionsAt c) (namesAt c) b (h .stand .section) (omega arith) (omega (arith, h .size)) resources in
+    ap₂ _++_ sections (sym (h .rest)) ∙ take-append-drop (namesAt c) f
+
+pub read-then-written : ReadThenWritten
+read-then-written f b e =
+    let w : Whole f = whole-facts f e in
+    record {
+      accepted = kept-code (countsOf f) (rowsOf f) (namesOf f) (read-kept f w);
+      file = holds-file f (countsOf f) (rowsOf f) (namesOf f) b (read-holds f w);
+    }
+
+-- so the names of the values that are read are those that the question for names gives
+pub names-of-values : (f : List ℕ) → ((i : ℕ) → getD f i 0 < 256) → refusal f ≡ 0 → (r : ℕ) → r < countsOf f .resources → nameOf f r ≡ nameIn (rowsOf f .lengths) (namesOf f) r
+names-of-values f b e r l =
+    let s : SameFile f = read-then-written f b e in
+    subst (λ (g : List ℕ). nameOf g r ≡ nameIn (rowsOf f .lengths) (namesOf f) r) (s .file) (written-then-read (countsOf f) (rowsOf f) (namesOf f) (s .accepted) .name-read r l)

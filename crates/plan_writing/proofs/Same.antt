@@ -1,0 +1,111 @@
+-- Values that keep their rules, and rows that agree below a count: they keep the same rules, and have the same bytes.
+use Prim.Native.Nat.{ℕ, zero, suc, _+_, _*_, _<_, _≤_}
+use mathlib.Core.Bool.{Bool, true, cond, _&&_, not}
+use mathlib.Core.List.{List, _++_}
+use mathlib.Core.Path.{_≡_, refl, sym, ap, ap₂, _∙_}
+use native.Mathlib.Omega.{arith}
+use lib.Dec.{leb, eqb}
+use lib.ListN.{length, take, drop, length-drop}
+use lib.Seq.{drop-at, take-add, getD-drop}
+use Rattle.folds.specs.Below.{allBelow}
+use Rattle.folds.specs.Bytes.{width, rowAt, rowBytes, bytesBelow}
+use Rattle.folds.proofs.Tests.{all-same, code-zero, code-next}
+use Rattle.folds.proofs.Figures.{sum-same}
+use Rattle.folds.proofs.Parts.{bytes-length}
+use Rattle.folds.proofs.RowLaws.{Bytes, solid, row-length, rows-back, rows-forth}
+use Rattle.plan_rules.specs.Rules.{taskOf, sectionOf, lengthOf, startOf, countsOk, tasksOk, tagNew, priorityNew, uniqueOk, lengthsOk, bytesOk, differ, nameNew, namesDiffer, namesOk, sectionsOk, sectionSum, sumsOk, rowsCode, valuesCode}
+use Rattle.plan_rules.specs.declared.TaskRow.{TaskRow}
+use Rattle.plan_rules.specs.declared.SectionRow.{SectionRow}
+use Rattle.plan_rules.specs.declared.Counts.{Counts}
+use Rattle.plan_rules.specs.declared.Rows.{Rows}
+
+-- values that keep every rule
+pub record Kept (c : Counts) (rows : Rows) (names : List ℕ) : Type 0 where
+  pub counts : countsOk c ≡ true
+  pub tasks : tasksOk (c .tasks) (c .processors) (rows .tasks) ≡ true
+  pub unique : uniqueOk (c .tasks) (rows .tasks) ≡ true
+  pub named : namesOk (c .resources) (rows .lengths) names ≡ true
+  pub sections : sectionsOk (c .sections) (c .tasks) (c .resources) (rows .sections) ≡ true
+  pub sums : sumsOk (c .tasks) (c .sections) (rows .tasks) (rows .sections) ≡ true
+
+module _ (c : Counts) (rows : Rows) (names : List ℕ) where
+  pub kept-facts : valuesCode c rows names ≡ 0 → Kept c rows names
+  unfolding valuesCode rowsCode
+  kept-facts e =
+      let e1 = code-next (countsOk c) _ 2 e in
+      let e2 = code-next (tasksOk (c .tasks) (c .processors) (rows .tasks)) _ 4 e1 in
+      let e3 = code-next (uniqueOk (c .tasks) (rows .tasks)) _ 5 e2 in
+      let e4 = code-next (namesOk (c .resources) (rows .lengths) names) _ 6 e3 in
+      let e5 = code-next (sectionsOk (c .sections) (c .tasks) (c .resources) (rows .sections)) _ 7 e4 in
+      record {
+        counts = code-zero (countsOk c) _ 2 e;
+        tasks = code-zero _ _ 4 e1;
+        unique = code-zero _ _ 5 e2;
+        named = code-zero _ _ 6 e3;
+        sections = code-zero _ _ 7 e4;
+        sums = code-zero _ _ 8 e5;
+      }
+
+  pub kept-code : Kept c rows names → valuesCode c rows names ≡ 0
+  unfolding valuesCode rowsCode
+  kept-code k = rw (k .counts, k .tasks, k .unique, k .named, k .sections, k .sums)
+
+-- two lists of tasks
+module _ (n : ℕ) (x y : List TaskRow) (same : (i : ℕ) → i < n → taskOf x i ≡ taskOf y i) where
+  pub unique-same : uniqueOk n x ≡ uniqueOk n y
+  unfolding uniqueOk tagNew priorityNew
+  unique-same = all-same n _ _ (λ i l. ap₂ _&&_ (earlier i l differ-tag) (earlier i l differ-place))
+    where
+      differ-tag : TaskRow → TaskRow → Bool
+      differ-tag a b = not (eqb (a .tag) (b .tag))
+
+      differ-place : TaskRow → TaskRow → Bool
+      differ-place a b = not (eqb (a .processor) (b .processor) && eqb (a .priority) (b .priority))
+
+      earlier : (i : ℕ) → i < n → (t : TaskRow → TaskRow → Bool) → allBelow i (λ j. t (taskOf x i) (taskOf x j)) ≡ allBelow i (λ j. t (taskOf y i) (taskOf y j))
+      earlier i l t = all-same i _ _ (λ j m. ap₂ t (same i l) (same j (omega arith)))
+
+  pub sums-same : (s : ℕ) (u v : List SectionRow) → ((i : ℕ) → i < s → sectionOf u i ≡ sectionOf v i) → sumsOk n s x u ≡ sumsOk n s y v
+  unfolding sumsOk sectionSum
+  sums-same s u v alike =
+      all-same n _ _ (λ t l. ap₂ leb (sum-same s _ _ (λ i m. ap (λ (k : SectionRow). cond (eqb (k .task) t) (k .length) 0) (alike i m))) (ap (λ (a : TaskRow). a .execution) (same t l)))
+
+-- two lists of name lengths
+module _ (r : ℕ) (x y : List ℕ) (same : (i : ℕ) → i < r → lengthOf x i ≡ lengthOf y i) where
+  pub start-same : (i : ℕ) → i ≤ r → startOf x i ≡ startOf y i
+  start-same i l = sum-same i _ _ (λ k m. same k (omega arith))
+
+  pub names-same : (names : List ℕ) → namesOk r x names ≡ namesOk r y names
+  unfolding namesOk lengthsOk namesDiffer nameNew differ
+  names-same names =
+      ap₂ (λ (s : ℕ) (b : Bool). eqb s (length names) && b) (start-same r (omega arith))
+      (ap₂ (λ (a b : Bool). a && (bytesOk names && b))
+      (all-same r _ _ (λ i l. ap (λ (k : ℕ). leb 1 k && leb k 12) (same i l)))
+      (all-same r _ _ (λ i l. all-same i _ _ (λ j m. rw (same i l, same j (omega arith), start-same i (omega arith), start-same j (omega arith))))))
+
+-- in f, from `at` on, stand rows of the widths ws whose numbers below n are g's
+abbrev pub Stand : List ℕ → (ℕ → List ℕ) → ℕ → List ℕ → ℕ → Type 0
+Stand ws g n f at = (i : ℕ) → i < n → rowAt ws (drop at f) i ≡ g i
+
+module _ (ws : List ℕ) (g : ℕ → List ℕ) (n : ℕ) where
+  pub rows-length : length (bytesBelow n (λ k. rowBytes ws (g k))) ≡ n * width ws
+  rows-length = bytes-length (width ws) (λ k. rowBytes ws (g k)) (λ k. row-length ws (g k)) n
+
+  -- rows that were written stand behind what was written before them
+  pub rows-stand : (f a b : List ℕ) (at : ℕ) → solid ws ≡ true → ((i : ℕ) → length (g i) ≡ length ws) → f ≡ a ++ (bytesBelow n (λ k. rowBytes ws (g k)) ++ b) → length a ≡ at → Stand ws g n f at
+  rows-stand f a b at p e q la i l =
+      rw (q, drop-at a (bytesBelow n (λ k. rowBytes ws (g k)) ++ b) at la) (rows-back ws g n i b p (e i) l)
+
+-- rows with the same numbers have the same bytes
+bytes-same : (ws : List ℕ) (g h : ℕ → List ℕ) (n : ℕ) → ((i : ℕ) → i < n → h i ≡ g i) → bytesBelow n (λ k. rowBytes ws (g k)) ≡ bytesBelow n (λ k. rowBytes ws (h k))
+unfolding bytesBelow
+bytes-same ws g h zero e = refl
+bytes-same ws g h (suc n) e =
+    ap₂ _++_ (bytes-same ws g h n (λ i l. e i (omega arith))) (ap (rowBytes ws) (sym (e n (omega arith))))
+
+-- written behind the file up to where they stand, rows make the file up to their end
+pub rows-joined : (ws : List ℕ) (g : ℕ → List ℕ) (n : ℕ) (f : List ℕ) (at end : ℕ) {x : List ℕ} → Bytes f → Stand ws g n f at → at + n * width ws ≡ end → end ≤ length f → x ≡ take at f → x ++ bytesBelow n (λ k. rowBytes ws (g k)) ≡ take end f
+rows-joined ws g n f at end b h e l q =
+    let part : List ℕ = drop at f in
+    let bytes : bytesBelow n (λ k. rowBytes ws (g k)) ≡ take (n * width ws) part = bytes-same ws g (rowAt ws part) n h ∙ rows-forth ws part n (λ i. rw getD-drop (b (at + i))) (omega (arith, length-drop at f)) in
+    rw (q, bytes, ← e, take-add)

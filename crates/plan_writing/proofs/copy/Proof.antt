@@ -1,0 +1,57 @@
+-- The values that are written are those of the file that was read, so what is written is that file.
+use Prim.Native.Nat.{ℕ, _-_, _<_}
+use mathlib.Core.List.{List}
+use mathlib.Core.Path.{_≡_, sym, ap, _∙_}
+use native.Mathlib.Omega.{arith}
+use borrow.Author.Needs.{needs}
+use lib.ListN.{length, getD, take, drop}
+use Rattle.folds.proofs.Parts.{part-rest}
+use Rattle.plan_layout.specs.Layout.{countsOf, rowsOf, namesOf, namesAt}
+use Rattle.plan_reading.specs.declared.Reading.{Reading}
+use Rattle.plan_reading.proofs.Laws.{Got, got-plan, got-refusal, whole-facts}
+use Rattle.plan_writing.specs.Encode.{told}
+use Rattle.plan_writing.proofs.Outcome.{copy-buffer, copy-answer, copy-refused, copy-told}
+use Rattle.plan_writing.proofs.copy.Statement.{statement}
+use Rattle.plan_writing.proofs.copy.Tie as tie
+
+-- the lent file
+abbrev file : tie.After-names-at → List ℕ
+file c = c .before .before .before .before .before .before .before .before .args .file .now
+
+-- the plan that was read, said of the file
+got : (c : tie.After-names-at) → Got (file c) (c .before .before .before .answer .given .0 .0)
+got c =
+    got-plan _ _ (sym (ap (λ (x : Reading). x .answer) (c .before .before .before .before .before .read .ensures .0)) ∙ c .before .before .before .answer .given .1)
+
+rows-got : (c : tie.After-names-at) → c .before .before .before .before .before .read .result .rows ≡ rowsOf (file c)
+rows-got c = ap (λ (x : Reading). x .rows) (c .before .before .before .before .before .read .ensures .0) ∙ got c .rows
+
+at-names : (c : tie.After-names-at) → c .names-at .result ≡ namesAt (countsOf (file c))
+at-names c = c .names-at .ensures ∙ ap namesAt (got c .counts)
+
+names-got : (c : tie.After-names-at) → take (length (file c) - c .names-at .result) (drop (c .names-at .result) (file c)) ≡ namesOf (file c)
+names-got c = part-rest (c .names-at .result) (file c) ∙ ap (λ (n : ℕ). drop n (file c)) (at-names c)
+
+returns : tie.Need-returns
+returns c =
+    let q = c .before .before .before .before .before in
+    let w = c .before .before .write in
+    let bytes : (i : ℕ) → getD (file q) i 0 < 256 = λ i. q .before .before .before .before .before .before .before .shared-slice-known .given i .fits in
+    let buffer = copy-buffer (file q) bytes (got q .none) _ _ _ _ (w .ensures .1 .0) (got q .counts) (rows-got q) (names-got q) in
+    let answer = copy-answer (file q) bytes (got q .none) _ _ _ _ (w .ensures .0) (got q .counts) (rows-got q) (names-got q) in
+    (answer, (buffer, ap told answer ∙ copy-told _ _))
+
+returns-2 : tie.Need-returns-2
+returns-2 c =
+    let k = got-refusal _ _ (sym (ap (λ (x : Reading). x .answer) (c .before .before .before .read .ensures .0)) ∙ c .before .answer2 .given .1) in
+    let o = copy-refused _ _ (k .0) (k .1) in
+    (sym (o .0), (sym (o .1), ap told (sym (o .0)) ∙ copy-told _ _))
+
+pub copy-spec : {M : Type 1} → statement M
+copy-spec =
+    tie.close
+    (tie.spec
+    (λ c κs. search needs) (λ c. search needs) (λ c κs. search needs)
+    (λ c. omega (arith, at-names c, whole-facts _ (got c .none) .header .ends))
+    (λ c. omega (arith, at-names c, whole-facts _ (got c .none) .header .ends)) (λ c. search needs) (λ c κs. search needs)
+    (λ c. search needs) (λ c. search needs) returns returns-2)

@@ -1,0 +1,43 @@
+-- The invariant: the first `i` section rows stand at the front of the buffer, and what lies behind is as it was.
+use Prim.Native.Nat.{_≤_, _-_, _*_}
+use mathlib.Core.Path.{refl}
+use native.Mathlib.Omega.{arith}
+use lib.ListN.{length-take, length-drop}
+use Rattle.folds.specs.Bytes.{bytesBelow}
+use Rattle.plan_writing.specs.Encode.{sectionBytes}
+use Rattle.plan_writing.proofs.Put.{Front, put-front, rows-more, rows-all, section-length}
+use Rattle.plan_writing.proofs.put_sections.Statement.{statement}
+use Rattle.plan_writing.proofs.put_sections.Tie as tie
+
+abbrev Inv-loop : tie.InvT-loop
+Inv-loop buf₀ s sections i₀ buf i = (i ≤ s) × Front (bytesBelow i (sectionBytes sections)) (i * 4) buf₀ buf
+
+abbrev μ-loop : tie.MeasureT-loop
+μ-loop buf₀ s sections i₀ buf i = s - i
+
+loop-holds : tie.Need-loop-holds Inv-loop μ-loop
+unfolding bytesBelow
+loop-holds c = (omega arith, put-front refl refl (omega arith))
+
+put-section-requires : tie.Need-put-section-requires Inv-loop μ-loop
+put-section-requires c κs = simp (length-take, length-drop) (omega arith)
+
+loop-again : tie.Need-loop-again Inv-loop μ-loop
+unfolding sectionBytes
+loop-again c =
+    let a = c .before .before .before .before .before .before .before .before in
+    let l = c .before .before .before .before .before .before .loop in
+    (omega arith, rows-more _ _ (section-length (a .args .t2)) _ (l .inv .1) (c .before .before .put-section .ensures) (omega arith))
+
+same-length : tie.Need-same-length Inv-loop μ-loop
+same-length c = c .before .loop .inv .1 .kept
+
+returns : tie.Need-returns Inv-loop μ-loop
+returns c = rows-all _ _ _ _ (omega arith) (c .before .loop .inv .1)
+
+pub put-sections-spec : {M : Type 1} → statement M
+put-sections-spec =
+    tie.close
+    (tie.spec
+    Inv-loop μ-loop loop-holds (λ c. omega arith) (λ c. omega arith) (λ c. omega arith) (λ c. omega arith) (λ c. omega arith)
+    (λ c. omega arith) put-section-requires (λ c. omega arith) (λ c. omega arith) loop-again same-length returns)

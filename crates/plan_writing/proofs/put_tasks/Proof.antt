@@ -1,0 +1,45 @@
+-- The invariant: the first `i` task rows stand at the front of the buffer, and what lies behind is as it was.
+use Prim.Native.Nat.{_≤_, _-_, _*_}
+use mathlib.Core.Path.{refl}
+use native.Mathlib.Omega.{arith}
+use lib.ListN.{length-take, length-drop}
+use Rattle.folds.specs.Bytes.{bytesBelow}
+use Rattle.plan_writing.specs.Encode.{taskBytes}
+use Rattle.plan_writing.proofs.Put.{Front, put-front, rows-more, rows-all, task-length, tag-at}
+use Rattle.plan_writing.proofs.put_tasks.Statement.{statement}
+use Rattle.plan_writing.proofs.put_tasks.Tie as tie
+
+abbrev Inv-loop : tie.InvT-loop
+Inv-loop buf₀ n tasks i₀ buf i = (i ≤ n) × Front (bytesBelow i (taskBytes tasks)) (i * 8) buf₀ buf
+
+abbrev μ-loop : tie.MeasureT-loop
+μ-loop buf₀ n tasks i₀ buf i = n - i
+
+loop-holds : tie.Need-loop-holds Inv-loop μ-loop
+unfolding bytesBelow
+loop-holds c = (omega arith, put-front refl refl (omega arith))
+
+put-task-requires : tie.Need-put-task-requires Inv-loop μ-loop
+put-task-requires c κs =
+    let a = c .before .before .before .before .before in
+    (simp (length-take, length-drop) (omega arith), omega (arith, tag-at _ _ _ (a .pre .2) (c .before .before .loop-test .taken)))
+
+loop-again : tie.Need-loop-again Inv-loop μ-loop
+unfolding taskBytes
+loop-again c =
+    let a = c .before .before .before .before .before .before .before .before in
+    let l = c .before .before .before .before .before .before .loop in
+    (omega arith, rows-more _ _ (task-length (a .args .t2)) _ (l .inv .1) (c .before .before .put-task .ensures) (omega arith))
+
+same-length : tie.Need-same-length Inv-loop μ-loop
+same-length c = c .before .loop .inv .1 .kept
+
+returns : tie.Need-returns Inv-loop μ-loop
+returns c = rows-all _ _ _ _ (omega arith) (c .before .loop .inv .1)
+
+pub put-tasks-spec : {M : Type 1} → statement M
+put-tasks-spec =
+    tie.close
+    (tie.spec
+    Inv-loop μ-loop loop-holds (λ c. omega arith) (λ c. omega arith) (λ c. omega arith) (λ c. omega arith) (λ c. omega arith)
+    (λ c. omega arith) put-task-requires (λ c. omega arith) (λ c. omega arith) loop-again same-length returns)

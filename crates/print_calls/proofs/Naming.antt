@@ -1,0 +1,73 @@
+-- An answer that names a resource is one of a checked plan that has it, since the call was not refused.
+use Prim.Native.Nat.{ℕ, _<_}
+use mathlib.Core.Bool.{Bool, true, false, cond, _&&_}
+use mathlib.Core.List.{List, [], _∷_}
+use mathlib.Core.Path.{_≡_}
+use borrow.Author.Tests.{ltb-true}
+use lib.Dec.{eqb, ltb}
+use lib.ListN.{length, getD}
+use Rattle.folds.proofs.Tests.{code-zero, code-next, first-zero, then-zero}
+use Rattle.folds.proofs.Arrays.{by-eq}
+use Rattle.plan_reading.specs.Reading.{refusal}
+use Rattle.plan_reading.specs.Plan.{Plan, planOf, Checked}
+use Rattle.analysis_equations.specs.Questions.{taskNumber, useCode}
+use Rattle.queue_rules.specs.Rules.{Line, line, turn, released}
+use Rattle.machine_rules.specs.declared.Call.{Call}
+use Rattle.machine_rules.specs.declared.Call.the-variants.{Request, Release, Tick}
+use Rattle.machine_rules.specs.declared.Answer.the-variants.{Refused}
+use Rattle.machine_rules.specs.Machine.{View, terms, busy, requestCode, releaseCode, callCode, requestTold, releaseTold, told}
+use Rattle.machine_state.specs.declared.State.{State}
+use Rattle.machine_state.specs.Shows.{shows}
+use Rattle.machine.specs.Replies.{stateRefusal, callRefusal, reply}
+use Rattle.machine.specs.Promise.{callOf}
+use Rattle.print_lines.specs.Naming.{Nameable, Names}
+
+module _ (p : Plan) (m : View) (tag q : ℕ) where
+  request-below : requestCode p m tag q ≡ 0 → q < p .resources
+  unfolding requestCode useCode
+  request-below e =
+      let u : useCode p tag q ≡ 0 = first-zero (useCode p tag q) (cond (busy p m (taskNumber p tag)) 15 0) e in
+      ltb-true _ _ (code-zero (ltb q (p .resources)) _ _ (code-next (ltb (taskNumber p tag) (p .tasks)) _ _ u))
+
+  release-below : releaseCode p m tag q ≡ 0 → q < p .resources
+  unfolding releaseCode
+  release-below e = ltb-true _ _ (code-zero (ltb q (p .resources)) _ _ (code-next (ltb (taskNumber p tag) (p .tasks)) _ _ e))
+
+module _ (f : List ℕ) (q : ℕ) where
+  request-names : (i : ℕ) (l : Line) → Nameable f q → Names f q (requestTold (planOf f) i q l)
+  request-names i (line h b []) n = n
+  request-names i (line h b (x ∷ rest)) n = n
+
+  release-names : (l : Line) → Nameable f q → Names f q (releaseTold (planOf f) l)
+  release-names (line h b []) n = n
+  release-names (line h b (turn k u us ∷ rest)) n = n
+
+module _ (f : List ℕ) (bytes : (k : ℕ) → k < length f → getD f k 0 < 256) (s : State) where
+  -- a call that is not refused
+  reply-names : (c : Call) (q : ℕ)
+      → (callCode (planOf f) (shows (planOf f) s) c ≡ 0 → Checked f → Names f q (told (planOf f) (shows (planOf f) s) c))
+      → Names f q (reply f s c)
+  unfolding reply callRefusal
+  reply-names c q n =
+      by-eq (λ (b : Bool). Names f q (cond b (told (planOf f) (shows (planOf f) s) c) (Refused (callRefusal f s c)))) (callRefusal f s c) 0
+      (λ e. n (then-zero (stateRefusal f s) _ e) (record { none = first-zero (refusal f) _ (first-zero (stateRefusal f s) _ e); bytes = bytes }))
+      (λ d. tt)
+
+  -- three bytes that are a call
+  each-names : ℕ → List Call → Type 0
+  each-names q [] = Unit {0}
+  each-names q (c ∷ cs) = Names f q (reply f s c)
+
+  bytes-name : (letter tag q : ℕ) → each-names q (callOf letter tag q)
+  unfolding callOf each-names
+  bytes-name letter tag q = go (eqb letter 81) (eqb letter 82) (eqb letter 84 && (eqb tag 0 && eqb q 0))
+    where
+      go : (a b d : Bool) → each-names q (cond a (Request tag q ∷ []) (cond b (Release tag q ∷ []) (cond d (Tick ∷ []) [])))
+      go true b d = reply-names (Request tag q) q (λ e h. request-names f q (taskNumber (planOf f) tag) (shows (planOf f) s .lines q) (record { plan = h; below = request-below (planOf f) (shows (planOf f) s) tag q e }))
+      go false true d = reply-names (Release tag q) q (λ e h. release-names f q (released (terms (planOf f) q) (shows (planOf f) s .lines q)) (record { plan = h; below = release-below (planOf f) (shows (planOf f) s) tag q e }))
+      go false false true = reply-names Tick q (λ e h. tt)
+      go false false false = tt
+
+  pub call-names : (letter tag q : ℕ) (c : Call) → callOf letter tag q ≡ c ∷ [] → Names f q (reply f s c)
+  unfolding each-names
+  call-names letter tag q c e = rw e at (bytes-name letter tag q)

@@ -1,0 +1,39 @@
+-- What the printing program prints for an input, by the rules alone.
+use Prim.Native.Nat.{ℕ, zero, suc, _+_, _*_, _/_, _%_}
+use mathlib.Core.Bool.{cond}
+use mathlib.Core.List.{List, [], _∷_, _++_}
+use lib.Dec.{eqb}
+use lib.ListN.{length, getD, take, drop}
+use Rattle.plan_layout.specs.Layout.{countsOf}
+use Rattle.plan_reading.specs.Reading.{refusal, planLength}
+use Rattle.plan_reading.specs.Plan.{planOf}
+use Rattle.machine_rules.specs.declared.Call.{Call}
+use Rattle.machine_rules.specs.Machine.{answer, run}
+use Rattle.machine.specs.Promise.{callOf, callsBelow}
+use Rattle.print_lines.specs.Lines.{refusedLine, planLine}
+use Rattle.print_calls.specs.Calls.{lineOf}
+
+-- the line of three bytes after a list of calls on a fresh machine
+abbrev pub lineAfter : List ℕ → List Call → ℕ → ℕ → ℕ → List ℕ
+lineAfter f before letter tag q = lineOf f tag q (answer (planOf f) (run (planOf f) before)) (callOf letter tag q)
+
+-- the lines of the first n calls of three bytes
+unfoldable pub linesBelow : List ℕ → ℕ → List ℕ → List ℕ
+linesBelow f zero l = []
+linesBelow f (suc n) l = linesBelow f n l ++ lineAfter f (callsBelow n l) (getD l (n * 3) 0) (getD l (n * 3 + 1) 0) (getD l (n * 3 + 2) 0)
+
+-- what the output ends with, for calls of n bytes: "1 or 2 left-over bytes print "refused 22" and end"
+unfoldable pub endLine : ℕ → List ℕ
+endLine n = cond (eqb (n % 3) 0) [] (refusedLine 22)
+
+-- the lines of all whole calls, and the end
+unfoldable pub callsOutput : List ℕ → List ℕ → List ℕ
+callsOutput f l = linesBelow f (length l / 3) l ++ endLine (length l)
+
+-- the plan in a file and the calls behind it; "A refused plan prints its number in one line and nothing more"
+unfoldable pub fileOutput : List ℕ → List ℕ → List ℕ
+fileOutput f calls = cond (eqb (refusal f) 0) (planLine (countsOf f) ++ callsOutput f calls) (refusedLine (refusal f))
+
+-- "Standard input is a plan, as long as its bytes 14-15 say (too few bytes are refusal 1), then calls of 3 bytes"
+abbrev pub output : List ℕ → List ℕ
+output input = fileOutput (take (planLength input) input) (drop (planLength input) input)

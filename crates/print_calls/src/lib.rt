@@ -1,0 +1,210 @@
+// What a call does, as a line of text in a lent buffer: document 01, "The printing program".
+use machine_state::State;
+use plan_rules::Counts;
+use print_text::Line;
+ghost use mathlib.Core.Path.{_≡_};
+ghost use Prim.Native.Nat.{_+_, _≤_};
+ghost use lib.ListN.{length};
+ghost use Rattle.machine.specs.Inner.{Surveyed};
+ghost use Rattle.machine.specs.Replies.{stateRefusal};
+ghost use Rattle.machine.specs.Promise.{callOf, AfterBytes};
+ghost use Rattle.print_lines.specs.Lines.{planLine};
+ghost use Rattle.print_calls.specs.Calls.{callLine};
+ghost use Rattle.print_calls.specs.Output.{endLine};
+ghost use Rattle.print_text.specs.Buffers.{lineFor, lineIn, lineUnless, lineInUnless};
+ghost use Rattle.print_calls.specs.Buffers.{StateBeside, linesCode, Told};
+ghost use Rattle.print_calls.specs.Inner.{Stepped};
+
+// A line, and the state after its call.
+pub struct CallLine {
+    pub line: Line,
+    pub state: State,
+}
+
+// The lines of many calls: how many bytes of calls were made, how long the lines are, and the state after them; or the refusal, and
+// then none was made.
+pub struct Batch {
+    pub refusal: u8,
+    pub used: usize,
+    pub length: usize,
+    pub state: State,
+}
+
+// Where a line ends, and the state after its call.
+struct Step {
+    end: usize,
+    state: State,
+}
+
+// Makes a call of three bytes, and puts its line.
+fn put_call(
+    buf: &mut [u8],
+    at: usize,
+    file: &[u8],
+    code: u8,
+    holds: &[u16],
+    budgets: &[u16],
+    state: State,
+    letter: u8,
+    tag: u8,
+    resource: u8,
+) -> Step
+    requires { ⌜ (Surveyed (now file) code (now holds) (now budgets)) × (at + 96 ≤ length (now buf)) ⌝ }
+    ensures { λ r. ⌜ Stepped (now (file .entry)) state letter tag resource (now (buf .entry)) (now (buf .exit)) at r ⌝ }
+{
+    let decoded = machine::decode(letter, tag, resource);
+    if !decoded.known {
+        let end = print_lines::put_refused(buf, at, 21);
+        return Step { end, state };
+    }
+    let wanted = decoded.call;
+    let reply = machine::surveyed::call(file, code, holds, budgets, state, wanted);
+    let answer = reply.answer;
+    let next = reply.state;
+    let end = print_lines::put_answer(buf, at, file, tag, resource, answer);
+    Step { end, state: next }
+}
+
+// What the output ends with, where so many bytes stand behind the last call that was made: nothing, or the refusal 22.
+pub fn end_line(left: usize, out: &mut [u8]) -> Line
+    ensures { λ r. ⌜ r ≡ lineFor (endLine left) (length (now (out .entry))) ⌝ }
+    ensures { λ r. ⌜ now (out .exit) ≡ lineIn (endLine left) (now (out .entry)) ⌝ }
+{
+    if left % 3 == 0 {
+        return Line {
+            refusal: 0,
+            length: 0,
+        };
+    }
+    print_lines::refused_line(22, out)
+}
+
+// The line of a plan that is read.
+pub fn plan_line(counts: Counts, out: &mut [u8]) -> Line
+    ensures { λ r. ⌜ r ≡ lineFor (planLine counts) (length (now (out .entry))) ⌝ }
+    ensures { λ r. ⌜ now (out .exit) ≡ lineIn (planLine counts) (now (out .entry)) ⌝ }
+{
+    let mut line = [0u8; 96];
+    let end = print_lines::put_plan(&mut line, 0, counts);
+    print_text::hand_over(&line[0..end], out)
+}
+
+// No line, and the call not made.
+fn no_line(refusal: u8, state: State) -> CallLine
+    ensures { λ r. ⌜ r ≡ record { line = record { refusal = refusal; length = 0 }; state = state } ⌝ }
+{
+    let line = Line { refusal, length: 0 };
+    CallLine { line, state }
+}
+
+// Makes a call of three bytes on a state: its line, and the next state. What the call itself is refused, 11 to 16 or 21, is its line.
+// A plan that is refused, a state that is not sound (19), then a buffer that is too short for the line (10) are refusals here: there
+// is no line, and buffer and state are as they were.
+pub fn call_line(
+    file: &[u8],
+    state: State,
+    letter: u8,
+    tag: u8,
+    resource: u8,
+    out: &mut [u8],
+) -> CallLine
+    ensures { λ r. ⌜ r .line ≡ lineUnless (stateRefusal (now (file .entry)) state) (callLine (now (file .entry)) state letter tag resource) (length (now (out .entry))) ⌝ }
+    ensures { λ r. ⌜ now (out .exit) ≡ lineInUnless (stateRefusal (now (file .entry)) state) (callLine (now (file .entry)) state letter tag resource) (now (out .entry)) ⌝ }
+    ensures { λ r. ⌜ StateBeside (r .line .refusal) state (r .state) (AfterBytes (now (file .entry)) state (callOf letter tag resource)) ⌝ }
+{
+    let mut holds = [0u16; 1024];
+    let mut budgets = [0u16; 128];
+    let code = machine::surveyed::look(file, &mut holds, &mut budgets);
+    let first = machine::surveyed::state_code(file, code, &holds, &budgets, state);
+    if first != 0 {
+        return no_line(first, state);
+    }
+    let mut buf = [0u8; 96];
+    let step = put_call(
+        &mut buf,
+        0,
+        file,
+        code,
+        &holds,
+        &budgets,
+        state,
+        letter,
+        tag,
+        resource,
+    );
+    let end = step.end;
+    let line = print_text::hand_over(&buf[0..end], out);
+    let next = step.state;
+    if line.refusal != 0 {
+        return CallLine { line, state };
+    }
+    CallLine { line, state: next }
+}
+
+// What stands before the lines of so many bytes of calls in so much room: the number of the plan or of the state, then 10, where there
+// is a call and no room for every line.
+fn lines_code(first: u8, calls: usize, room: usize) -> u8
+    ensures { λ r. ⌜ r ≡ linesCode first calls room ⌝ }
+{
+    if first != 0 {
+        return first;
+    }
+    if (3 <= calls) & (room < 96) {
+        return 10;
+    }
+    0
+}
+
+// No call made.
+fn none_made(refusal: u8, state: State) -> Batch
+    ensures { λ r. ⌜ r ≡ record { refusal = refusal; used = 0; length = 0; state = state } ⌝ }
+{
+    Batch {
+        refusal,
+        used: 0,
+        length: 0,
+        state,
+    }
+}
+
+// Makes calls of three bytes, one after the other, and puts their lines one behind the other: as many as there are, or until fewer
+// than 96 bytes are left, which no line needs. A plan that is refused, a state that is not sound (19), then a buffer of fewer than 96
+// bytes where there is a call (10) are refusals: nothing is made, and buffer and state are as they were.
+pub fn lines(file: &[u8], state: State, calls: &[u8], out: &mut [u8]) -> Batch
+    ensures { λ r. ⌜ Told (now (file .entry)) state (now (calls .entry)) (now (out .entry)) (now (out .exit)) r ⌝ }
+{
+    let mut holds = [0u16; 1024];
+    let mut budgets = [0u16; 128];
+    let code = machine::surveyed::look(file, &mut holds, &mut budgets);
+    let first = machine::surveyed::state_code(file, code, &holds, &budgets, state);
+    let refusal = lines_code(first, calls.len(), out.len());
+    if refusal != 0 {
+        return none_made(refusal, state);
+    }
+    let mut current = state;
+    let mut used = 0;
+    let mut end = 0;
+    while (3 <= calls.len() - used) & (96 <= out.len() - end) {
+        let step = put_call(
+            out,
+            end,
+            file,
+            code,
+            &holds,
+            &budgets,
+            current,
+            calls[used],
+            calls[used + 1],
+            calls[used + 2],
+        );
+        current = step.state;
+        end = step.end;
+        used += 3;
+    }
+    Batch {
+        refusal: 0,
+        used,
+        length: end,
+        state: current,
+    }
+}

@@ -1,0 +1,19 @@
+-- The sheet is put at the front of a buffer of its own, and handed over from there.
+use native.Mathlib.Omega.{arith}
+use borrow.Author.Needs.{needs}
+use Rattle.print_text.proofs.Lines.{front-part, line-short}
+use Rattle.print_sheet.proofs.sheet_aside.Statement.{statement}
+use Rattle.print_sheet.proofs.sheet_aside.Tie as tie
+
+returns : tie.Need-returns
+returns c =
+    let p = c .before .before .before .before .before .before .before .put-plan-sheet .ensures in
+    let h = rw (front-part (p .0)) at (c .before .before .hand-over .ensures) in
+    (h .0, (h .1, omega (arith, line-short _ _ (h .0), p .0 .ends, p .1)))
+
+pub sheet-aside-spec : {M : Type 1} → statement M
+sheet-aside-spec =
+    tie.close
+    (tie.spec
+    (λ c. search needs) (λ c κs. (c .before .before .before .pre, search needs)) (λ c. search needs) (λ c. search needs)
+    (λ c. search needs) (λ c κs. search needs) (λ c. search needs) returns)

@@ -1,0 +1,80 @@
+-- z is -(a + 1), so z + 1 is -a, of which the machine has both the negation and one more.
+use Prim.Native.Nat.{ℕ, zero, suc, _+_, _<_}
+use mathlib.Core.Bool.{true}
+use mathlib.Core.Path.{_≡_, refl, ap, _∙_}
+use native.Mathlib.Omega.{arith}
+use native.Mathlib.Nat.{not-suc-le-zero}
+use native.Mathlib.Numerals.{add-one}
+use borrow.Author.Tests.{ltb-true}
+use lib.Dec.{T}
+use lib.IntN.{ℤ, pos, negsuc, sucℤ, negℤ, natAbs, _+ℤ_, _-ℤ_, +ℤ-one, +ℤ-idl}
+use lib.Signed.{ltZ, nonNeg, mag}
+use mir.Syntax.{w64}
+use mir.Val.{Fits, SFits, toZ, ofZ}
+use mir.Facts.{toZ-ofZ}
+use Rattle.print_text.proofs.below_zero.Statement.{statement}
+use Rattle.print_text.proofs.below_zero.Tie as tie
+
+up-mag : (z : ℤ) (m : ℕ) → ltZ z (pos 0) ≡ true → mag z < m → mag (sucℤ z) < m
+up-mag (pos a) m e h = absurd (not-suc-le-zero (ltb-true a 0 e))
+up-mag (negsuc zero) m e h = h
+up-mag (negsuc (suc a)) m e h = omega arith
+
+up-negated : (z : ℤ) → ltZ z (pos 0) ≡ true → negℤ (sucℤ z) ≡ pos (mag z)
+up-negated (pos a) e = absurd (not-suc-le-zero (ltb-true a 0 e))
+up-negated (negsuc zero) e = refl
+up-negated (negsuc (suc a)) e = refl
+
+up-again : (z : ℤ) → ltZ z (pos 0) ≡ true → mag z + 1 ≡ natAbs z
+up-again (pos a) e = absurd (not-suc-le-zero (ltb-true a 0 e))
+up-again (negsuc a) e = add-one a
+
+-- z + 1 and its negation, as the machine has them
+module _ (z : ℤ) (e : ltZ z (pos 0) ≡ true) (f : SFits w64 z) where
+  abbrev up : ℤ
+  up = toZ w64 (ofZ w64 z) +ℤ pos 1
+
+  up-is : up ≡ sucℤ z
+  up-is = ap (λ (x : ℤ). x +ℤ pos 1) (toZ-ofZ f) ∙ +ℤ-one z
+
+  up-fits : SFits w64 up
+  up-fits = rw up-is (record { sfits = up-mag z 9223372036854775808 e (f .sfits) })
+
+  abbrev far : ℤ
+  far = pos 0 -ℤ toZ w64 (ofZ w64 up)
+
+  far-is : far ≡ pos (mag z)
+  far-is = +ℤ-idl _ ∙ ap negℤ (toZ-ofZ up-fits ∙ up-is) ∙ up-negated z e
+
+  far-fits : SFits w64 far
+  far-fits = rw far-is (record { sfits = f .sfits })
+
+  far-back : toZ w64 (ofZ w64 far) ≡ pos (mag z)
+  far-back = toZ-ofZ far-fits ∙ far-is
+
+  far-casts : T (nonNeg (toZ w64 (ofZ w64 far))) × Fits w64 (natAbs (toZ w64 (ofZ w64 far)))
+  far-casts = rw far-back (tt, record { fits = omega (arith, f .sfits) })
+
+  one-more : Fits w64 (natAbs (toZ w64 (ofZ w64 far)) + 1)
+  one-more = rw far-back (record { fits = omega (arith, f .sfits) })
+
+  how-far : natAbs (toZ w64 (ofZ w64 far)) + 1 ≡ natAbs z
+  how-far = rw far-back (up-again z e)
+
+add-result : tie.Need-add-result
+add-result c = up-fits _ (c .pre) (c .fits .z)
+
+sub-result : tie.Need-sub-result
+sub-result c = far-fits _ (c .pre) (c .fits .z)
+
+cast-result : tie.Need-cast-result
+cast-result c = far-casts _ (c .pre) (c .fits .z)
+
+add-result-2 : tie.Need-add-result-2
+add-result-2 c = one-more _ (c .pre) (c .fits .z)
+
+returns : tie.Need-returns
+returns c = how-far _ (c .pre) (c .fits .z)
+
+pub below-zero-spec : {M : Type 1} → statement M
+below-zero-spec = tie.close (tie.spec add-result sub-result cast-result add-result-2 returns)

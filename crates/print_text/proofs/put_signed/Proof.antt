@@ -1,0 +1,75 @@
+-- A minus and how far below zero it is, or the digits of what the cast holds.
+use Prim.Native.Nat.{ℕ}
+use mathlib.Core.Bool.{true, false, true≢false}
+use mathlib.Core.List.{List}
+use mathlib.Core.Path.{_≡_}
+use native.Mathlib.Nat.{not-suc-le-zero}
+use native.Mathlib.Omega.{arith}
+use borrow.Author.Needs.{needs}
+use borrow.Author.Tests.{ltb-true}
+use lib.Dec.{T}
+use lib.IntN.{ℤ, pos, negsuc, natAbs}
+use lib.Signed.{ltZ, nonNeg}
+use mir.Syntax.{w64}
+use mir.Val.{Fits, SFits, toZ, ofZ}
+use mir.Facts.{toZ-ofZ, fits-natAbs}
+use Rattle.print_text.specs.Text.{quoted, decimal, signed, Put}
+use Rattle.print_text.proofs.TextLaws.{put-then, put-held}
+use Rattle.print_text.proofs.put_signed.Statement.{statement}
+use Rattle.print_text.proofs.put_signed.Tie as tie
+
+not-below : (z : ℤ) → ltZ z (pos 0) ≡ false → T (nonNeg z)
+not-below (pos a) t = tt
+not-below (negsuc a) t = absurd (true≢false t)
+
+put-below : {l m n : List ℕ} {at e f k : ℕ} (z : ℤ) → ltZ z (pos 0) ≡ true → k ≡ natAbs z
+    → Put l m at (quoted "-") e → Put m n e (decimal k) f
+    → Put l n at (signed z) f
+put-below (pos a) t h p q = absurd (not-suc-le-zero (ltb-true a 0 t))
+put-below (negsuc a) t h p q = put-then p (rw h at q)
+
+put-not-below : {l m : List ℕ} {at e : ℕ} (z : ℤ) → T (nonNeg z) → Put l m at (decimal (natAbs z)) e → Put l m at (signed z) e
+put-not-below (pos a) t p = p
+put-not-below (negsuc a) t p = absurd t
+
+-- the branches of the test `z < 0`, and the cast where it fails, for z as the machine has it
+module _ (z : ℤ) (s : SFits w64 z) where
+  abbrev held : ℤ
+  held = toZ w64 (ofZ w64 z)
+
+  casts : ltZ held (pos 0) ≡ false → T (nonNeg held) × Fits w64 (natAbs held)
+  casts t = (not-below held t, rw (toZ-ofZ s) (fits-natAbs tt s))
+
+  minus : {l m n : List ℕ} {at e f k : ℕ} → ltZ held (pos 0) ≡ true → k ≡ natAbs held → Put l m at (quoted "-") e → Put m n e (decimal k) f → Put l n at (signed z) f
+  minus t h p q = put-held signed z s (put-below held t h p q)
+
+  plain : {l m : List ℕ} {at e : ℕ} → ltZ held (pos 0) ≡ false → Put l m at (decimal (natAbs held)) e → Put l m at (signed z) e
+  plain t p = put-held signed z s (put-not-below held (not-below held t) p)
+
+returns : tie.Need-returns
+returns c =
+    let a = c .before .before .before .before .before .before .before .before .before .before .before .before in
+    let i = c .before .before .before .before .before .before .before .before .before .before in
+    let p = c .before .before .before .before .before .before .before .put in
+    let d = c .before .before .put-decimal in (
+      minus (a .args .z) (a .fits .z) (i .if1 .taken) (c .before .before .before .below-zero .ensures) (p .ensures) (d .ensures .0),
+      omega (arith, p .ensures .ends, d .ensures .1),
+    )
+
+cast-put-decimal : tie.Need-cast-put-decimal
+cast-put-decimal c = casts _ (c .before .before .before .fits .z) (c .before .if1 .left)
+
+returns-2 : tie.Need-returns-2
+returns-2 c =
+    let a = c .before .before .before .before .before .before in
+    let d = c .before .before .put-decimal2 in (
+      plain (a .args .z) (a .fits .z) (c .before .before .before .before .if1 .left) (d .ensures .0),
+      omega (arith, d .ensures .1),
+    )
+
+pub put-signed-spec : {M : Type 1} → statement M
+put-signed-spec =
+    tie.close
+    (tie.spec
+    (λ c. search needs) (λ c κs. search needs) (λ c κs. search needs) (λ c κs. search needs) (λ c. search needs) returns
+    cast-put-decimal (λ c κs. search needs) (λ c. search needs) returns-2)

@@ -1,0 +1,59 @@
+-- Ranks and slots that agree: they show one queue, and are sound together.
+use Prim.Native.Nat.{ℕ, _-_, _<_}
+use mathlib.Core.List.{List}
+use mathlib.Core.Path.{_≡_, refl, sym, ap, ap₂, _∙_}
+use native.Mathlib.Omega.{arith}
+use lib.Dec.{eqb}
+use Rattle.folds.specs.Below.{maxBelow}
+use Rattle.folds.proofs.Figures.{max-same}
+use Rattle.queue_rules.specs.Rules.{Terms, turn}
+use Rattle.queue_ranks.specs.Ranks.{taskAt, othersOf, turnOf, queueFrom}
+use Rattle.folds.proofs.Searches.{find-same}
+use Rattle.queue_ranks.proofs.Lists.{list-same}
+use Rattle.queue_ranks.proofs.Ranked.{At, Ranked, Queued, Timed}
+
+-- one queue of tasks
+module _ (n : ℕ) (f g : ℕ → ℕ) (same : (u : ℕ) → u < n → f u ≡ g u) where
+  pub same-task : (j : ℕ) → taskAt n f j ≡ taskAt n g j
+  same-task j = find-same n (λ u. eqb (f u) j) (λ u. eqb (g u) j) (λ u l. ap (λ (x : ℕ). eqb x j) (same u l))
+
+  pub same-others : othersOf n f ≡ othersOf n g
+  same-others = rw (max-same n f g same) (list-same (maxBelow n g - 1) 2 (taskAt n f) (taskAt n g) (λ j a l. same-task j))
+
+pub same-turn : (n : ℕ) (R S : ℕ → ℕ → ℕ) (k : ℕ) → ((u : ℕ) → u < n → R k u ≡ S k u) → turnOf n R k ≡ turnOf n S k
+same-turn n R S k h = ap₂ (λ (u : ℕ) (us : List ℕ). turn k u us) (same-task n (R k) (S k) h 1) (same-others n (R k) (S k) h)
+
+-- the whole queue
+module _ (n : ℕ) (R S : ℕ → ℕ → ℕ) (same : (k u : ℕ) → u < n → R k u ≡ S k u) (c : ℕ) where
+  pub same-queue-slots : (g f : ℕ → ℕ) → ((j : ℕ) → j < c → g j ≡ f j) → queueFrom n R c g ≡ queueFrom n S c f
+  same-queue-slots g f e =
+      list-same c 0 (λ j. turnOf n R (g j)) (λ j. turnOf n S (f j))
+      (λ j a l. same-turn n R S (g j) (same (g j)) ∙ ap (turnOf n S) (e j (omega arith)))
+
+  pub same-queue : (g : ℕ → ℕ) → queueFrom n R c g ≡ queueFrom n S c g
+  same-queue g = same-queue-slots g g (λ j l. refl)
+
+  pub same-queued : (m : ℕ) (g f : ℕ → ℕ) → ((j : ℕ) → j < c → g j ≡ f j) → Queued n m R c g → Queued n m S c f
+  same-queued m g f e w = record {
+    placed = λ i l. rw (← e i l) (w .placed i l);
+    served = λ i l. rw (← e i l, ← max-same n (R (g i)) (S (g i)) (same (g i))) (w .served i l);
+    once = λ i j a b q. w .once i j a b (e i a ∙ q ∙ sym (e j b));
+    stands = λ k a. let x : At c g k = w .stands k (rw (max-same n (R k) (S k) (same k)) a) in
+        record { index = x .index; within = x .within; is = sym (e (x .index) (x .within)) ∙ x .is };
+  }
+
+  pub same-timed : (t : Terms) (g f : ℕ → ℕ) (h b : ℕ) → ((j : ℕ) → j < c → g j ≡ f j) → Timed n t R c g h b → Timed n t S c f h b
+  same-timed t g f h b e k = record {
+    idle = k .idle;
+    runs = λ a. rw (← e 0 a, ← same-task n (R (g 0)) (S (g 0)) (same (g 0)) 1) (k .runs a);
+  }
+
+pub same-ranked : (n : ℕ) (t : Terms) (R S : ℕ → ℕ → ℕ) → ((k u : ℕ) → u < n → R k u ≡ S k u) → Ranked n t R → Ranked n t S
+same-ranked n t R S same r = record {
+  own = λ k u l ne. sym (same k u l) ∙ r .own k u l ne;
+  alone = λ u l a. let k = t .processor u in
+      rw (← same k u l) (sym (same-task n (R k) (S k) (same k) (R k u)) ∙ r .alone u l (rw (same k u l) a));
+  backed = λ u l a. let k = t .processor u in
+      rw (← same k u l, ← same-task n (R k) (S k) (same k) (R k u - 1)) (r .backed u l (rw (same k u l) a));
+  uses = λ u l a. r .uses u l (rw (same (t .processor u) u l) a);
+}

@@ -1,0 +1,22 @@
+-- Proofs by cases: the outcomes of a test, and the two ways on when a task leaves.
+use Prim.Native.Nat.{ℕ, _≤_}
+use mathlib.Core.Bool.{Bool, true, false, cond, _||_, true≢false}
+use mathlib.Core.List.{List, _∷_}
+use mathlib.Core.Path.{_≡_, refl}
+use borrow.Author.Tests.{leb-true}
+use lib.Dec.{leb}
+use Rattle.queue_rules.specs.Rules.{Terms, Turn, turn, Line, goOn, sendBack, leave}
+
+-- a proof for each outcome of a test
+pub by-test : {A : Type 0} (R : A → Type 0) (b : Bool) {x y : A} → (b ≡ true → R x) → (b ≡ false → R y) → R (cond b x y)
+by-test R true f g = f refl
+by-test R false f g = g refl
+
+-- the two ways on where a task is next
+pub by-leave : (t : Terms) (R : Line → Type 0) (b k u v : ℕ) (vs : List ℕ) (rest : List Turn) → (t .hold v ≤ b → R (goOn t b k v vs rest))
+    → R (sendBack t k v vs rest) → R (leave t b (turn k u (v ∷ vs) ∷ rest))
+by-leave t R b k u v vs rest f g = by-test R (leb (t .hold v) b) (λ e. f (leb-true (t .hold v) b e)) (λ _. g)
+
+pub or-no : (a b : Bool) → (a || b) ≡ false → (a ≡ false) × (b ≡ false)
+or-no true b e = absurd (true≢false e)
+or-no false b e = (refl, e)

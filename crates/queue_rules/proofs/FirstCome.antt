@@ -1,0 +1,60 @@
+-- "first come first served": who comes stands behind the tasks of its processor that are in line; when the first task of the head
+-- leaves, those of each processor stay in their order, also of one that is sent to the tail.
+use Prim.Native.Nat.{ℕ}
+use mathlib.Core.Bool.{Bool, false, cond}
+use mathlib.Core.List.{List, [], _∷_, _++_}
+use mathlib.Core.Path.{_≡_, refl, sym, _∙_}
+use borrow.Author.Tests.{eqb-true, eqb-false, eq-eqb, ne-eqb}
+use lib.Dec.{eqb}
+use Rattle.folds.proofs.Arrays.{by-eq}
+use Rattle.folds.proofs.Searches.{on-eq}
+use Rattle.queue_rules.specs.Rules.{Terms, Turn, turn, Line, line, queueOf, hasTurn, tasksOf, begin, join, entered, sendBack, leave}
+use Rattle.queue_rules.proofs.Cases.{by-test, by-leave, or-no}
+
+-- a processor that is not queued has no task in line
+pub no-tasks : (k : ℕ) (q : List Turn) → hasTurn k q ≡ false → tasksOf k q ≡ []
+no-tasks k [] a = refl
+no-tasks k (turn j u us ∷ q) a = let n = or-no (eqb j k) (hasTurn k q) a in rw (n .0) (no-tasks k q (n .1))
+
+-- a turn at the tail
+tasks-last : (k v j : ℕ) (vs : List ℕ) (q : List Turn) → hasTurn k q ≡ false → tasksOf j (q ++ (turn k v vs ∷ [])) ≡ cond (eqb k j) (v ∷ vs) (tasksOf j q)
+tasks-last k v j vs [] a = refl
+tasks-last k v j vs (turn l u us ∷ q) a =
+    let n = or-no (eqb l k) (hasTurn k q) a in
+    by-eq (λ (b : Bool). cond b (u ∷ us) (tasksOf j (q ++ (turn k v vs ∷ []))) ≡ cond (eqb k j) (v ∷ vs) (cond b (u ∷ us) (tasksOf j q))) l j
+    (λ e. rw (ne-eqb k j (λ s. eqb-false l k (n .0) (e ∙ sym s))))
+    (λ d. tasks-last k v j vs q (n .1))
+
+module _ (t : Terms) where
+  join-tasks : (i j : ℕ) (q : List Turn) → tasksOf j (join t i q) ≡ cond (eqb (t .processor i) j) (tasksOf j q ++ (i ∷ [])) (tasksOf j q)
+  join-tasks i j [] = refl
+  join-tasks i j (turn k u us ∷ q) =
+      by-test (λ z. tasksOf j z ≡ cond (eqb (t .processor i) j) (tasksOf j (turn k u us ∷ q) ++ (i ∷ [])) (tasksOf j (turn k u us ∷ q)))
+      (eqb k (t .processor i))
+      (λ e. rw (← eqb-true k (t .processor i) e) (on-eq _ k j (λ s. rw (eq-eqb k j s)) (λ d. rw (ne-eqb k j d))))
+      (λ n. on-eq _ k j
+      (λ s. rw (eq-eqb k j s, ne-eqb (t .processor i) j (λ z. eqb-false k (t .processor i) n (s ∙ sym z))))
+      (λ d. rw (ne-eqb k j d) (join-tasks i j q)))
+
+  -- "A request joins the tail of the task queue": that of its own processor, and no other changes
+  pub comes-last : (i j : ℕ) (l : Line)
+      → tasksOf j (queueOf (entered t i l)) ≡ cond (eqb (t .processor i) j) (tasksOf j (queueOf l) ++ (i ∷ [])) (tasksOf j (queueOf l))
+  comes-last i j (line h b []) = join-tasks i j []
+  comes-last i j (line h b (x ∷ q)) = join-tasks i j (x ∷ q)
+
+  begun-queue : (q : List Turn) → queueOf (begin t q) ≡ q
+  begun-queue [] = refl
+  begun-queue (turn k u us ∷ q) = refl
+
+  -- "the processor goes to the tail, that task keeps its first place"
+  pub sent-back : (k v j : ℕ) (vs : List ℕ) (rest : List Turn) → hasTurn k rest ≡ false → tasksOf j (queueOf (sendBack t k v vs rest)) ≡ cond (eqb k j) (v ∷ vs) (tasksOf j rest)
+  sent-back k v j [] [] a = refl
+  sent-back k v j (w ∷ ws) [] a = refl
+  sent-back k v j vs (x ∷ rest) a = rw (begun-queue (x ∷ rest ++ (turn k v vs ∷ []))) (tasks-last k v j vs (x ∷ rest) a)
+
+  -- all that leave is the first task of the head
+  pub first-served : (b k u j : ℕ) (us : List ℕ) (rest : List Turn) → hasTurn k rest ≡ false → tasksOf j (queueOf (leave t b (turn k u us ∷ rest))) ≡ cond (eqb k j) us (tasksOf j rest)
+  first-served b k u j [] rest a =
+      rw (begun-queue rest) (by-eq (λ (d : Bool). tasksOf j rest ≡ cond d [] (tasksOf j rest)) k j (λ e. rw (← e) (no-tasks k rest a)) (λ d. refl))
+  first-served b k u j (v ∷ vs) rest a =
+      by-leave t (λ l. tasksOf j (queueOf l) ≡ cond (eqb k j) (v ∷ vs) (tasksOf j rest)) b k u v vs rest (λ e. refl) (sent-back k v j vs rest a)

@@ -1,0 +1,18 @@
+-- In a proper queue a task is in line where it is among the tasks of its own processor.
+use Prim.Native.Nat.{ℕ}
+use mathlib.Core.Bool.{Bool, cond, _||_, or-false}
+use mathlib.Core.List.{List, _∷_}
+use mathlib.Core.Path.{_≡_, refl, sym}
+use Rattle.folds.proofs.Tests.{is-not-true}
+use Rattle.folds.proofs.Arrays.{by-eq}
+use Rattle.queue_rules.specs.Rules.{Terms, Turn, among, standsIn, tasksOf}
+use Rattle.queue_rules.proofs.Sound.{Proper, nobody, stands}
+use Rattle.queue_rules.proofs.FirstCome.{no-tasks}
+
+module _ (t : Terms) (known : ℕ → Bool) (procs : ℕ) (i : ℕ) where
+  pub own-stands : {q : List Turn} → Proper t known procs q → standsIn i q ≡ among i (tasksOf (t .processor i) q)
+  own-stands nobody = refl
+  own-stands (stands {k = k} {u = u} {us = us} {rest = q} lt a o r) =
+      by-eq (λ (d : Bool). (among i (u ∷ us) || standsIn i q) ≡ among i (cond d (u ∷ us) (tasksOf (t .processor i) q))) k (t .processor i)
+      (λ e. rw (own-stands r, no-tasks (t .processor i) q (rw (← e) a)) (or-false (among i (u ∷ us))))
+      (λ n. rw (is-not-true (among i (u ∷ us)) (λ m. n (sym (o .each i m .0)))) (own-stands r))

@@ -1,0 +1,88 @@
+-- What holds of every line that the rules reach. That each of their moves keeps it is in Moves.
+use Prim.Native.Nat.{ℕ, zero, suc, _+_, _≤_, _<_}
+use mathlib.Core.Bool.{Bool, true, false, cond, _||_, or-false, or-assoc}
+use mathlib.Core.List.{List, [], _∷_, _++_}
+use mathlib.Core.Path.{_≡_, refl, sym, ap}
+use native.Mathlib.Omega.{arith}
+use lib.Dec.{eqb}
+use Rattle.folds.specs.Below.{sumBelow}
+use Rattle.folds.proofs.Arrays.{by-eq}
+use Rattle.queue_rules.specs.Rules.{Terms, Turn, turn, Line, line, free, queueOf, among, hasTurn}
+use Rattle.queue_rules.proofs.Cases.{or-no}
+
+-- What is asked of the terms, for those tasks that may come and with so many processors: a task may hold for a tick or more, and for
+-- no more than its processor's budget; a processor waits for the budgets of all others
+pub record Fits (t : Terms) (known : ℕ → Bool) (procs : ℕ) : Type 0 where
+  pub some : (i : ℕ) → known i ≡ true → 1 ≤ t .hold i
+  pub within : (i : ℕ) → known i ≡ true → t .hold i ≤ t .budget (t .processor i)
+  pub placed : (i : ℕ) → known i ≡ true → t .processor i < procs
+  pub waits : (k : ℕ) → sumBelow procs (λ l. cond (eqb l k) 0 (t .budget l)) ≤ t .wait k
+
+pub among-last : (i v : ℕ) (us : List ℕ) → among i (us ++ (v ∷ [])) ≡ (among i us || eqb v i)
+among-last i v [] = or-false (eqb v i)
+among-last i v (u ∷ us) = rw (among-last i v us) (sym (or-assoc (eqb u i) (among i us) (eqb v i)))
+
+-- ── sums over the processors of a queue ──
+
+abbrev pub load : (ℕ → ℕ) → List Turn → ℕ
+load f [] = 0
+load f (turn k u us ∷ rest) = f k + load f rest
+
+-- f, but 0 at k
+abbrev pub but : (ℕ → ℕ) → ℕ → ℕ → ℕ
+but f k l = cond (eqb l k) 0 (f l)
+
+but-le : (f : ℕ → ℕ) (k n : ℕ) → sumBelow n (but f k) ≤ sumBelow n f
+unfolding sumBelow
+but-le f k zero = omega arith
+but-le f k (suc n) =
+    let h = but-le f k n in
+    by-eq (λ (d : Bool). sumBelow n (but f k) + cond d 0 (f n) ≤ sumBelow n f + f n) n k (λ e. omega arith) (λ e. omega arith)
+
+pub but-lt : (f : ℕ → ℕ) (k n : ℕ) → k < n → f k + sumBelow n (but f k) ≤ sumBelow n f
+unfolding sumBelow
+but-lt f k zero lt = omega arith
+but-lt f k (suc n) lt =
+    by-eq (λ (d : Bool). f k + (sumBelow n (but f k) + cond d 0 (f n)) ≤ sumBelow n f + f n) n k
+    (λ e. let g : f n ≡ f k = ap f e in omega (arith, but-le f k n))
+    (λ e. let h = but-lt f k n (omega arith) in omega arith)
+
+-- a processor that has no turn adds nothing
+pub load-but : (f : ℕ → ℕ) (k : ℕ) (q : List Turn) → hasTurn k q ≡ false → load f q ≡ load (but f k) q
+load-but f k [] a = refl
+load-but f k (turn j u us ∷ rest) a =
+    let n = or-no (eqb j k) (hasTurn k rest) a in
+    rw (n .0) (ap (λ (x : ℕ). f j + x) (load-but f k rest (n .1)))
+
+-- the hold left and the budget left, of a hold time and a budget
+pub record Clock (h b hold budget : ℕ) : Type 0 where
+  pub runs : 1 ≤ h
+  pub lent : h ≤ hold
+  pub covered : h ≤ b
+  pub budgeted : b ≤ budget
+
+module _ (t : Terms) (known : ℕ → Bool) (procs : ℕ) where
+  -- these tasks are known, and of processor k
+  pub record Owns (k : ℕ) (us : List ℕ) : Type 0 where
+    pub each : (i : ℕ) → among i us ≡ true → (t .processor i ≡ k) × (known i ≡ true)
+
+  -- a queue of distinct processors, each with its own tasks
+  pub data Proper : List Turn → Type 0 where
+    nobody : Proper []
+    stands : {k u : ℕ} {us : List ℕ} {rest : List Turn} → k < procs → hasTurn k rest ≡ false → Owns k (u ∷ us) → Proper rest
+        → Proper (turn k u us ∷ rest)
+
+  -- a line that is free, or held with time left by the first of a proper queue
+  pub data Sound : Line → Type 0 where
+    is-free : Sound free
+    is-held : {h b k u : ℕ} {us : List ℕ} {rest : List Turn} → Clock h b (t .hold u) (t .budget k) → Proper (turn k u us ∷ rest)
+        → Sound (line h b (turn k u us ∷ rest))
+
+  pub sound-queue : {l : Line} → Sound l → Proper (queueOf l)
+  sound-queue is-free = nobody
+  sound-queue (is-held c pr) = pr
+
+  -- so the budgets of a queue are at most those of all processors
+  pub load-le : (f : ℕ → ℕ) {q : List Turn} → Proper q → load f q ≤ sumBelow procs f
+  load-le f nobody = omega arith
+  load-le f (stands {k = k} {rest = rest} lt a o r) = omega (arith, but-lt f k procs lt, load-but f k rest a, load-le (but f k) r)
