@@ -3,7 +3,10 @@ use crate::given;
 use crate::print;
 use crate::same;
 use machine::Reply;
+use machine_calls::CallBytes;
+use machine_calls::WIDTH;
 use machine_rules::Answer;
+use machine_rules::Call;
 use machine_state::Line;
 use machine_state::Standing;
 use machine_state::State;
@@ -99,18 +102,17 @@ fn none(state: State) -> Outcome {
     }
 }
 
-// The call of this letter; a tick has tag 0 and resource 0.
-fn call(file: &[u8], state: State, letter: u8, tag: u16, resource: u8) -> Outcome {
-    match letter {
-        b'Q' => replied(machine::request(file, state, tag, resource)),
-        b'R' => replied(machine::release(file, state, tag, resource)),
-        b'T' => {
-            if (tag == 0) & (resource == 0) {
-                return tick(file, state);
-            }
-            none(state)
-        }
-        _ => none(state),
+// The call in these bytes, where they are one.
+fn call(file: &[u8], state: State, bytes: CallBytes) -> Outcome {
+    let decoded = machine_calls::decode(bytes.letter, bytes.tag, bytes.resource);
+    if !decoded.known {
+        return none(state);
+    }
+    let wanted = decoded.call;
+    match wanted {
+        Call::Request(tag, resource) => replied(machine::request(file, state, tag, resource)),
+        Call::Release(tag, resource) => replied(machine::release(file, state, tag, resource)),
+        Call::Tick => tick(file, state),
     }
 }
 
@@ -188,13 +190,10 @@ pub fn shown(file: &[u8], state: State) {
     held(processors, tasks, lines);
 }
 
-// One of the calls of a list: a letter, a tag, a resource. After one that is refused the state is to be as it was.
-fn next(file: &[u8], state: State, bytes: &[u8]) -> State {
+// One of the calls of a list. After one that is refused the state is to be as it was.
+fn next(file: &[u8], state: State, bytes: CallBytes) -> State {
     print::text(b"; ");
-    let letter = given::byte(bytes, 0);
-    let tag = given::byte(bytes, 1);
-    let resource = given::byte(bytes, 2);
-    let outcome = call(file, state, letter, tag as u16, resource);
+    let outcome = call(file, state, bytes);
     let after = outcome.state;
     if outcome.refused & !same::states(after, state) {
         print::text(b" changed");
@@ -213,16 +212,20 @@ fn start(file: &[u8]) -> State {
     started.state
 }
 
-// A list of calls of three bytes each from a fresh machine on, with every answer; what the last state shows; whether a run of the
+// A list of calls from a fresh machine on, with every answer; what the last state shows; whether a run of the
 // whole list ends there.
 pub fn list(case: &[u8]) {
     let file = file(case);
     let calls = behind(case);
     let mut state = start(file);
-    let n = calls.len() / 3;
+    let n = calls.len() / WIDTH;
     let mut x = 0;
     while x < n {
-        let after = next(file, state, given::part(calls, x * 3, x * 3 + 3));
+        let after = next(
+            file,
+            state,
+            machine_calls::bytes_at(calls, x * WIDTH, WIDTH),
+        );
         state = after;
         x += 1;
     }
@@ -231,15 +234,19 @@ pub fn list(case: &[u8]) {
     print::which(same::states(state, end), b" run", b" run differs");
 }
 
-// A list of calls of three bytes each from a fresh machine on, with every answer and what the state shows after it.
+// A list of calls from a fresh machine on, with every answer and what the state shows after it.
 pub fn each(case: &[u8]) {
     let file = file(case);
     let calls = behind(case);
     let mut state = start(file);
-    let n = calls.len() / 3;
+    let n = calls.len() / WIDTH;
     let mut x = 0;
     while x < n {
-        let after = next(file, state, given::part(calls, x * 3, x * 3 + 3));
+        let after = next(
+            file,
+            state,
+            machine_calls::bytes_at(calls, x * WIDTH, WIDTH),
+        );
         state = after;
         shown(file, state);
         x += 1;
@@ -252,11 +259,7 @@ pub fn one(case: &[u8]) {
     let file = file(case);
     let rest = behind(case);
     let state = given::state(rest);
-    let bytes = given::part(rest, 336, rest.len());
-    let letter = given::byte(bytes, 0);
-    let tag = given::word(bytes, 1);
-    let resource = given::byte(bytes, 3);
-    let outcome = call(file, state, letter, tag, resource);
+    let outcome = call(file, state, given::call(rest, 336, 4));
     let after = outcome.state;
     print::which(same::states(after, state), b" unchanged", b" changed");
     if !outcome.refused {

@@ -1,4 +1,5 @@
 // The parts of a case. Past its end a byte is 0 and a part is empty, so that no case can be unsafe.
+use machine_calls::CallBytes;
 use machine_state::Line;
 use machine_state::Standing;
 use machine_state::State;
@@ -35,6 +36,20 @@ pub fn word(s: &[u8], at: usize) -> u16
     requires { ⌜ at < 65536 ⌝ }
 {
     half(byte(s, at)) + 256 * half(byte(s, at + 1))
+}
+
+// The call of this width at `at`.
+pub fn call(s: &[u8], at: usize, width: usize) -> CallBytes
+    requires { ⌜ (at < 65536) × (3 ≤ width) × (width ≤ 4) ⌝ }
+{
+    if at + width <= s.len() {
+        return machine_calls::bytes_at(s, at, width);
+    }
+    CallBytes {
+        letter: 0,
+        tag: 0,
+        resource: 0,
+    }
 }
 
 // The four bytes at the front, low byte first.

@@ -1,24 +1,23 @@
-// Calls of three bytes and their lines. A plan file stands at the front of the case, its length in two bytes before it; then comes a
+// Calls and their lines. A plan file stands at the front of the case, its length in two bytes before it; then comes a
 // state, where one is given, and how many bytes are lent.
 use crate::called;
 use crate::given;
 use crate::print;
 use crate::same;
+use machine_calls::CallBytes;
+use machine_calls::WIDTH;
 use machine_state::State;
 use print_calls::Batch;
 use print_calls::CallLine;
 
 // Makes a call, with so many bytes of the buffer lent for its line.
-fn call(file: &[u8], state: State, room: usize, bytes: &[u8], buf: &mut [u8]) -> CallLine {
+fn call(file: &[u8], state: State, room: usize, bytes: CallBytes, buf: &mut [u8]) -> CallLine {
     let lent = given::at_most(room, buf.len());
-    let letter = given::byte(bytes, 0);
-    let tag = given::byte(bytes, 1);
-    let resource = given::byte(bytes, 2);
-    print_calls::call_line(file, state, letter, tag, resource, &mut buf[0..lent])
+    print_calls::call_line(file, state, bytes, &mut buf[0..lent])
 }
 
 // The line of one call, or why there is none; whether what lies behind it is as it was, or all where there is none.
-fn next(file: &[u8], state: State, room: usize, bytes: &[u8]) -> State {
+fn next(file: &[u8], state: State, room: usize, bytes: CallBytes) -> State {
     let mut buf = [170u8; 96];
     let made = call(file, state, room, bytes, &mut buf);
     let line = made.line;
@@ -41,10 +40,15 @@ fn each(file: &[u8], start: State, rest: &[u8]) {
     let room = given::size(given::byte(rest, 0) as u16);
     let calls = given::part(rest, 1, rest.len());
     let mut state = start;
-    let n = calls.len() / 3;
+    let n = calls.len() / WIDTH;
     let mut x = 0;
     while x < n {
-        let after = next(file, state, room, given::part(calls, x * 3, x * 3 + 3));
+        let after = next(
+            file,
+            state,
+            room,
+            machine_calls::bytes_at(calls, x * WIDTH, WIDTH),
+        );
         state = after;
         x += 1;
     }

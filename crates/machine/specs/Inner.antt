@@ -1,7 +1,7 @@
 -- What the machine's private functions give. None of this is a rule of document 01.
 use Prim.Native.Nat.{ℕ, _-_, _≤_, _<_}
 use mathlib.Core.Bool.{true, cond}
-use mathlib.Core.List.{List}
+use mathlib.Core.List.{List, [], _∷_}
 use mathlib.Core.Logic.{_≢_}
 use mathlib.Core.Path.{_≡_}
 use lib.Count.{ones}
@@ -21,6 +21,7 @@ use Rattle.machine_state.specs.Shows.{shows, slot}
 use Rattle.machine_state.specs.Sound.{sound}
 use Rattle.machine_state.specs.Seats.{seat}
 use Rattle.machine.specs.declared.Reply.{Reply}
+use Rattle.machine.specs.Replies as Replies
 
 -- what is known of a plan file once it has been looked at: its refusal, and of one that is accepted its hold times and budgets
 pub record Surveyed (f : List ℕ) (code : ℕ) (h b : List ℕ) : Type 0 where
@@ -61,3 +62,8 @@ cutsIn (Next tag) = 0
 cutsIn Free = 0
 cutsIn (Ticked cuts grants) = ones cuts
 cutsIn (Refused k) = 0
+
+-- the state after bytes that are one call or none: as it was where they are none
+abbrev pub AfterBytes : List ℕ → State → List Call → State → Type 0
+AfterBytes f s [] t = t ≡ s
+AfterBytes f s (c ∷ cs) t = Replies.Next f s c t

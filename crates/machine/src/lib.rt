@@ -1,5 +1,7 @@
 // The machine: start, request, release and tick, each on a plan file and a state by value. Each takes any bytes and any state, and
 // refuses by number what it does not accept.
+use machine_calls::CallBytes;
+use machine_calls::WIDTH;
 use machine_rules::Answer;
 use machine_rules::Call;
 use machine_state::Line;
@@ -14,12 +16,13 @@ ghost use Rattle.analysis_equations.specs.HoldTimes.{holdAt};
 ghost use Rattle.analysis_hold_times.specs.Holds.{Cells, Shares};
 ghost use Rattle.machine_rules.specs.declared.Call.the-variants.{Request, Release, Tick};
 ghost use Rattle.machine_rules.specs.Machine.{requestCode, releaseCode, answerTold, fresh};
+ghost use Rattle.machine_calls.specs.Calls.{callWidth, callIn, callsOf};
 ghost use Rattle.machine_state.specs.Shows.{freshState, shows};
 ghost use Rattle.machine_state.specs.Sound.{sound};
 ghost use Rattle.machine_state.specs.Seats.{Keys, Seats};
 ghost use Rattle.machine.specs.Replies.{reply, replyTold, Next, cutCount};
-ghost use Rattle.machine.specs.Inner.{refusedAt, Done, NewHead, grantedTold, cutsIn};
-ghost use Rattle.machine.specs.Promise.{Ran, FreshRan, callOf, callsOf, decodedCalls, AfterBytes};
+ghost use Rattle.machine.specs.Inner.{refusedAt, Done, NewHead, grantedTold, cutsIn, AfterBytes};
+ghost use Rattle.machine.specs.Promise.{Ran, FreshRan};
 
 pub mod surveyed;
 
@@ -40,12 +43,6 @@ pub struct TickReply {
 pub struct Started {
     pub refusal: u8,
     pub state: State,
-}
-
-// Three bytes as a call, where they are one.
-pub struct Decoded {
-    pub known: bool,
-    pub call: Call,
 }
 
 // A fresh machine.
@@ -301,35 +298,11 @@ pub fn tick(file: &[u8], state: State) -> TickReply
     }
 }
 
-// The call in three bytes, where they are one: another letter, or a tick with other bytes than 0, is none.
-pub fn decode(letter: u8, tag: u8, resource: u8) -> Decoded
-    ensures { λ r. ⌜ decodedCalls r ≡ callOf letter tag resource ⌝ }
+// The state after a call in bytes, which is as it was where they are no call.
+fn after(file: &[u8], state: State, bytes: CallBytes) -> State
+    ensures { λ r. ⌜ AfterBytes (now (file .entry)) state (callIn bytes) r ⌝ }
 {
-    match letter {
-        b'Q' => Decoded {
-            known: true,
-            call: Call::Request(tables::half(tag), resource),
-        },
-        b'R' => Decoded {
-            known: true,
-            call: Call::Release(tables::half(tag), resource),
-        },
-        b'T' => Decoded {
-            known: (tag == 0) & (resource == 0),
-            call: Call::Tick,
-        },
-        _ => Decoded {
-            known: false,
-            call: Call::Tick,
-        },
-    }
-}
-
-// The state after a call of three bytes, which is as it was where they are no call.
-fn after(file: &[u8], state: State, letter: u8, tag: u8, resource: u8) -> State
-    ensures { λ r. ⌜ AfterBytes (now (file .entry)) state (callOf letter tag resource) r ⌝ }
-{
-    let decoded = decode(letter, tag, resource);
+    let decoded = machine_calls::decode(bytes.letter, bytes.tag, bytes.resource);
     if !decoded.known {
         return state;
     }
@@ -337,20 +310,18 @@ fn after(file: &[u8], state: State, letter: u8, tag: u8, resource: u8) -> State
     call(file, state, wanted).state
 }
 
-// The state after a list of calls of three bytes each, the first made on `start`. One or two bytes left over are no call.
+// The state after a list of calls, the first made on `start`. Bytes left over are no call.
 pub fn run_from(file: &[u8], start: State, calls: &[u8]) -> State
-    ensures { λ r. ⌜ Ran (now (file .entry)) start (callsOf (now (calls .entry))) r ⌝ }
+    ensures { λ r. ⌜ Ran (now (file .entry)) start (callsOf callWidth (now (calls .entry))) r ⌝ }
 {
     let mut state = start;
-    let n = calls.len() / 3;
+    let n = calls.len() / WIDTH;
     let mut x = 0;
     while x < n {
         let next = after(
             file,
             state,
-            calls[x * 3],
-            calls[x * 3 + 1],
-            calls[x * 3 + 2],
+            machine_calls::bytes_at(calls, x * WIDTH, WIDTH),
         );
         state = next;
         x += 1;
@@ -360,7 +331,7 @@ pub fn run_from(file: &[u8], start: State, calls: &[u8]) -> State
 
 // The same from a fresh machine on: demand 3.
 pub fn run(file: &[u8], calls: &[u8]) -> State
-    ensures { λ r. ⌜ FreshRan (now (file .entry)) (callsOf (now (calls .entry))) r ⌝ }
+    ensures { λ r. ⌜ FreshRan (now (file .entry)) (callsOf callWidth (now (calls .entry))) r ⌝ }
 {
     run_from(file, machine_state::fresh(), calls)
 }

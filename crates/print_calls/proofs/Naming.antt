@@ -19,7 +19,8 @@ use Rattle.machine_rules.specs.Machine.{View, terms, busy, requestCode, release
 use Rattle.machine_state.specs.declared.State.{State}
 use Rattle.machine_state.specs.Shows.{shows}
 use Rattle.machine.specs.Replies.{stateRefusal, callRefusal, reply}
-use Rattle.machine.specs.Promise.{callOf}
+use Rattle.machine_calls.specs.declared.CallBytes.{CallBytes}
+use Rattle.machine_calls.specs.Calls.{callOf, callIn}
 use Rattle.print_lines.specs.Naming.{Nameable, Names}
 
 module _ (p : Plan) (m : View) (tag q : ℕ) where
@@ -53,7 +54,7 @@ module _ (f : List ℕ) (bytes : (k : ℕ) → k < length f → getD f k 0 < 256
       (λ e. n (then-zero (stateRefusal f s) _ e) (record { none = first-zero (refusal f) _ (first-zero (stateRefusal f s) _ e); bytes = bytes }))
       (λ d. tt)
 
-  -- three bytes that are a call
+  -- bytes that are a call
   each-names : ℕ → List Call → Type 0
   each-names q [] = Unit {0}
   each-names q (c ∷ cs) = Names f q (reply f s c)
@@ -68,6 +69,6 @@ module _ (f : List ℕ) (bytes : (k : ℕ) → k < length f → getD f k 0 < 256
       go false false true = reply-names Tick q (λ e h. tt)
       go false false false = tt
 
-  pub call-names : (letter tag q : ℕ) (c : Call) → callOf letter tag q ≡ c ∷ [] → Names f q (reply f s c)
+  pub call-names : (b : CallBytes) (c : Call) → callIn b ≡ c ∷ [] → Names f (b .resource) (reply f s c)
   unfolding each-names
-  call-names letter tag q c e = rw e at (bytes-name letter tag q)
+  call-names b c e = rw e at (bytes-name (b .letter) (b .tag) (b .resource))

@@ -91,7 +91,7 @@ fn put_tick(buf: &mut [u8], at: usize, cuts: u16, grants: u16) -> usize
 }
 
 // A tag, and the name of a resource.
-fn put_named(buf: &mut [u8], at: usize, file: &[u8], tag: u8, resource: u8) -> usize
+fn put_named(buf: &mut [u8], at: usize, file: &[u8], tag: u16, resource: u8) -> usize
     requires { ⌜ (Nameable (now file) resource) × (at + 34 ≤ length (now buf)) ⌝ }
     ensures { λ r. ⌜ Put (now (buf .entry)) (now (buf .exit)) at (named (now (file .entry)) tag resource) r ⌝ }
     ensures { λ r. ⌜ r ≤ at + 34 ⌝ }
@@ -101,7 +101,7 @@ fn put_named(buf: &mut [u8], at: usize, file: &[u8], tag: u8, resource: u8) -> u
 }
 
 // "granted", tag and name.
-fn put_granted(buf: &mut [u8], at: usize, file: &[u8], tag: u8, resource: u8) -> usize
+fn put_granted(buf: &mut [u8], at: usize, file: &[u8], tag: u16, resource: u8) -> usize
     requires { ⌜ (Nameable (now file) resource) × (at + 96 ≤ length (now buf)) ⌝ }
     ensures { λ r. ⌜ Put (now (buf .entry)) (now (buf .exit)) at (answerLine (now (file .entry)) tag resource Granted) r ⌝ }
     ensures { λ r. ⌜ r ≤ at + 96 ⌝ }
@@ -116,7 +116,7 @@ fn put_waits(
     buf: &mut [u8],
     at: usize,
     file: &[u8],
-    tag: u8,
+    tag: u16,
     resource: u8,
     ahead: u8,
     most: u32,
@@ -133,7 +133,7 @@ fn put_waits(
 }
 
 // "released", tag, name, "to" and the tag granted next.
-fn put_next(buf: &mut [u8], at: usize, file: &[u8], tag: u8, resource: u8, next: u16) -> usize
+fn put_next(buf: &mut [u8], at: usize, file: &[u8], tag: u16, resource: u8, next: u16) -> usize
     requires { ⌜ (Nameable (now file) resource) × (at + 96 ≤ length (now buf)) ⌝ }
     ensures { λ r. ⌜ Put (now (buf .entry)) (now (buf .exit)) at (answerLine (now (file .entry)) tag resource (Next next)) r ⌝ }
     ensures { λ r. ⌜ r ≤ at + 96 ⌝ }
@@ -146,7 +146,7 @@ fn put_next(buf: &mut [u8], at: usize, file: &[u8], tag: u8, resource: u8, next:
 }
 
 // "released", tag, name, "free".
-fn put_free(buf: &mut [u8], at: usize, file: &[u8], tag: u8, resource: u8) -> usize
+fn put_free(buf: &mut [u8], at: usize, file: &[u8], tag: u16, resource: u8) -> usize
     requires { ⌜ (Nameable (now file) resource) × (at + 96 ≤ length (now buf)) ⌝ }
     ensures { λ r. ⌜ Put (now (buf .entry)) (now (buf .exit)) at (answerLine (now (file .entry)) tag resource Free) r ⌝ }
     ensures { λ r. ⌜ r ≤ at + 96 ⌝ }
@@ -161,7 +161,7 @@ pub fn put_answer(
     buf: &mut [u8],
     at: usize,
     file: &[u8],
-    tag: u8,
+    tag: u16,
     resource: u8,
     answer: Answer,
 ) -> usize

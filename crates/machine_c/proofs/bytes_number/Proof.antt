@@ -1,7 +1,7 @@
 -- The bytes are no call, or the number is that of its answer.
 use mathlib.Core.Path.{refl, ap, _∙_}
 use borrow.Author.Needs.{needs}
-use Rattle.machine.proofs.Bytes.{decoded-call, decoded-no-call}
+use Rattle.machine_calls.proofs.Calls.{decoded-call, decoded-no-call}
 use Rattle.machine_c.specs.Number.{answerNumber}
 use Rattle.machine_c.proofs.bytes_number.Statement.{statement}
 use Rattle.machine_c.proofs.bytes_number.Tie as tie

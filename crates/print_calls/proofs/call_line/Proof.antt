@@ -11,7 +11,7 @@ returns : tie.Need-returns
 returns c =
     let i = c .before in
     let a = i .before .before .before .before .before .before .before .before .before .before .before .args in
-    let text = callLine (a .file .now) (a .state) (a .letter) (a .tag) (a .resource) in
+    let text = callLine (a .file .now) (a .state) (a .bytes) in
     let h = refused-before (i .before .state-code .ensures) text (a .out .now) (i .if1 .taken) in
     rw (c .no-line .ensures) (h .0, (h .1, (λ z. absurd (i .if1 .taken z), λ d. refl)))
 
@@ -21,7 +21,7 @@ returns-2 c =
     let p = h .before .before .before .before .before .put-call .ensures in
     let i = h .before .before .before .before .before .before .before .before .before in
     let a = i .before .before .before .before .before .before .before .before .before .before .before .args in
-    let text = callLine (a .file .now) (a .state) (a .letter) (a .tag) (a .resource) in
+    let text = callLine (a .file .now) (a .state) (a .bytes) in
     let e = none-before (i .before .state-code .ensures) text (a .out .now) (i .if1 .left) (rw (front-part (p .put)) at (h .hand-over .ensures)) in
     (e .0, (e .1, (λ z. absurd (c .if2 .taken z), λ d. refl)))
 
@@ -31,7 +31,7 @@ returns-3 c =
     let p = h .before .before .before .before .before .put-call .ensures in
     let i = h .before .before .before .before .before .before .before .before .before in
     let a = i .before .before .before .before .before .before .before .before .before .before .before .args in
-    let text = callLine (a .file .now) (a .state) (a .letter) (a .tag) (a .resource) in
+    let text = callLine (a .file .now) (a .state) (a .bytes) in
     let e = none-before (i .before .state-code .ensures) text (a .out .now) (i .if1 .left) (rw (front-part (p .put)) at (h .hand-over .ensures)) in
     (e .0, (e .1, (λ z. p .after, λ d. absurd (d (c .if2 .left)))))
 

@@ -1,6 +1,6 @@
 -- The bytes are no call, or the line is that of its answer.
 use borrow.Author.Needs.{needs}
-use Rattle.machine.proofs.Bytes.{decoded-call, decoded-no-call}
+use Rattle.machine_calls.proofs.Calls.{decoded-call, decoded-no-call}
 use Rattle.print_calls.proofs.Naming.{call-names}
 use Rattle.print_calls.proofs.Calls.{stepped-none, stepped-call}
 use Rattle.print_calls.proofs.put_call.Statement.{statement}
@@ -11,13 +11,13 @@ returns c =
     let i = c .before .before .before .before in
     let e = decoded-no-call _ (i .before .before .decode .ensures) (i .if1 .taken) in
     let p = c .before .before .put-refused .ensures in
-    stepped-none _ _ _ _ _ e (p .0) (p .1)
+    stepped-none _ _ _ e (p .0) (p .1)
 
 put-answer-requires : tie.Need-put-answer-requires
 put-answer-requires c κs =
     let i = c .before .before .before in
     let e = decoded-call _ (i .before .before .decode .ensures) (i .if1 .left) in
-    (rw (c .before .before .call .ensures .0) (call-names _ (λ k l. c .before .before .before .before .before .before .before .before .shared-slice-known .given k .fits) _ _ _ _ _ e), search needs)
+    (rw (c .before .before .call .ensures .0) (call-names _ (λ k l. c .before .before .before .before .before .before .before .before .shared-slice-known .given k .fits) _ _ _ e), search needs)
 
 returns-2 : tie.Need-returns-2
 returns-2 c =
@@ -25,7 +25,7 @@ returns-2 c =
     let e = decoded-call _ (i .before .before .decode .ensures) (i .if1 .left) in
     let r = c .before .before .before .before .before .call .ensures in
     let p = c .before .before .put-answer .ensures in
-    stepped-call _ _ _ _ _ _ e (r .0) (r .1) (p .0) (p .1)
+    stepped-call _ _ _ _ e (r .0) (r .1) (p .0) (p .1)
 
 pub put-call-spec : {M : Type 1} → statement M
 put-call-spec =
