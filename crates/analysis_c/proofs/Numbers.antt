@@ -4,7 +4,7 @@ use mathlib.Core.Bool.{Bool, cond}
 use mathlib.Core.List.{List}
 use mathlib.Core.Path.{_≡_, refl, sym, ap, _∙_}
 use Rattle.folds.proofs.Arrays.{by-eq}
-use Rattle.plan_reading.specs.Reading.{refusal}
+use Rattle.plan.specs.Acceptance.{refusal}
 use Rattle.plan_reading.specs.Plan.{planOf}
 use Rattle.analysis_equations.specs.Requirement.{admitted}
 use Rattle.analysis.specs.declared.AdmissionAnswer.{AdmissionAnswer}

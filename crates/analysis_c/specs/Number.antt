@@ -4,7 +4,7 @@ use mathlib.Core.Bool.{cond}
 use mathlib.Core.List.{List}
 use lib.Dec.{eqb}
 use lib.ListN.{getD}
-use Rattle.plan_reading.specs.Reading.{refusal}
+use Rattle.plan.specs.Acceptance.{refusal}
 use Rattle.plan_reading.specs.Plan.{planOf}
 use Rattle.analysis_equations.specs.Requirement.{admitted}
 use Rattle.analysis.specs.Answers.{holdCode, longestFigure, holdTimes}

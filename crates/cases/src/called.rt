@@ -179,7 +179,7 @@ fn held(rows: [TaskRow; 64], tasks: [Standing; 64], lines: [Line; 16]) {
 
 // What a state shows, with the processors of the tasks from the plan file.
 pub fn shown(file: &[u8], state: State) {
-    let found = plan_reading::read(file);
+    let found = plan::read(file);
     let rows = found.rows;
     let processors = rows.tasks;
     let tasks = state.tasks;

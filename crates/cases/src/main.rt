@@ -15,7 +15,7 @@ fn read_case(case: &[u8]) {
     let mut file = [0u8; 131072];
     given::copy(given::part(case, 4, case.len()), &mut file);
     let len = given::length(case);
-    let found = plan_reading::read(given::part(&file, 0, len));
+    let found = plan::read(given::part(&file, 0, len));
     let answer = found.answer;
     print::reading(answer);
 }
@@ -24,8 +24,8 @@ fn read_case(case: &[u8]) {
 fn name_case(case: &[u8]) {
     let resource = given::byte(case, 0);
     let file = given::part(case, 1, case.len());
-    let code = plan_reading::name_refusal(file, resource);
-    let name = plan_reading::name(file, resource);
+    let code = plan::name_refusal(file, resource);
+    let name = plan::name(file, resource);
     if code == 0 {
         print::text(name);
     } else if name.len() == 0 {

@@ -1,7 +1,7 @@
 // The lines that are printed.
 use crate::given;
 use libc::STDOUT_FILENO;
-use plan_reading::ReadAnswer;
+use plan::ReadAnswer;
 
 pub fn text(s: &[u8]) {
     io::write_all(STDOUT_FILENO, s);

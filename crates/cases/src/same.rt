@@ -2,7 +2,7 @@
 use machine_state::Line;
 use machine_state::Standing;
 use machine_state::State;
-use plan_reading::ReadAnswer;
+use plan::ReadAnswer;
 use plan_rules::Counts;
 use plan_rules::Rows;
 use plan_rules::SectionRow;

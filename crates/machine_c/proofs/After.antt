@@ -8,9 +8,9 @@ use native.Mathlib.Nat.{mod-lt}
 use native.Mathlib.Omega.{arith}
 use lib.ListN.{length, getD}
 use Rattle.folds.proofs.Arrays.{by-eq}
-use Rattle.plan_reading.specs.Reading.{refusal}
-use Rattle.plan_reading.specs.Plan.{planOf, Checked}
-use Rattle.plan_reading.proofs.Laws.{valid-plan}
+use Rattle.plan_reading.specs.Plan.{planOf}
+use Rattle.plan.specs.Acceptance.{refusal, Accepted}
+use Rattle.plan.proofs.Laws.{accepted-valid}
 use Rattle.machine_rules.specs.declared.Call.{Call}
 use Rattle.machine_rules.specs.declared.Answer.the-variants.{Refused}
 use Rattle.machine_rules.specs.Machine.{fresh, answer, run}
@@ -43,7 +43,7 @@ module _ (f : List ℕ) (bytes : (i : ℕ) → i < length f → getD f i 0 < 256
   unfolding answerAfter
   answer-after c =
       by-eq (λ (b : Bool). reply f s c ≡ cond b (answer (planOf f) (run (planOf f) before) c) (Refused (refusal f))) (refusal f) 0
-      (λ z. let k : Checked f = record { none = z; bytes = bytes } in returned-answers f k freshState fresh (fresh-is f k) before s c (r .returned))
+      (λ z. let k : Accepted f = record { none = z; bytes = bytes } in returned-answers f k freshState fresh (fresh-is f k) before s c (r .returned))
       (λ d. sym (reply-refused f s c (plan-refused f s c refl d) d))
 
   pub number-after : (cs : List Call) → callNumber (reply f s) cs ≡ callNumber (answerAfter f before) cs
@@ -55,8 +55,8 @@ module _ (f : List ℕ) (bytes : (i : ℕ) → i < length f → getD f i 0 < 256
   unfolding viewAfter
   state-after =
       by-eq (λ (b : Bool). SameRows s (stateOf (planOf f) (cond b (run (planOf f) before) fresh))) (refusal f) 0
-      (λ z. let k : Checked f = record { none = z; bytes = bytes } in
-      rw (r .shows z) at (rows-told (planOf f) (valid-plan f k) s (r .sound z)))
+      (λ z. let k : Accepted f = record { none = z; bytes = bytes } in
+      rw (r .shows z) at (rows-told (planOf f) (accepted-valid k) s (r .sound z)))
       (λ d. rw (r .unchanged d, fresh-told (planOf f)) (same-self freshState))
 
   pub row-after : (x : ℕ) → rowNumber s x ≡ rowNumber (stateAfter f before) x

@@ -9,7 +9,7 @@ use Rattle.plan_rules.specs.declared.SectionRow.{SectionRow}
 use Rattle.plan_rules.specs.declared.Counts.{Counts}
 use Rattle.plan_rules.specs.declared.Rows.{Rows}
 use Rattle.plan_layout.specs.Layout.{countsOf, rowsOf}
-use Rattle.plan_reading.specs.Reading.{refusal}
+use Rattle.plan.specs.Acceptance.{refusal}
 
 -- the index of the last of n rows in an array of so many; 0 where there is none
 unfoldable pub lastOf : ℕ → ℕ → ℕ

@@ -1,12 +1,12 @@
 // Reading a plan, for programs in other languages.
-use plan_reading::ReadAnswer;
+use plan::ReadAnswer;
 use plan_rules::Counts;
 use plan_rules::Rows;
 use plan_rules::SectionRow;
 use plan_rules::TaskRow;
 ghost use mathlib.Core.Path.{_≡_};
 ghost use Prim.Native.Nat.{_<_, _%_};
-ghost use Rattle.plan_reading.specs.Reading.{refusal};
+ghost use Rattle.plan.specs.Acceptance.{refusal};
 ghost use Rattle.plan_c.specs.Number.{lastOf, taskSum, sectionSum, lastRows, readNumber};
 
 // The index of the last of n rows in an array of so many; 0 where there is none.
@@ -60,7 +60,7 @@ pub extern "C" fn plan_read(file: &[u8]) -> u64
     ensures { λ r. ⌜ r ≡ readNumber (now (file .entry)) ⌝ }
     ensures { λ r. ⌜ r % 256 ≡ refusal (now (file .entry)) ⌝ }
 {
-    let found = plan_reading::read(file);
+    let found = plan::read(file);
     let answer = found.answer;
     match answer {
         ReadAnswer::Accepted(counts) => {

@@ -2,8 +2,8 @@
 use mathlib.Core.Path.{sym, ap, _∙_}
 use native.Mathlib.Omega.{arith}
 use borrow.Author.Tests.{eq-eqb, ne-eqb}
-use Rattle.plan_reading.specs.declared.Reading.{Reading}
-use Rattle.plan_reading.proofs.Laws.{got-plan, got-refusal}
+use Rattle.plan.specs.declared.Reading.{Reading}
+use Rattle.plan.proofs.Laws.{got-plan, got-refusal}
 use Rattle.plan_c.specs.Number.{readNumber}
 use borrow.Author.Needs.{needs}
 use Rattle.plan_c.proofs.plan_read.Statement.{statement}

@@ -2,10 +2,11 @@
 use mathlib.Core.Path.{sym, _∙_}
 use borrow.Author.Needs.{needs}
 use borrow.Author.Tests.{eq-eqb, ne-eqb}
-use Rattle.plan_reading.specs.Reading.{nameOf}
-use Rattle.plan_reading.proofs.Laws.{name-answered, plan-resources}
-use Rattle.plan_reading.proofs.name.Statement.{statement}
-use Rattle.plan_reading.proofs.name.Tie as tie
+use Rattle.plan_reading.proofs.Laws.{plan-resources}
+use Rattle.plan.specs.Reading.{nameOf}
+use Rattle.plan.proofs.Laws.{name-answered, none-failed}
+use Rattle.plan.proofs.name.Statement.{statement}
+use Rattle.plan.proofs.name.Tie as tie
 
 returns : tie.Need-returns
 unfolding nameOf
@@ -14,7 +15,7 @@ returns c = rw (ne-eqb _ _ (λ e. c .before .if1 .taken (c .before .before .name
 name-requires : tie.Need-name-requires
 name-requires c κs =
     let a = name-answered _ _ (sym (c .before .name-refusal .ensures) ∙ c .if1 .left) in
-    (record { none = a .none; bytes = λ i l. c .before .before .shared-slice-known .given i .fits }, rw plan-resources (a .below))
+    (record { none = none-failed _ (a .none); bytes = λ i l. c .before .before .shared-slice-known .given i .fits }, rw plan-resources (a .below))
 
 returns-2 : tie.Need-returns-2
 unfolding nameOf

@@ -1,7 +1,7 @@
 -- Every row is the row that is not there.
 use borrow.Author.Needs.{needs}
-use Rattle.plan_reading.proofs.refused.Statement.{statement}
-use Rattle.plan_reading.proofs.refused.Tie as tie
+use Rattle.plan.proofs.refused.Statement.{statement}
+use Rattle.plan.proofs.refused.Tie as tie
 
 no-task-requires : tie.Need-no-task-requires
 no-task-requires c κs = search needs

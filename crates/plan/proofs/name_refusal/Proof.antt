@@ -6,10 +6,11 @@ use borrow.Author.Needs.{needs}
 use borrow.Author.Tests.{lt-ltb, le-ltb, eq-eqb, ne-eqb}
 use Rattle.plan_rules.specs.declared.Counts.{Counts}
 use Rattle.plan_layout.specs.Layout.{countsOf}
-use Rattle.plan_reading.specs.Reading.{nameRefusal}
+use Rattle.plan.specs.Reading.{nameRefusal}
 use Rattle.plan_reading.proofs.Laws.{whole-facts}
-use Rattle.plan_reading.proofs.name_refusal.Statement.{statement}
-use Rattle.plan_reading.proofs.name_refusal.Tie as tie
+use Rattle.plan.proofs.Laws.{none-failed}
+use Rattle.plan.proofs.name_refusal.Statement.{statement}
+use Rattle.plan.proofs.name_refusal.Tie as tie
 
 check-requires : tie.Need-check-requires
 check-requires c κs = search needs
@@ -19,7 +20,7 @@ unfolding nameRefusal
 returns c = rw (← c .before .check .ensures, ne-eqb _ _ (c .if1 .taken))
 
 counts-at-requires : tie.Need-counts-at-requires
-counts-at-requires c κs = whole-facts _ (sym (c .before .check .ensures) ∙ c .if1 .left) .header .long
+counts-at-requires c κs = whole-facts _ (none-failed _ (sym (c .before .check .ensures) ∙ c .if1 .left)) .header .long
 
 returns-2 : tie.Need-returns-2
 unfolding nameRefusal

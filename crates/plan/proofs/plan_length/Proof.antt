@@ -1,10 +1,10 @@
 -- Each return is the branch of the definition.
 use native.Mathlib.Omega.{arith}
 use borrow.Author.Tests.{lt-ltb, le-ltb}
-use Rattle.plan_reading.specs.Reading.{planLength}
+use Rattle.plan.specs.Reading.{planLength}
 use borrow.Author.Needs.{needs}
-use Rattle.plan_reading.proofs.plan_length.Statement.{statement}
-use Rattle.plan_reading.proofs.plan_length.Tie as tie
+use Rattle.plan.proofs.plan_length.Statement.{statement}
+use Rattle.plan.proofs.plan_length.Tie as tie
 
 returns : tie.Need-returns
 unfolding planLength

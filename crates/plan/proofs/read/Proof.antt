@@ -1,12 +1,13 @@
 -- Each return is the branch of the definition.
 use mathlib.Core.Path.{_≡_, sym, ap, _∙_}
 use borrow.Author.Needs.{needs}
-use Rattle.plan_reading.specs.declared.Reading.{Reading}
-use Rattle.plan_reading.specs.declared.ReadAnswer.the-variants.{Accepted}
-use Rattle.plan_reading.specs.Reading.{told, reading}
-use Rattle.plan_reading.proofs.Laws.{whole-facts, header-clear, read-refused, read-accepted, given-told}
-use Rattle.plan_reading.proofs.read.Statement.{statement}
-use Rattle.plan_reading.proofs.read.Tie as tie
+use Rattle.plan.specs.declared.Reading.{Reading}
+use Rattle.plan.specs.declared.ReadAnswer.the-variants.{Accepted}
+use Rattle.plan.specs.Reading.{told, reading}
+use Rattle.plan_reading.proofs.Laws.{whole-facts, header-clear}
+use Rattle.plan.proofs.Laws.{none-failed, read-refused, read-accepted, given-told}
+use Rattle.plan.proofs.read.Statement.{statement}
+use Rattle.plan.proofs.read.Tie as tie
 
 check-requires : tie.Need-check-requires
 check-requires c κs = search needs
@@ -20,10 +21,10 @@ returns c =
     (e, ap (λ (r : Reading). told (r .answer)) e ∙ given-told _)
 
 counts-at-requires : tie.Need-counts-at-requires
-counts-at-requires c κs = whole-facts _ (sym (c .before .check .ensures) ∙ c .if1 .left) .header .long
+counts-at-requires c κs = whole-facts _ (none-failed _ (sym (c .before .check .ensures) ∙ c .if1 .left)) .header .long
 
 load-requires : tie.Need-load-requires
-load-requires c κs = (header-clear _ (sym (c .before .before .check .ensures) ∙ c .before .if1 .left), c .counts-at .ensures)
+load-requires c κs = (header-clear _ (none-failed _ (sym (c .before .before .check .ensures) ∙ c .before .if1 .left)), c .counts-at .ensures)
 
 returns-2 : tie.Need-returns-2
 returns-2 c =
