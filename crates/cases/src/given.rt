@@ -1,5 +1,6 @@
 // The parts of a case. Past its end a byte is 0 and a part is empty, so that no case can be unsafe.
 use machine_calls::CallBytes;
+use machine_calls::WIDTH;
 use machine_state::Line;
 use machine_state::Standing;
 use machine_state::State;
@@ -8,6 +9,17 @@ use plan_rules::Rows;
 use plan_rules::SectionRow;
 use plan_rules::TaskRow;
 ghost use Prim.Native.Nat.{_≤_, _<_};
+
+// The bytes of a call whose tag has two, and in a state those of a resource's line and of a task.
+const WIDE: usize = 4;
+
+const LINE: usize = 13;
+
+const STANDING: usize = 2;
+
+const LINES: usize = sizes::RESOURCES * LINE;
+
+pub const STATE: usize = LINES + sizes::TASKS * STANDING;
 
 fn half(b: u8) -> u16
     ensures { λ r. ⌜ r < 256 ⌝ }
@@ -38,20 +50,6 @@ pub fn word(s: &[u8], at: usize) -> u16
     half(byte(s, at)) + 256 * half(byte(s, at + 1))
 }
 
-// The call of this width at `at`.
-pub fn call(s: &[u8], at: usize, width: usize) -> CallBytes
-    requires { ⌜ (at < 65536) × (3 ≤ width) × (width ≤ 4) ⌝ }
-{
-    if at + width <= s.len() {
-        return machine_calls::bytes_at(s, at, width);
-    }
-    CallBytes {
-        letter: 0,
-        tag: 0,
-        resource: 0,
-    }
-}
-
 // The four bytes at the front, low byte first.
 pub fn length(s: &[u8]) -> usize {
     size(word(s, 0)) + 65536 * size(word(s, 2))
@@ -72,6 +70,38 @@ pub fn without_end(s: &[u8], length: usize) -> &[u8] {
         return &s[0..0];
     }
     part(s, 0, length - 1)
+}
+
+// How many calls a list has.
+pub fn call_count(calls: &[u8]) -> usize {
+    calls.len() / WIDTH
+}
+
+// The bytes of none.
+fn no_call() -> CallBytes {
+    CallBytes {
+        letter: 0,
+        tag: 0,
+        resource: 0,
+    }
+}
+
+// Call x of a list.
+pub fn call(calls: &[u8], x: usize) -> CallBytes {
+    if x < calls.len() / WIDTH {
+        return machine_calls::bytes_at(calls, x * WIDTH, WIDTH);
+    }
+    no_call()
+}
+
+// The call at `at` whose tag has two bytes.
+pub fn wide_call(s: &[u8], at: usize) -> CallBytes
+    requires { ⌜ at < 65536 ⌝ }
+{
+    if at + WIDE <= s.len() {
+        return machine_calls::bytes_at(s, at, WIDE);
+    }
+    no_call()
 }
 
 // As many bytes as both have, copied.
@@ -152,32 +182,32 @@ fn section(s: &[u8], at: usize) -> SectionRow
     }
 }
 
-fn tasks(s: &[u8]) -> [TaskRow; 64] {
+fn tasks(s: &[u8]) -> [TaskRow; sizes::TASKS] {
     let first = task(s, 0);
-    let mut rows = [first; 64];
+    let mut rows = [first; sizes::TASKS];
     let mut i = 0;
-    while i < 64 {
+    while i < sizes::TASKS {
         rows[i] = task(s, i * 8);
         i += 1;
     }
     rows
 }
 
-fn lengths(s: &[u8]) -> [u8; 16] {
-    let mut rows = [0u8; 16];
+fn lengths(s: &[u8]) -> [u8; sizes::RESOURCES] {
+    let mut rows = [0u8; sizes::RESOURCES];
     let mut i = 0;
-    while i < 16 {
+    while i < sizes::RESOURCES {
         rows[i] = byte(s, i);
         i += 1;
     }
     rows
 }
 
-fn sections(s: &[u8]) -> [SectionRow; 255] {
+fn sections(s: &[u8]) -> [SectionRow; sizes::SECTIONS] {
     let first = section(s, 0);
-    let mut rows = [first; 255];
+    let mut rows = [first; sizes::SECTIONS];
     let mut i = 0;
-    while i < 255 {
+    while i < sizes::SECTIONS {
         rows[i] = section(s, i * 4);
         i += 1;
     }
@@ -193,8 +223,8 @@ pub fn rows(case: &[u8]) -> Rows {
     }
 }
 
-// A state: for each of 16 resources how many are queued, 8 processors, in 2 bytes each the hold left and the budget left; then for
-// each of 64 tasks its resource and its place.
+// A state: for each resource how many are queued, 8 processors, in 2 bytes each the hold left and the budget left; then for each task
+// its resource and its place.
 fn line(s: &[u8], at: usize) -> Line
     requires { ⌜ at < 1000 ⌝ }
 {
@@ -216,12 +246,12 @@ fn line(s: &[u8], at: usize) -> Line
     }
 }
 
-fn lines(s: &[u8]) -> [Line; 16] {
+fn lines(s: &[u8]) -> [Line; sizes::RESOURCES] {
     let first = line(s, 0);
-    let mut rows = [first; 16];
+    let mut rows = [first; sizes::RESOURCES];
     let mut q = 0;
-    while q < 16 {
-        rows[q] = line(s, q * 13);
+    while q < sizes::RESOURCES {
+        rows[q] = line(s, q * LINE);
         q += 1;
     }
     rows
@@ -236,12 +266,12 @@ fn standing(s: &[u8], at: usize) -> Standing
     }
 }
 
-fn standings(s: &[u8]) -> [Standing; 64] {
+fn standings(s: &[u8]) -> [Standing; sizes::TASKS] {
     let first = standing(s, 0);
-    let mut rows = [first; 64];
+    let mut rows = [first; sizes::TASKS];
     let mut u = 0;
-    while u < 64 {
-        rows[u] = standing(s, u * 2);
+    while u < sizes::TASKS {
+        rows[u] = standing(s, u * STANDING);
         u += 1;
     }
     rows
@@ -249,7 +279,7 @@ fn standings(s: &[u8]) -> [Standing; 64] {
 
 pub fn state(s: &[u8]) -> State {
     State {
-        lines: lines(part(s, 0, 208)),
-        tasks: standings(part(s, 208, 336)),
+        lines: lines(part(s, 0, LINES)),
+        tasks: standings(part(s, LINES, STATE)),
     }
 }

@@ -5,7 +5,8 @@ use mathlib.Core.Path.{_≡_, refl, sym, ap₂, _∙_}
 use native.Mathlib.Numerals.{add-one}
 use native.Mathlib.Omega.{arith}
 use lib.ListN.{length, length-append}
-use Rattle.plan_reading.specs.Plan.{planOf, Checked}
+use Rattle.plan_reading.specs.Plan.{planOf}
+use Rattle.plan.specs.Acceptance.{Accepted}
 use Rattle.machine_rules.specs.declared.Call.{Call}
 use Rattle.machine_rules.specs.declared.Answer.{Answer}
 use Rattle.machine_rules.specs.Machine.{fresh, answer, run}
@@ -55,7 +56,7 @@ pub record ByRules (f l : List ℕ) (t : State) (x : List ℕ) : Type 0 where
   pub text : x ≡ linesBelow f count l
   pub returned : Returned f freshState (callsBelow callWidth count l) t
 
-module _ (f : List ℕ) (k : Checked f) where
+module _ (f : List ℕ) (k : Accepted f) where
   one-more : (l x : List ℕ) (s t : State) (call : List ℕ) → length call ≡ callWidth → ByRules f l s x
       → AfterBytes f s (callIn (bytesAt callWidth call 0)) t
       → ByRules f (l ++ call) t (x ++ callLine f s (bytesAt callWidth call 0))

@@ -18,7 +18,8 @@ hold-table-requires : tie.Need-hold-table-requires
 hold-table-requires c κs = (checked (c .before .before), refl, refl)
 
 returns-2 : tie.Need-returns-2
-returns-2 c = times-given _ (checked (c .before .before .before .before .before) .none) (c .before .before .hold-table .ensures .0)
+returns-2 c =
+    let i = c .before .before .before .before .before in times-given _ (sym (i .before .check .ensures) ∙ i .if1 .left) (c .before .before .hold-table .ensures .0)
 
 pub hold-times-spec : {M : Type 1} → statement M
 hold-times-spec =
