@@ -14,14 +14,12 @@ checked : (c : tie.Else1) → Checked (c .before .before .before .args .file .no
 checked c =
     checked-file _ (sym (c .before .check .ensures) ∙ c .if1 .left) (λ i. c .before .before .shared-slice-known .given i .fits)
 
-hold-table-requires : tie.Need-hold-table-requires
-hold-table-requires c κs = (checked (c .before .before), refl, refl)
-
 returns-2 : tie.Need-returns-2
-returns-2 c = times-given _ (checked (c .before .before .before .before .before) .none) (c .before .before .hold-table .ensures .0)
+returns-2 c = times-given _ _ (checked (c .before .before .before .before .before) .none) (c .before .before .before .fill-figures .ensures .figures) (c .holds-of .ensures)
 
 pub hold-times-spec : {M : Type 1} → statement M
 hold-times-spec =
     tie.close
     (tie.spec
-    (λ c κs. search needs) returns (λ c. search needs) (λ c. search needs) hold-table-requires returns-2)
+    (λ c κs. search needs) returns (λ c. search needs) (λ c κs. (checked (c .before), refl)) (λ c. search needs)
+    (λ c κs. c .before .before .fill-figures .ensures .figures .long) returns-2)
