@@ -7,11 +7,10 @@ use native.Mathlib.Omega.{arith}
 use native.Mathlib.Nat.{div-add-mod'}
 use borrow.Author.Tests.{eq-eqb, ne-eqb, lt-ltb, le-ltb, ltb-true}
 use lib.Dec.{ltb}
-use lib.ListN.{getD, replicate, length-replicate}
-use lib.Seq.{ext-getD}
+use lib.ListN.{getD, replicate}
 use Rattle.folds.specs.Bytes.{placedBelow}
 use Rattle.folds.proofs.Tests.{code-zero, code-next}
-use Rattle.folds.proofs.Arrays.{by-eq, placed-at, placed-length}
+use Rattle.folds.proofs.Arrays.{by-eq, placed-same}
 use Rattle.plan_reading.specs.Plan.{Plan, planOf, Checked}
 use Rattle.refusals.specs.Outcomes.{outcome}
 use Rattle.plan.specs.Acceptance.{refusal}
@@ -21,7 +20,7 @@ use Rattle.analysis_equations.specs.Blocking.{globalCount}
 use Rattle.analysis_equations.specs.Requirement.{asks, met, admitted}
 use Rattle.analysis_equations.specs.Questions.{taskNumber, sharingCode, useCode, processorCode, requirementCode}
 use Rattle.analysis_equations.proofs.Laws.{asks-not, asks-some}
-use Rattle.analysis_hold_times.specs.Holds.{Cells}
+use Rattle.analysis_hold_times.specs.Figures.{Figures}
 use Rattle.analysis_requirements.specs.declared.Requirement.{Requirement}
 use Rattle.analysis_requirements.specs.Figures.{requirementOf}
 use Rattle.analysis.specs.declared.Figure.{Figure}
@@ -118,19 +117,12 @@ share-clear f k q e b =
     let there = processor-clear (planOf f) k q (r .1) in
     (checked-file f (r .0) b, there .0, there .1)
 
--- a table of cells is the list of its figures: x stands in the row of x / 16 at x % 16
-pub cells-list : (f : ℕ → ℕ → ℕ) (t : List ℕ) → Cells f t → t ≡ placedBelow 1024 (λ x. f (x / 16) (x % 16)) (replicate 1024 0)
-cells-list f t c =
-    ext-getD 0 t _ (c .long ∙ sym (length-replicate {A = ℕ} 1024 0) ∙ sym (placed-length 1024 _ (replicate 1024 0)))
-    (λ x l. at x (omega (arith, c .long)))
-  where
-    at : (x : ℕ) → x < 1024 → getD t x 0 ≡ getD (placedBelow 1024 (λ y. f (y / 16) (y % 16)) (replicate 1024 0)) x 0
-    at x l =
-        let d : x / 16 < 64 = omega arith in
-        let m : x % 16 < 16 = omega arith in
-        ap (λ (y : ℕ). getD t y 0) (sym (div-add-mod' x 16))
-        ∙ c .at (x / 16) (x % 16) d m
-        ∙ sym (placed-at 1024 x (λ y. f (y / 16) (y % 16)) (replicate 1024 0) 0 l (rw length-replicate (omega arith)))
+-- the hold times of a table of figures: x stands in the row of x / 16 at x % 16
+holds-list : (p : Plan) (t : List ℕ) → Figures p t
+    → placedBelow 1024 (λ x. getD t x 0) (replicate 1024 0) ≡ placedBelow 1024 (λ x. holdAt p (x / 16) (x % 16)) (replicate 1024 0)
+holds-list p t c =
+    placed-same 1024 _ _ (replicate 1024 0)
+    (λ x l. ap (λ (y : ℕ). getD t y 0) (sym (div-add-mod' x 16)) ∙ c .hold (x / 16) (x % 16) (omega arith) (omega arith))
 
 -- all hold times, refused and given
 module _ (f : List ℕ) where
@@ -138,9 +130,10 @@ module _ (f : List ℕ) where
   unfolding holdTimes
   times-refused e d = rw (← e, ne-eqb _ _ d)
 
-  pub times-given : {t : List ℕ} → refusal f ≡ 0 → Cells (holdAt (planOf f)) t → record { times = t; refusal = 0 } ≡ holdTimes f
+  pub times-given : (t : List ℕ) {times : List ℕ} → refusal f ≡ 0 → Figures (planOf f) t → times ≡ placedBelow 1024 (λ x. getD t x 0) (replicate 1024 0)
+      → record { times = times; refusal = 0 } ≡ holdTimes f
   unfolding holdTimes
-  times-given {t} z c = rw (z, cells-list (holdAt (planOf f)) t c)
+  times-given t z c e = rw (z, e, holds-list (planOf f) t c)
 
 -- a requirement given, and one refused
 pub requirement-given : {n : ℕ} {r s : Requirement} → 0 ≡ n → s ≡ r → requirements.Found s ≡ requirementGiven n r

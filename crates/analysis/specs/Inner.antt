@@ -3,25 +3,22 @@ use Prim.Native.Nat.{ℕ, _<_}
 use mathlib.Core.Bool.{true}
 use mathlib.Core.List.{List}
 use mathlib.Core.Path.{_≡_}
-use Rattle.plan_reading.specs.Plan.{planOf, Checked}
+use Rattle.plan_reading.specs.Plan.{planOf}
 use Rattle.analysis_equations.specs.Sharing.{uses, global}
-use Rattle.analysis_equations.specs.HoldTimes.{holdAt}
 use Rattle.analysis_equations.specs.Questions.{taskNumber}
-use Rattle.analysis_hold_times.specs.Holds.{Cells, Shares}
+use Rattle.analysis_hold_times.specs.Figures.{Known}
 use Rattle.analysis.specs.declared.User.{User}
 
--- task i of a checked plan uses q, which is global; the tables are those of the plan
-pub record Uses (f : List ℕ) (tag q : ℕ) (holds budgets : List ℕ) (i : ℕ) : Type 0 where
-  pub plan : Checked f
+-- task i of a checked plan uses q, which is global; the table is that of the plan
+pub record Uses (f : List ℕ) (tag q : ℕ) (figures : List ℕ) (i : ℕ) : Type 0 where
+  pub known : Known f figures
   pub task : i ≡ taskNumber (planOf f) tag
   pub below : i < planOf f .tasks
   pub resource : q < planOf f .resources
   pub used : uses (planOf f) i q ≡ true
   pub shared : global (planOf f) q ≡ true
-  pub hold-times : Cells (holdAt (planOf f)) holds
-  pub shares : Shares (planOf f) budgets
 
--- the number k of a question about a task and a resource; where that is 0, who is asked about
-pub record Found (f : List ℕ) (tag q k : ℕ) (holds budgets : List ℕ) (r : User) : Type 0 where
-  pub code : r .code ≡ k
-  pub user : r .code ≡ 0 → Uses f tag q holds budgets (r .task)
+-- the number of a question about a task and a resource; where that is 0, who is asked about
+pub record Found (f : List ℕ) (tag q number : ℕ) (figures : List ℕ) (r : User) : Type 0 where
+  pub code : r .code ≡ number
+  pub user : r .code ≡ 0 → Uses f tag q figures (r .task)

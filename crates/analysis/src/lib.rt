@@ -5,16 +5,17 @@ ghost use mathlib.Core.Path.{_≡_};
 ghost use mathlib.Core.Bool.{cond, not, _||_};
 ghost use mathlib.Core.List.{[], _∷_};
 ghost use Prim.Native.Nat.{_<_};
-ghost use lib.ListN.{replicate};
+ghost use lib.ListN.{length, getD, replicate};
+ghost use Rattle.folds.specs.Bytes.{placedBelow};
 ghost use Rattle.refusals.specs.Outcomes.{outcome};
 ghost use Rattle.plan.specs.Acceptance.{refusal};
 ghost use Rattle.plan_reading.specs.Plan.{planOf, Checked};
-ghost use Rattle.analysis_equations.specs.HoldTimes.{holdAt, budget, waitTime};
+ghost use Rattle.analysis_equations.specs.HoldTimes.{budget, waitTime};
 ghost use Rattle.analysis_equations.specs.Blocking.{globalCount, ceiling};
 ghost use Rattle.analysis_equations.specs.Requirement.{asks, met, admitted};
 ghost use Rattle.analysis_equations.specs.Questions.{useCode, processorCode, requirementCode};
 ghost use Rattle.tables.specs.Tables.{Column, Globals, Tasks};
-ghost use Rattle.analysis_hold_times.specs.Holds.{Cells, Shares};
+ghost use Rattle.analysis_hold_times.specs.Figures.{figureCount, Known};
 ghost use Rattle.analysis_requirements.specs.Figures.{requirementOf};
 ghost use Rattle.analysis.specs.Inner.{Found};
 ghost use Rattle.analysis.specs.Answers.{figure, figureTold, holdCode, holdFigure, longestFigure, shareCode, requirementNumber, requirementFigures, requirementGiven, requirementValues, requirementTold, signedAnswered, admissionAnswer, admissionTold, holdTimes};
@@ -55,10 +56,10 @@ struct BudgetAndWait {
     wait: u32,
 }
 
-// 11 to 14, of a checked file, and the task with this tag; where none of them is given, the two tables hold the plan's figures.
-fn user_in(file: &[u8], tag: u16, q: u8, holds: &mut [u16], budgets: &mut [u16]) -> User
-    requires { ⌜ (Checked (now file)) × (now holds ≡ replicate 1024 0) × (now budgets ≡ replicate 128 0) ⌝ }
-    ensures { λ r. ⌜ Found (now (file .entry)) tag q (useCode (planOf (now (file .entry))) tag q) (now (holds .exit)) (now (budgets .exit)) r ⌝ }
+// 11 to 14, of a checked file, and the task with this tag; where none of them is given, the table holds the plan's figures.
+fn user_in(file: &[u8], tag: u16, q: u8, figures: &mut [u16]) -> User
+    requires { ⌜ (Checked (now file)) × (now figures ≡ replicate figureCount 0) ⌝ }
+    ensures { λ r. ⌜ Found (now (file .entry)) tag q (useCode (planOf (now (file .entry))) tag q) (now (figures .exit)) r ⌝ }
 {
     let counts = plan_reading::checked::counts(file);
     let task = tables::task_number(file, tag);
@@ -68,8 +69,8 @@ fn user_in(file: &[u8], tag: u16, q: u8, holds: &mut [u16], budgets: &mut [u16])
     if counts.resources <= q {
         return User { code: 12, task };
     }
-    analysis_hold_times::hold_table(file, holds, budgets);
-    if holds[task * 16 + folds::wide(q)] == 0 {
+    analysis_hold_times::fill_figures(file, figures);
+    if analysis_hold_times::hold_at(figures, task, folds::wide(q)) == 0 {
         let code = analysis_hold_times::sharing_code(file, task, q);
         return User { code, task };
     }
@@ -77,15 +78,15 @@ fn user_in(file: &[u8], tag: u16, q: u8, holds: &mut [u16], budgets: &mut [u16])
 }
 
 // The same of any file: 1 to 9 first.
-fn user_of(file: &[u8], tag: u16, q: u8, holds: &mut [u16], budgets: &mut [u16]) -> User
-    requires { ⌜ (now holds ≡ replicate 1024 0) × (now budgets ≡ replicate 128 0) ⌝ }
-    ensures { λ r. ⌜ Found (now (file .entry)) tag q (holdCode (now (file .entry)) tag q) (now (holds .exit)) (now (budgets .exit)) r ⌝ }
+fn user_of(file: &[u8], tag: u16, q: u8, figures: &mut [u16]) -> User
+    requires { ⌜ now figures ≡ replicate figureCount 0 ⌝ }
+    ensures { λ r. ⌜ Found (now (file .entry)) tag q (holdCode (now (file .entry)) tag q) (now (figures .exit)) r ⌝ }
 {
     let code = plan::check(file);
     if code != 0 {
         return User { code, task: 0 };
     }
-    user_in(file, tag, q, holds, budgets)
+    user_in(file, tag, q, figures)
 }
 
 // The hold time of a resource by the task with this tag.
@@ -93,13 +94,13 @@ pub fn hold_time(file: &[u8], tag: u16, resource: u8) -> Figure
     ensures { λ r. ⌜ r ≡ figure (holdCode (now (file .entry)) tag resource) (holdFigure (now (file .entry)) tag resource) ⌝ }
     ensures { λ r. ⌜ figureTold r ≡ outcome (holdCode (now (file .entry)) tag resource) (holdFigure (now (file .entry)) tag resource ∷ []) ⌝ }
 {
-    let mut holds = [0u16; 1024];
-    let mut budgets = [0u16; 128];
-    let user = user_of(file, tag, resource, &mut holds, &mut budgets);
+    let mut figures = [0u16; analysis_hold_times::FIGURES];
+    let user = user_of(file, tag, resource, &mut figures);
     if user.code != 0 {
         return Figure::Refused(user.code);
     }
-    Figure::Given(holds[user.task * 16 + folds::wide(resource)] as u32)
+    let hold = analysis_hold_times::hold_at(&figures, user.task, folds::wide(resource));
+    Figure::Given(hold as u32)
 }
 
 // The longest wait of the task with this tag for a resource: how long it can be kept waiting, whatever is called.
@@ -107,19 +108,12 @@ pub fn longest_wait(file: &[u8], tag: u16, resource: u8) -> Figure
     ensures { λ r. ⌜ r ≡ figure (holdCode (now (file .entry)) tag resource) (longestFigure (now (file .entry)) tag resource) ⌝ }
     ensures { λ r. ⌜ figureTold r ≡ outcome (holdCode (now (file .entry)) tag resource) (longestFigure (now (file .entry)) tag resource ∷ []) ⌝ }
 {
-    let mut holds = [0u16; 1024];
-    let mut budgets = [0u16; 128];
-    let user = user_of(file, tag, resource, &mut holds, &mut budgets);
+    let mut figures = [0u16; analysis_hold_times::FIGURES];
+    let user = user_of(file, tag, resource, &mut figures);
     if user.code != 0 {
         return Figure::Refused(user.code);
     }
-    let found = analysis_waits::longest_of(
-        file,
-        &holds,
-        &budgets,
-        user.task,
-        folds::wide(resource),
-    );
+    let found = analysis_waits::longest_of(file, &figures, user.task, folds::wide(resource));
     Figure::Given(found.wait)
 }
 
@@ -128,12 +122,11 @@ fn shares_of(file: &[u8], k: u8, q: u8) -> BudgetAndWait
     requires { ⌜ (Checked (now file)) × (k < planOf (now file) .processors) × (q < planOf (now file) .resources) ⌝ }
     ensures { λ r. ⌜ (r .budget ≡ budget (planOf (now (file .entry))) k q) × (r .wait ≡ waitTime (planOf (now (file .entry))) k q) ⌝ }
 {
-    let mut holds = [0u16; 1024];
-    let mut budgets = [0u16; 128];
-    analysis_hold_times::hold_table(file, &mut holds, &mut budgets);
+    let mut figures = [0u16; analysis_hold_times::FIGURES];
+    analysis_hold_times::fill_figures(file, &mut figures);
     let at = folds::wide(q);
-    let budget = budgets[folds::wide(k) * 16 + at];
-    let wait = analysis_hold_times::wait_in(file, &budgets, k, at);
+    let budget = analysis_hold_times::budget_at(&figures, folds::wide(k), at);
+    let wait = analysis_hold_times::wait_in(file, &figures, k, at);
     BudgetAndWait { budget, wait }
 }
 
@@ -195,20 +188,10 @@ fn requirement_at(file: &[u8], globals: [bool; 16], counts: &[u16], i: usize) ->
     ensures { λ r. ⌜ r ≡ requirementOf (planOf (now (file .entry))) i ⌝ }
 {
     let tasks = tables::task_table(file, globals);
-    let mut holds = [0u16; 1024];
-    let mut budgets = [0u16; 128];
-    analysis_hold_times::hold_table(file, &mut holds, &mut budgets);
+    let mut figures = [0u16; analysis_hold_times::FIGURES];
+    analysis_hold_times::fill_figures(file, &mut figures);
     let ceilings = analysis_requirements::ceilings(file);
-    analysis_requirements::requirement_of(
-        file,
-        &tasks,
-        &holds,
-        &budgets,
-        counts,
-        globals,
-        ceilings,
-        i,
-    )
+    analysis_requirements::requirement_of(file, &tasks, &figures, counts, globals, ceilings, i)
 }
 
 // 11 and 17, of a checked file, or the requirement of the task with this tag.
@@ -245,14 +228,13 @@ pub fn requirement(file: &[u8], tag: u16) -> RequirementAnswer
 fn passes(
     file: &[u8],
     tasks: &[u16],
-    holds: &[u16],
-    budgets: &[u16],
+    figures: &[u16],
     counts: &[u16],
     globals: [bool; 16],
     ceilings: [u16; 16],
     i: usize,
 ) -> bool
-    requires { ⌜ (Checked (now file)) × (Tasks (planOf (now file)) (now tasks)) × (Cells (holdAt (planOf (now file))) (now holds)) × (Shares (planOf (now file)) (now budgets)) × (Column 64 (globalCount (planOf (now file))) (now counts)) × (Globals (planOf (now file)) globals) × (Column 16 (ceiling (planOf (now file))) ceilings) × (i < planOf (now file) .tasks) ⌝ }
+    requires { ⌜ (Known (now file) (now figures)) × (Tasks (planOf (now file)) (now tasks)) × (Column 64 (globalCount (planOf (now file))) (now counts)) × (Globals (planOf (now file)) globals) × (Column 16 (ceiling (planOf (now file))) ceilings) × (i < planOf (now file) .tasks) ⌝ }
     ensures { λ r. ⌜ r ≡ (not (asks (planOf (now (file .entry))) i) || met (planOf (now (file .entry))) i) ⌝ }
 {
     if counts[i] == 0 {
@@ -261,8 +243,7 @@ fn passes(
     let found = analysis_requirements::requirement_of(
         file,
         tasks,
-        holds,
-        budgets,
+        figures,
         counts,
         globals,
         ceilings,
@@ -275,20 +256,19 @@ fn passes(
 fn all_pass(
     file: &[u8],
     tasks: &[u16],
-    holds: &[u16],
-    budgets: &[u16],
+    figures: &[u16],
     counts: &[u16],
     globals: [bool; 16],
     ceilings: [u16; 16],
 ) -> bool
-    requires { ⌜ (Checked (now file)) × (Tasks (planOf (now file)) (now tasks)) × (Cells (holdAt (planOf (now file))) (now holds)) × (Shares (planOf (now file)) (now budgets)) × (Column 64 (globalCount (planOf (now file))) (now counts)) × (Globals (planOf (now file)) globals) × (Column 16 (ceiling (planOf (now file))) ceilings) ⌝ }
+    requires { ⌜ (Known (now file) (now figures)) × (Tasks (planOf (now file)) (now tasks)) × (Column 64 (globalCount (planOf (now file))) (now counts)) × (Globals (planOf (now file)) globals) × (Column 16 (ceiling (planOf (now file))) ceilings) ⌝ }
     ensures { λ r. ⌜ r ≡ admitted (planOf (now (file .entry))) ⌝ }
 {
     let plan_counts = plan_reading::checked::counts(file);
     let n = folds::wide(plan_counts.tasks);
     let mut i = 0;
     while i < n {
-        if !passes(file, tasks, holds, budgets, counts, globals, ceilings, i) {
+        if !passes(file, tasks, figures, counts, globals, ceilings, i) {
             return false;
         }
         i += 1;
@@ -303,12 +283,11 @@ fn decided(file: &[u8]) -> bool
 {
     let globals = tables::globals(file);
     let tasks = tables::task_table(file, globals);
-    let mut holds = [0u16; 1024];
-    let mut budgets = [0u16; 128];
-    analysis_hold_times::hold_table(file, &mut holds, &mut budgets);
+    let mut figures = [0u16; analysis_hold_times::FIGURES];
+    analysis_hold_times::fill_figures(file, &mut figures);
     let counts = analysis_requirements::global_counts(file, globals);
     let ceilings = analysis_requirements::ceilings(file);
-    all_pass(file, &tasks, &holds, &budgets, &counts, globals, ceilings)
+    all_pass(file, &tasks, &figures, &counts, globals, ceilings)
 }
 
 // Whether the plan is admitted: every task with a global section has its requirement met.
@@ -323,6 +302,20 @@ pub fn admission(file: &[u8]) -> AdmissionAnswer
     AdmissionAnswer::Decided(decided(file))
 }
 
+// The hold times of a table of figures.
+fn holds_of(figures: &[u16]) -> [u16; 1024]
+    requires { ⌜ length (now figures) ≡ figureCount ⌝ }
+    ensures { λ r. ⌜ r ≡ placedBelow 1024 (λ x. getD (now (figures .entry)) x 0) (replicate 1024 0) ⌝ }
+{
+    let mut times = [0u16; 1024];
+    let mut x = 0;
+    while x < 1024 {
+        times[x] = figures[x];
+        x += 1;
+    }
+    times
+}
+
 // All hold times of a plan at once.
 pub fn hold_times(file: &[u8]) -> HoldTimes
     ensures { λ r. ⌜ r ≡ holdTimes (now (file .entry)) ⌝ }
@@ -334,8 +327,10 @@ pub fn hold_times(file: &[u8]) -> HoldTimes
             refusal: code,
         };
     }
-    let mut times = [0u16; 1024];
-    let mut budgets = [0u16; 128];
-    analysis_hold_times::hold_table(file, &mut times, &mut budgets);
-    HoldTimes { times, refusal: 0 }
+    let mut figures = [0u16; analysis_hold_times::FIGURES];
+    analysis_hold_times::fill_figures(file, &mut figures);
+    HoldTimes {
+        times: holds_of(&figures),
+        refusal: 0,
+    }
 }

@@ -13,8 +13,7 @@ use Rattle.plan_reading.specs.Plan.{Plan, Valid}
 use Rattle.analysis_equations.specs.Sharing.{processorOf, uses, global}
 use Rattle.analysis_equations.specs.HoldTimes.{longestOn, longestOff, interference, holdTime, holdAt, budget}
 use Rattle.analysis_equations.proofs.Laws.{budget-holds, off-high, uses-longest}
-use Rattle.analysis_hold_times.specs.Holds.{cell}
-use Rattle.analysis_hold_times.specs.Inner.{Row, Flags, Sits, Tops, rankOf, sharedOn}
+use Rattle.analysis_hold_times.specs.Inner.{cell, Held, Row, Flags, Sits, Tops, rankOf, sharedOn}
 use Rattle.analysis_hold_times.proofs.Rows.{row-same}
 use Rattle.analysis_hold_times.proofs.Walks.{passed, passed-none, passed-own, passed-new, passed-above, passed-other, passed-all, MostBelow, most-none, most-step, most-done, SumBelow, sums-none, sums-step, sums-high}
 use Rattle.analysis_hold_times.proofs.Tops.{shared-high, top-own, top-off}
@@ -22,13 +21,13 @@ use Rattle.analysis_hold_times.proofs.Tops.{shared-high, top-own, top-o
 module _ (p : Plan) (v : Valid p) (k : ℕ) where
   -- the rows once the tasks with fewer than x above them are passed
   pub record HeldBelow (old : List ℕ) (x : ℕ) (rows above most : List ℕ) : Type 0 where
-    pub long : length rows ≡ 1024
+    pub long : length rows ≡ 1152
     pub added : SumBelow p (longestOff p) k x above
     pub greatest : MostBelow p (holdAt p) k x most
     pub at : (j q : ℕ) → j < p .tasks → q < 16 → getD rows (cell j q) 0 ≡ cond (passed p k x j) (holdAt p j q) (getD old (cell j q) 0)
     pub rest : (j q : ℕ) → p .tasks ≤ j → q < 16 → getD rows (cell j q) 0 ≡ getD old (cell j q) 0
 
-  pub held-none : (old : List ℕ) → length old ≡ 1024 → HeldBelow old 0 old (replicate 16 0) (replicate 16 0)
+  pub held-none : (old : List ℕ) → length old ≡ 1152 → HeldBelow old 0 old (replicate 16 0) (replicate 16 0)
   held-none old e =
       record {
         long = e;
@@ -42,12 +41,14 @@ module _ (p : Plan) (v : Valid p) (k : ℕ) where
   above-high old x h = sums-high p (longestOff p) k v x (off-high p v) (h .added)
 
   pub held-done : (old : List ℕ) (x : ℕ) (rows above most : List ℕ) → HeldBelow old x rows above most → ((i : ℕ) → i < p .tasks → processorOf p i ≡ k → rankOf p i < x)
-      → (Row (budget p k) most) × (length rows ≡ 1024) × ((j q : ℕ) → j < p .tasks → q < 16 → getD rows (cell j q) 0 ≡ cond (eqb (processorOf p j) k) (holdAt p j q) (getD old (cell j q) 0)) × ((j q : ℕ) → p .tasks ≤ j → q < 16 → getD rows (cell j q) 0 ≡ getD old (cell j q) 0)
+      → (Row (budget p k) most) × Held p k old rows
   held-done old x rows above most h all = (
     row-same _ _ (most-done p (holdAt p) k x all (h .greatest)) (λ q l. sym (budget-holds p k q)),
-    h .long,
-    λ j q lj lq. h .at j q lj lq ∙ ap (λ (b : Bool). cond b (holdAt p j q) (getD old (cell j q) 0)) (passed-all p k x all j lj),
-    h .rest,
+    record {
+      long = h .long;
+      at = λ j q lj lq. h .at j q lj lq ∙ ap (λ (b : Bool). cond b (holdAt p j q) (getD old (cell j q) 0)) (passed-all p k x all j lj);
+      rest = h .rest;
+    },
   )
 
   -- the rows of the processor's tasks begin with their longest sections

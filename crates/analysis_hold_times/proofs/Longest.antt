@@ -18,8 +18,7 @@ use Rattle.plan_reading.specs.Plan.{Plan, Valid}
 use Rattle.analysis_equations.specs.Sharing.{processorOf, sectionOn, uses, usedOn, global}
 use Rattle.analysis_equations.specs.HoldTimes.{longestOn}
 use Rattle.analysis_equations.proofs.Laws.{used-at, used-out, uses-longest}
-use Rattle.analysis_hold_times.specs.Holds.{cell, Cells}
-use Rattle.analysis_hold_times.specs.Inner.{column, Columns, Row, usedTime}
+use Rattle.analysis_hold_times.specs.Inner.{cell, Sections, column, Columns, Row, usedTime}
 use Rattle.analysis_hold_times.proofs.Rows.{row-zeros, row-same}
 
 -- the longer of two, as a sum
@@ -39,7 +38,7 @@ module _ (p : Plan) where
 
   -- the tables after the sections below n
   abbrev pub rowsBelow : ℕ → List ℕ
-  rowsBelow n = maxedBelow n cellOf lengthOf (replicate 1024 0)
+  rowsBelow n = maxedBelow n cellOf lengthOf (replicate 1152 0)
 
   abbrev pub columnsBelow : ℕ → List ℕ
   columnsBelow n = maxedBelow n columnOf lengthOf (replicate 1024 0)
@@ -60,9 +59,9 @@ module _ (p : Plan) (v : Valid p) where
   on-column s j q l lj = cell-eqb 64 (p .section s .task) j (p .section s .resource) q (low-task s l) lj
 
   -- what the two tables hold of task j and resource q
-  cell-most : (n j q : ℕ) → n ≤ p .sections → j < 64 → q < 16 → getD (rowsBelow p n) (cell j q) 0 ≡ maxBelow n (λ s. cond (sectionOn p j q s) (lengthOf p s) 0)
+  cell-most : (n j q : ℕ) → n ≤ p .sections → j < 72 → q < 16 → getD (rowsBelow p n) (cell j q) 0 ≡ maxBelow n (λ s. cond (sectionOn p j q s) (lengthOf p s) 0)
   cell-most n j q l lj lq =
-      maxed-at n 1024 (cellOf p) (lengthOf p) (cell j q) (omega arith)
+      maxed-at n 1152 (cellOf p) (lengthOf p) (cell j q) (omega arith)
       ∙ max-same n _ _ (λ s ls. ap (λ (b : Bool). cond b (lengthOf p s) 0) (on-cell s j q (omega arith) lq))
 
   column-most : (n j q : ℕ) → n ≤ p .sections → j < 64 → q < 16 → getD (columnsBelow p n) (column j q) 0 ≡ maxBelow n (λ s. cond (sectionOn p j q s) (lengthOf p s) 0)
@@ -77,7 +76,7 @@ module _ (p : Plan) (v : Valid p) where
 
     module _ {most : ℕ} (e : most ≡ max (getD rows (cell (row .task) (row .resource)) 0) (row .length)) where
       pub rows-step : set rows (cell (row .task) (row .resource)) most ≡ rowsBelow p (n + 1)
-      rows-step = maxed-step n (cellOf p) (lengthOf p) (replicate 1024 0) eRows (rw er) (rw er) e
+      rows-step = maxed-step n (cellOf p) (lengthOf p) (replicate 1152 0) eRows (rw er) (rw er) e
 
       pub columns-step : set columns (column (row .task) (row .resource)) most ≡ columnsBelow p (n + 1)
       columns-step = maxed-step n (columnOf p) (lengthOf p) (replicate 1024 0) eColumns (rw er) (rw er) (e ∙ ap (λ (x : ℕ). max x (row .length)) same)
@@ -85,16 +84,16 @@ module _ (p : Plan) (v : Valid p) where
           same : getD rows (cell (row .task) (row .resource)) 0 ≡ getD columns (column (row .task) (row .resource)) 0
           same =
               rw (eRows, eColumns, er)
-              (cell-most n (p .section n .task) (p .section n .resource) (omega arith) (low-task n l) (low-resource n l)
+              (cell-most n (p .section n .task) (p .section n .resource) (omega arith) (omega (arith, low-task n l)) (low-resource n l)
               ∙ sym (column-most n (p .section n .task) (p .section n .resource) (omega arith) (low-task n l) (low-resource n l)))
 
   -- its end
-  pub rows-done : (n : ℕ) {t : List ℕ} → n ≡ p .sections → t ≡ rowsBelow p n → Cells (longestOn p) t
+  pub rows-done : (n : ℕ) {t : List ℕ} → n ≡ p .sections → t ≡ rowsBelow p n → Sections p t
   unfolding longestOn
   rows-done n e h =
       rw (h, e)
       (record {
-        long = maxed-length (p .sections) (cellOf p) (lengthOf p) (replicate 1024 0) ∙ length-replicate {A = ℕ} 1024 0;
+        long = maxed-length (p .sections) (cellOf p) (lengthOf p) (replicate 1152 0) ∙ length-replicate {A = ℕ} 1152 0;
         at = λ j q lj lq. cell-most (p .sections) j q (omega arith) lj lq;
       })
 

@@ -11,8 +11,10 @@ use lib.ListN.{length, getD, replicate, length-replicate, getD-replicate}
 use lib.Seq.{getD-set-same, getD-set-other}
 use Rattle.folds.specs.Bytes.{placedBelow}
 use Rattle.folds.proofs.Arrays.{by-eq, placed-length, placed-at, stampedBelow, stamped-length}
-use Rattle.analysis_hold_times.specs.Holds.{cell, Cells}
-use Rattle.analysis_hold_times.specs.Inner.{Row}
+use Rattle.plan_reading.specs.Plan.{Plan}
+use Rattle.analysis_equations.specs.HoldTimes.{holdAt, budget}
+use Rattle.analysis_hold_times.specs.Figures.{holdCell, budgetCell, Figures}
+use Rattle.analysis_hold_times.specs.Inner.{cell, Row}
 
 -- what a choice is at most
 pick-le : (b : Bool) {x y m : ℕ} → x ≤ m → y ≤ m → cond b x y ≤ m
@@ -28,9 +30,12 @@ plus-same u e = rw e
 pub minus-same : (u : ℕ) {x y : ℕ} → x ≡ y → u - x ≡ u - y
 minus-same u e = rw e
 
--- a table's figure for resource q, whose number is r
-pub cell-at : (f : ℕ → ℕ → ℕ) (t : List ℕ) {j q r : ℕ} → Cells f t → r ≡ q → j < 64 → q < 16 → getD t (cell j r) 0 ≡ f j q
-cell-at f t {j} {q} c e a b = rw e (c .at j q a b)
+-- a table's figures for resource q, whose number is r
+pub hold-of : (p : Plan) (t : List ℕ) {j q r : ℕ} → Figures p t → r ≡ q → j < 64 → q < 16 → getD t (holdCell j r) 0 ≡ holdAt p j q
+hold-of p t {j} {q} c e a b = rw e (c .hold j q a b)
+
+pub budget-of : (p : Plan) (t : List ℕ) {k l q r : ℕ} → Figures p t → l ≡ k → r ≡ q → k < 8 → q < 16 → getD t (budgetCell l r) 0 ≡ budget p k q
+budget-of p t {k} {l} {q} c f e a b = rw (f, e) (c .budget k q a b)
 
 -- a row is made
 pub row-done : (n : ℕ) (f : ℕ → ℕ) (l : List ℕ) {m : List ℕ} → n ≡ 16 → length l ≡ 16 → m ≡ placedBelow n f l → Row f m

@@ -9,7 +9,7 @@ use Rattle.folds.specs.Below.{sumBelow}
 use Rattle.folds.proofs.Figures.{sum-step, sum-done}
 use Rattle.plan_reading.specs.Plan.{Plan}
 use Rattle.analysis_equations.specs.HoldTimes.{budget, waitTime}
-use Rattle.analysis_hold_times.specs.Holds.{share, Shares}
+use Rattle.analysis_hold_times.specs.Figures.{budgetCell, Figures}
 
 module _ (p : Plan) (k q : ℕ) where
   -- the sum of the budgets on q of the processors below l that are not k
@@ -17,15 +17,16 @@ module _ (p : Plan) (k q : ℕ) where
   othersBelow l = sumBelow l (λ j. cond (eqb j k) 0 (budget p j q))
 
   -- a turn of the loop over the processors, and its end
-  pub others-step : (t : List ℕ) (l : ℕ) {w s x : ℕ}
-      → Shares p t
+  pub others-step : (t : List ℕ) (l : ℕ) {w s b x : ℕ}
+      → Figures p t
       → w ≡ k
       → l < 8
       → q < 16
       → s ≡ othersBelow l
-      → x ≡ cond (eqb l w) 0 (getD t (share l q) 0)
+      → b ≡ getD t (budgetCell l q) 0
+      → x ≡ cond (eqb l w) 0 b
       → s + x ≡ othersBelow (l + 1)
-  others-step t l h o a b e f = sum-step l (λ j. cond (eqb j k) 0 (budget p j q)) e (f ∙ rw (o, h .at l q a b))
+  others-step t l h o a b e eb f = sum-step l (λ j. cond (eqb j k) 0 (budget p j q)) e (f ∙ rw (o, eb, h .budget l q a b))
 
   pub others-done : (l : ℕ) {s : ℕ} → l ≡ p .processors → s ≡ othersBelow l → s ≡ waitTime p k q
   unfolding waitTime

@@ -13,13 +13,13 @@ use Rattle.folds.proofs.Figures.{sum-same}
 use Rattle.plan_rules.specs.declared.TaskRow.{TaskRow}
 use Rattle.plan_reading.specs.Plan.{Plan, Valid}
 use Rattle.analysis_equations.specs.Sharing.{processorOf, uses, global}
-use Rattle.analysis_equations.specs.HoldTimes.{holdAt, budget, waitTime}
+use Rattle.analysis_equations.specs.HoldTimes.{budget, waitTime}
 use Rattle.analysis_equations.specs.Blocking.{ceilDiv, countOn, blocking1, blocking2, fellowHolds, waitingOn, waitingSide}
 use Rattle.analysis_equations.specs.Requirement.{tolerance, slack, met}
 use Rattle.analysis_equations.proofs.Laws.{ceil-bound, used-at, budget-low, count-on-high, fellow-high, fellow-holds, uses-count, waiting-high, tolerance-mag}
 use Rattle.tables.specs.Tables.{Tasks}
 use Rattle.tables.proofs.Places.{beside-place}
-use Rattle.analysis_hold_times.specs.Holds.{Cells, Shares, share}
+use Rattle.analysis_hold_times.specs.Figures.{Figures, budgetCell}
 use Rattle.analysis_requirements.specs.declared.Requirement.{Requirement}
 use Rattle.analysis_requirements.specs.Figures.{sumBeside, comparison, requirementOf}
 
@@ -51,11 +51,11 @@ module _ (p : Plan) (i q : ℕ) where
 
 module _ (p : Plan) (v : Valid p) where
   -- the sum over the tables is the fellows' hold times
-  fellows-told : (t holds : List ℕ) (i q : ℕ) → Tasks p t → Cells (holdAt p) holds → i < p .tasks → q < 16 → global p q ≡ true → sumBeside t holds (p .tasks) i q ≡ fellowHolds p i q
+  fellows-told : (t figures : List ℕ) (i q : ℕ) → Tasks p t → Figures p figures → i < p .tasks → q < 16 → global p q ≡ true → sumBeside t figures (p .tasks) i q ≡ fellowHolds p i q
   unfolding sumBeside
-  fellows-told t holds i q ts hs l lq g =
+  fellows-told t figures i q ts hs l lq g =
       sum-same (p .tasks) _ _
-      (λ j lj. rw (ts .place i l, ts .place j lj, beside-place p v i j l lj, hs .at j q (omega (arith, v .tasks)) lq))
+      (λ j lj. rw (ts .place i l, ts .place j lj, beside-place p v i j l lj, hs .hold j q (omega (arith, v .tasks)) lq))
       ∙ sym (fellow-holds p i q g)
 
   -- a task's processor is one of 8
@@ -63,16 +63,15 @@ module _ (p : Plan) (v : Valid p) where
   processor-low i l er ek = rw (ek, er) (omega (arith, v .task-fits i l .processor, v .processors))
 
   -- the budget of task i's processor on q, from the table
-  budget-read : (budgets : List ℕ) (i q : ℕ) {k : ℕ} {row : TaskRow} → Shares p budgets → i < p .tasks → q < 16 → row ≡ p .task i → k ≡ row .processor → getD budgets (share k q) 0 ≡ budget p (row .processor) q
-  budget-read budgets i q {k} {row} bs l lq er ek = bs .at k q (processor-low i l er ek) lq ∙ ap (λ (m : ℕ). budget p m q) ek
+  budget-read : (figures : List ℕ) (i q : ℕ) {k : ℕ} {row : TaskRow} → Figures p figures → i < p .tasks → q < 16 → row ≡ p .task i → k ≡ row .processor → getD figures (budgetCell k q) 0 ≡ budget p (row .processor) q
+  budget-read figures i q {k} {row} fs l lq er ek = fs .budget k q (processor-low i l er ek) lq ∙ ap (λ (m : ℕ). budget p m q) ek
 
-  pub waits : (t holds budgets : List ℕ) (i q : ℕ) {m k w f n : ℕ} {row : TaskRow} → Tasks p t → Cells (holdAt p) holds → Shares p budgets → i < p .tasks → q < 16 → uses p i q ≡ true → global p q ≡ true → m ≡ p .tasks → row ≡ p .task i → k ≡ row .processor → w ≡ waitTime p (row .processor) q → f ≡ sumBeside t holds m i q → n ≡ countOn p i q → Waits p i q (getD budgets (share k q) 0) w f n
+  pub waits : (t figures : List ℕ) (i q : ℕ) {m k b w f n : ℕ} {row : TaskRow} → Tasks p t → Figures p figures → i < p .tasks → q < 16 → uses p i q ≡ true → global p q ≡ true → m ≡ p .tasks → row ≡ p .task i → k ≡ row .processor → b ≡ getD figures (budgetCell k q) 0 → w ≡ waitTime p (row .processor) q → f ≡ sumBeside t figures m i q → n ≡ countOn p i q → Waits p i q b w f n
   unfolding waitingOn
-  waits t holds budgets i q {m} {k} {w} {f} {n} ts hs bs l lq u g em er ek ew ef en =
-      let b : ℕ = getD budgets (share k q) 0 in
-      let eb = budget-read budgets i q bs l lq er ek in
+  waits t figures i q {m} {k} {b} {w} {f} {n} ts fs l lq u g em er ek br ew ef en =
+      let eb = br ∙ budget-read figures i q fs l lq er ek in
       let low : 1 ≤ b = rw (eb, er) (budget-low p v (processorOf p i) q (used-at p i q l u) g) in
-      let fellows : f ≡ fellowHolds p i q = ef ∙ ap (λ (k : ℕ). sumBeside t holds k i q) em ∙ fellows-told t holds i q ts hs l lq g in
+      let fellows : f ≡ fellowHolds p i q = ef ∙ ap (λ (k : ℕ). sumBeside t figures k i q) em ∙ fellows-told t figures i q ts fs l lq g in
       let times : ceilDiv (2 * f) b ≤ 8320000 = omega (arith, ceil-bound (2 * f) b, fellows, fellow-high p v i q) in
       let few : n ≤ 255 = omega (arith, en, count-on-high p v i q) in
       let told : n * ceilDiv (2 * f) b * w ≡ waitingOn p i q = rw (en, fellows, eb, ew, er) in

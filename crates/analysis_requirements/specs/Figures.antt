@@ -12,7 +12,7 @@ use Rattle.plan_reading.specs.Plan.{Plan}
 use Rattle.analysis_equations.specs.Blocking.{ceilDiv, blocking1, blocking2, waitingSide}
 use Rattle.analysis_equations.specs.Requirement.{tolerance, slack, met}
 use Rattle.tables.specs.Tables.{placeAt, under, beside}
-use Rattle.analysis_hold_times.specs.Holds.{cell}
+use Rattle.analysis_hold_times.specs.Figures.{holdCell}
 use Rattle.analysis_requirements.specs.declared.Requirement.{Requirement}
 
 -- Equation 5 over the tables: the tasks below n under the one at `mine`, each with the smaller of `times` and its count
@@ -20,10 +20,10 @@ unfoldable pub sumUnder : List ℕ → List ℕ → ℕ → ℕ → ℕ → ℕ
 sumUnder t counts n mine times =
     sumBelow n (λ j. cond (under mine (getD t (placeAt j) 0)) (min times (getD counts j 0) * getD t j 0) 0)
 
--- the figures for q of the tasks beside task i, its own left out
+-- the hold times on q of the tasks beside task i, its own left out
 unfoldable pub sumBeside : List ℕ → List ℕ → ℕ → ℕ → ℕ → ℕ
-sumBeside t holds n i q =
-    sumBelow n (λ j. cond (beside (getD t (placeAt i) 0) (getD t (placeAt j) 0) && not (eqb j i)) (getD holds (cell j q) 0) 0)
+sumBeside t figures n i q =
+    sumBelow n (λ j. cond (beside (getD t (placeAt i) 0) (getD t (placeAt j) 0) && not (eqb j i)) (getD figures (holdCell j q) 0) 0)
 
 -- the demand of m tasks up to t: ceil(t / period) × time of each
 unfoldable pub demandOf : List ℕ → List ℕ → ℕ → ℕ → ℕ

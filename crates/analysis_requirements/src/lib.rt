@@ -11,11 +11,10 @@ ghost use Rattle.folds.specs.Packed.{packedBelow};
 ghost use Rattle.folds.specs.Signed.{greatestTo};
 ghost use Rattle.plan_reading.specs.Plan.{planOf, Checked};
 ghost use Rattle.analysis_equations.specs.Sharing.{global, uses, higher};
-ghost use Rattle.analysis_equations.specs.HoldTimes.{holdAt};
 ghost use Rattle.analysis_equations.specs.Blocking.{ceiling, countOn, globalCount, longestLocal, blocking1, blocking2, waitingOn, waitingSide};
 ghost use Rattle.analysis_equations.specs.Requirement.{tolerance};
 ghost use Rattle.tables.specs.Tables.{Column, Globals, Tasks, placeAt};
-ghost use Rattle.analysis_hold_times.specs.Holds.{Cells, Shares};
+ghost use Rattle.analysis_hold_times.specs.Figures.{figureCount, Known};
 ghost use Rattle.analysis_requirements.specs.Figures.{sumUnder, sumBeside, demandOf, comparison, requirementOf};
 
 // What a task's requirement compares: met when the waiting side is at most the slack.
@@ -159,10 +158,10 @@ fn blocking1_of(
     (counts[i] as u32 + 1) * longest as u32
 }
 
-// The sum of the figures for q of the tasks of i's processor, its own left out.
-fn sum_beside(tasks: &[u16], holds: &[u16], n: usize, i: usize, q: usize) -> u32
-    requires { ⌜ (length (now tasks) ≡ 128) × (length (now holds) ≡ 1024) × (n ≤ 64) × (i < 64) × (q < 16) ⌝ }
-    ensures { λ r. ⌜ (r ≡ sumBeside (now (tasks .entry)) (now (holds .entry)) n i q) × (r ≤ 4194240) ⌝ }
+// The sum of the hold times on q of the tasks of i's processor, its own left out.
+fn sum_beside(tasks: &[u16], figures: &[u16], n: usize, i: usize, q: usize) -> u32
+    requires { ⌜ (length (now tasks) ≡ 128) × (length (now figures) ≡ figureCount) × (n ≤ 64) × (i < 64) × (q < 16) ⌝ }
+    ensures { λ r. ⌜ (r ≡ sumBeside (now (tasks .entry)) (now (figures .entry)) n i q) × (r ≤ 4194240) ⌝ }
 {
     let mine = tasks[64 + i];
     let mut sum = 0u32;
@@ -170,32 +169,25 @@ fn sum_beside(tasks: &[u16], holds: &[u16], n: usize, i: usize, q: usize) -> u32
     while j < n {
         let place = tasks[64 + j];
         let is_fellow = (place / 256 == mine / 256) & !(j == i);
-        sum += folds::chosen(is_fellow, holds[j * 16 + q], 0) as u32;
+        let hold = analysis_hold_times::hold_at(figures, j, q);
+        sum += folds::chosen(is_fellow, hold, 0) as u32;
         j += 1;
     }
     sum
 }
 
 // Equation 6: what task i waits for the global resource q, on which it has `count` sections.
-fn waiting_on(
-    file: &[u8],
-    tasks: &[u16],
-    holds: &[u16],
-    budgets: &[u16],
-    count: u16,
-    i: usize,
-    q: usize,
-) -> u64
-    requires { ⌜ (Checked (now file)) × (Tasks (planOf (now file)) (now tasks)) × (Cells (holdAt (planOf (now file))) (now holds)) × (Shares (planOf (now file)) (now budgets)) × (i < planOf (now file) .tasks) × (q < 16) × (uses (planOf (now file)) i q ≡ true) × (global (planOf (now file)) q ≡ true) × (count ≡ countOn (planOf (now file)) i q) ⌝ }
+fn waiting_on(file: &[u8], tasks: &[u16], figures: &[u16], count: u16, i: usize, q: usize) -> u64
+    requires { ⌜ (Known (now file) (now figures)) × (Tasks (planOf (now file)) (now tasks)) × (i < planOf (now file) .tasks) × (q < 16) × (uses (planOf (now file)) i q ≡ true) × (global (planOf (now file)) q ≡ true) × (count ≡ countOn (planOf (now file)) i q) ⌝ }
     ensures { λ r. ⌜ r ≡ waitingOn (planOf (now (file .entry))) i q ⌝ }
 {
     let counts = plan_reading::checked::counts(file);
     let n = folds::wide(counts.tasks);
     let task = plan_reading::checked::task(file, i);
     let k = task.processor;
-    let budget = budgets[folds::wide(k) * 16 + q] as u32;
-    let wait = analysis_hold_times::wait_in(file, budgets, k, q);
-    let fellows = sum_beside(tasks, holds, n, i, q);
+    let budget = analysis_hold_times::budget_at(figures, folds::wide(k), q) as u32;
+    let wait = analysis_hold_times::wait_in(file, figures, k, q);
+    let fellows = sum_beside(tasks, figures, n, i, q);
     let times = (2 * fellows + (budget - 1)) / budget;
     count as u64 * times as u64 * wait as u64
 }
@@ -204,14 +196,13 @@ fn waiting_on(
 fn waiting_at(
     file: &[u8],
     tasks: &[u16],
-    holds: &[u16],
-    budgets: &[u16],
+    figures: &[u16],
     shared: bool,
     count: u16,
     i: usize,
     q: usize,
 ) -> u64
-    requires { ⌜ (Checked (now file)) × (Tasks (planOf (now file)) (now tasks)) × (Cells (holdAt (planOf (now file))) (now holds)) × (Shares (planOf (now file)) (now budgets)) × (i < planOf (now file) .tasks) × (q < 16) × (shared ≡ global (planOf (now file)) q) × (count ≡ countOn (planOf (now file)) i q) ⌝ }
+    requires { ⌜ (Known (now file) (now figures)) × (Tasks (planOf (now file)) (now tasks)) × (i < planOf (now file) .tasks) × (q < 16) × (shared ≡ global (planOf (now file)) q) × (count ≡ countOn (planOf (now file)) i q) ⌝ }
     ensures { λ r. ⌜ (r ≡ cond (global (planOf (now (file .entry))) q && uses (planOf (now (file .entry))) i q) (waitingOn (planOf (now (file .entry))) i q) 0) × (r ≤ 255 * 8320000 * 520000) ⌝ }
 {
     if !shared {
@@ -220,19 +211,12 @@ fn waiting_at(
     if count == 0 {
         return 0;
     }
-    waiting_on(file, tasks, holds, budgets, count, i, q)
+    waiting_on(file, tasks, figures, count, i, q)
 }
 
-// Equation 7: the waiting side of task i, from the tables of all hold times and budgets.
-fn waiting_side(
-    file: &[u8],
-    tasks: &[u16],
-    holds: &[u16],
-    budgets: &[u16],
-    globals: [bool; 16],
-    i: usize,
-) -> u64
-    requires { ⌜ (Checked (now file)) × (Tasks (planOf (now file)) (now tasks)) × (Cells (holdAt (planOf (now file))) (now holds)) × (Shares (planOf (now file)) (now budgets)) × (Globals (planOf (now file)) globals) × (i < planOf (now file) .tasks) ⌝ }
+// Equation 7: the waiting side of task i, from the table of all hold times and budgets.
+fn waiting_side(file: &[u8], tasks: &[u16], figures: &[u16], globals: [bool; 16], i: usize) -> u64
+    requires { ⌜ (Known (now file) (now figures)) × (Tasks (planOf (now file)) (now tasks)) × (Globals (planOf (now file)) globals) × (i < planOf (now file) .tasks) ⌝ }
     ensures { λ r. ⌜ r ≡ waitingSide (planOf (now (file .entry))) i ⌝ }
 {
     let counts = plan_reading::checked::counts(file);
@@ -241,7 +225,7 @@ fn waiting_side(
     let mut side = 0u64;
     let mut q = 0;
     while q < n {
-        side += waiting_at(file, tasks, holds, budgets, globals[q], on[q], i, q);
+        side += waiting_at(file, tasks, figures, globals[q], on[q], i, q);
         q += 1;
     }
     side
@@ -346,19 +330,18 @@ fn compared(blocking1: u32, blocking2: u32, tolerance: i64, side: u64) -> Requir
 pub fn requirement_of(
     file: &[u8],
     tasks: &[u16],
-    holds: &[u16],
-    budgets: &[u16],
+    figures: &[u16],
     counts: &[u16],
     globals: [bool; 16],
     ceilings: [u16; 16],
     i: usize,
 ) -> Requirement
-    requires { ⌜ (Checked (now file)) × (Tasks (planOf (now file)) (now tasks)) × (Cells (holdAt (planOf (now file))) (now holds)) × (Shares (planOf (now file)) (now budgets)) × (Column 64 (globalCount (planOf (now file))) (now counts)) × (Globals (planOf (now file)) globals) × (Column 16 (ceiling (planOf (now file))) ceilings) × (i < planOf (now file) .tasks) ⌝ }
+    requires { ⌜ (Known (now file) (now figures)) × (Tasks (planOf (now file)) (now tasks)) × (Column 64 (globalCount (planOf (now file))) (now counts)) × (Globals (planOf (now file)) globals) × (Column 16 (ceiling (planOf (now file))) ceilings) × (i < planOf (now file) .tasks) ⌝ }
     ensures { λ r. ⌜ r ≡ requirementOf (planOf (now (file .entry))) i ⌝ }
 {
     let blocking1 = blocking1_of(file, globals, ceilings, counts, i);
     let blocking2 = blocking2_of(file, tasks, counts, i);
     let tolerance = tolerance_of(file, tasks, i);
-    let side = waiting_side(file, tasks, holds, budgets, globals, i);
+    let side = waiting_side(file, tasks, figures, globals, i);
     compared(blocking1, blocking2, tolerance, side)
 }

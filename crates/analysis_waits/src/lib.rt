@@ -1,14 +1,13 @@
-// The longest wait of a task for a resource, from a checked file and the tables of its hold times and budgets. Each function is for
+// The longest wait of a task for a resource, from a checked file and the table of its hold times and budgets. Each function is for
 // the crates above, and says in its `requires` what it relies on.
 ghost use mathlib.Core.Path.{_≡_};
 ghost use mathlib.Core.Bool.{true, cond};
 ghost use Prim.Native.Nat.{_<_, _≤_};
 ghost use lib.ListN.{length};
-ghost use Rattle.plan_reading.specs.Plan.{planOf, Checked};
+ghost use Rattle.plan_reading.specs.Plan.{planOf};
 ghost use Rattle.analysis_equations.specs.Sharing.{global};
-ghost use Rattle.analysis_equations.specs.HoldTimes.{holdAt};
 ghost use Rattle.analysis_equations.specs.Blocking.{fellowHolds};
-ghost use Rattle.analysis_hold_times.specs.Holds.{Cells, Shares};
+ghost use Rattle.analysis_hold_times.specs.Figures.{Known};
 ghost use Rattle.machine_rules.specs.Longest.{fellows, longestWait};
 
 // The fellows of a task on a resource: how many, and their hold times added up.
@@ -31,8 +30,8 @@ fn flag(b: bool) -> u8
 }
 
 // The fellows of task i on the global resource q.
-fn fellows_of(file: &[u8], holds: &[u16], i: usize, q: usize) -> Fellows
-    requires { ⌜ (Checked (now file)) × (Cells (holdAt (planOf (now file))) (now holds)) × (i < planOf (now file) .tasks) × (q < 16) × (global (planOf (now file)) q ≡ true) ⌝ }
+fn fellows_of(file: &[u8], figures: &[u16], i: usize, q: usize) -> Fellows
+    requires { ⌜ (Known (now file) (now figures)) × (i < planOf (now file) .tasks) × (q < 16) × (global (planOf (now file)) q ≡ true) ⌝ }
     ensures { λ r. ⌜ (r .count ≡ length (fellows (planOf (now (file .entry))) i q)) × (r .holds ≡ fellowHolds (planOf (now (file .entry))) i q) × (r .count ≤ 64) × (r .holds ≤ 4160000) ⌝ }
 {
     let counts = plan_reading::checked::counts(file);
@@ -44,7 +43,7 @@ fn fellows_of(file: &[u8], holds: &[u16], i: usize, q: usize) -> Fellows
     let mut j = 0;
     while j < n {
         let row = plan_reading::checked::task(file, j);
-        let hold = holds[j * 16 + q];
+        let hold = analysis_hold_times::hold_at(figures, j, q);
         let is_fellow = (row.processor == k) & (hold != 0) & !(j == i);
         count += flag(is_fellow);
         sum += folds::chosen(is_fellow, hold, 0) as u32;
@@ -54,13 +53,13 @@ fn fellows_of(file: &[u8], holds: &[u16], i: usize, q: usize) -> Fellows
 }
 
 // The longest wait of task i for the global resource q: the limit with all its fellows ahead.
-pub fn longest_of(file: &[u8], holds: &[u16], budgets: &[u16], i: usize, q: usize) -> Longest
-    requires { ⌜ (Checked (now file)) × (Cells (holdAt (planOf (now file))) (now holds)) × (Shares (planOf (now file)) (now budgets)) × (i < planOf (now file) .tasks) × (q < 16) × (global (planOf (now file)) q ≡ true) ⌝ }
+pub fn longest_of(file: &[u8], figures: &[u16], i: usize, q: usize) -> Longest
+    requires { ⌜ (Known (now file) (now figures)) × (i < planOf (now file) .tasks) × (q < 16) × (global (planOf (now file)) q ≡ true) ⌝ }
     ensures { λ r. ⌜ (r .fellows ≡ length (fellows (planOf (now (file .entry))) i q)) × (r .wait ≡ longestWait (planOf (now (file .entry))) i q) ⌝ }
 {
     let task = plan_reading::checked::task(file, i);
-    let wait = analysis_hold_times::wait_in(file, budgets, task.processor, q);
-    let found = fellows_of(file, holds, i, q);
+    let wait = analysis_hold_times::wait_in(file, figures, task.processor, q);
+    let found = fellows_of(file, figures, i, q);
     let count = found.count;
     Longest {
         fellows: count,

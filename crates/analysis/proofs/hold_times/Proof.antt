@@ -14,15 +14,14 @@ checked : (c : tie.Else1) → Checked (c .before .before .before .args .file .no
 checked c =
     checked-file _ (sym (c .before .check .ensures) ∙ c .if1 .left) (λ i. c .before .before .shared-slice-known .given i .fits)
 
-hold-table-requires : tie.Need-hold-table-requires
-hold-table-requires c κs = (checked (c .before .before), refl, refl)
-
 returns-2 : tie.Need-returns-2
 returns-2 c =
-    let i = c .before .before .before .before .before in times-given _ (sym (i .before .check .ensures) ∙ i .if1 .left) (c .before .before .hold-table .ensures .0)
+    let i = c .before .before .before .before .before in
+    times-given _ _ (sym (i .before .check .ensures) ∙ i .if1 .left) (c .before .before .before .fill-figures .ensures .figures) (c .holds-of .ensures)
 
 pub hold-times-spec : {M : Type 1} → statement M
 hold-times-spec =
     tie.close
     (tie.spec
-    (λ c κs. search needs) returns (λ c. search needs) (λ c. search needs) hold-table-requires returns-2)
+    (λ c κs. search needs) returns (λ c. search needs) (λ c κs. (checked (c .before), refl)) (λ c. search needs)
+    (λ c κs. c .before .before .fill-figures .ensures .figures .long) returns-2)

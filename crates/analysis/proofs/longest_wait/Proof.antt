@@ -9,22 +9,22 @@ use Rattle.analysis.proofs.longest_wait.Statement.{statement}
 use Rattle.analysis.proofs.longest_wait.Tie as tie
 
 returns : tie.Need-returns
-returns c = figure-told _ _ (figure-refused _ (c .before .before .before .before .user-of .ensures .code) (c .if1 .taken))
+returns c = figure-told _ _ (figure-refused _ (c .before .before .before .user-of .ensures .code) (c .if1 .taken))
 
 longest-of-requires : tie.Need-longest-of-requires
 longest-of-requires c κs =
-    let u = c .before .before .before .before .before .before .before .user-of .ensures .user (c .before .before .before .if1 .left) in
-    (u .plan, u .hold-times, u .shares, u .below, rw (c .wide .ensures .0) (user-resource u), rw (c .wide .ensures .0) (u .shared))
+    let u = c .before .before .before .before .before .user-of .ensures .user (c .before .before .if1 .left) in
+    (u .known, u .below, rw (c .wide .ensures .0) (user-resource u), rw (c .wide .ensures .0) (u .shared))
 
 returns-2 : tie.Need-returns-2
 returns-2 c =
-    let f = c .before .before .before .before .before .before .before .before .user-of .ensures in
-    let u = f .user (c .before .before .before .before .if1 .left) in
-    figure-told _ _ (figure-given (sym (c .before .before .before .before .if1 .left) ∙ f .code) (c .longest-of .ensures .1 ∙ rw (c .before .wide .ensures .0, u .task)))
+    let f = c .before .before .before .before .before .before .user-of .ensures in
+    let clear = c .before .before .before .if1 .left in
+    let u = f .user clear in
+    figure-told _ _ (figure-given (sym clear ∙ f .code) (c .longest-of .ensures .1 ∙ rw (c .before .wide .ensures .0, u .task)))
 
 pub longest-wait-spec : {M : Type 1} → statement M
 longest-wait-spec =
     tie.close
     (tie.spec
-    (λ c. search needs) (λ c. search needs) (λ c κs. search needs) returns (λ c. search needs) (λ c. search needs)
-    (λ c κs. search needs) longest-of-requires returns-2)
+    (λ c. search needs) (λ c κs. search needs) returns (λ c. search needs) (λ c κs. search needs) longest-of-requires returns-2)

@@ -6,7 +6,7 @@ use Prim.Native.Nat.{ℕ}
 use lib.ListN.{getD, replicate, length-replicate}
 use Rattle.folds.specs.Bytes.{placedBelow}
 use Rattle.folds.proofs.Arrays.{placed-step}
-use Rattle.analysis_hold_times.specs.Holds.{cell}
+use Rattle.analysis_hold_times.specs.Inner.{cell}
 use Rattle.analysis_hold_times.proofs.Rows.{row-done}
 use Rattle.analysis_hold_times.proofs.shared_row.Statement.{statement}
 use Rattle.analysis_hold_times.proofs.shared_row.Tie as tie

@@ -11,26 +11,28 @@ use Rattle.analysis_hold_times.proofs.wait_in.Statement.{statement}
 use Rattle.analysis_hold_times.proofs.wait_in.Tie as tie
 
 abbrev Inv-loop : tie.InvT-loop
-Inv-loop file budgets k q m sum₀ l₀ sum l = (l ≤ m) × (m ≤ 8) × (sum ≡ othersBelow (planOf file) k q l) × (sum ≤ l * 65535)
+Inv-loop file figures k q m sum₀ l₀ sum l = (l ≤ m) × (m ≤ 8) × (sum ≡ othersBelow (planOf file) k q l) × (sum ≤ l * 65535)
 
 abbrev μ-loop : tie.MeasureT-loop
-μ-loop file budgets k q m sum₀ l₀ sum l = m - l
+μ-loop file figures k q m sum₀ l₀ sum l = m - l
 
 loop-holds : tie.Need-loop-holds Inv-loop μ-loop
 unfolding sumBelow
 loop-holds c =
-    let v = valid-plan _ (c .before .before .before .before .pre .0) in
+    let v = valid-plan _ (c .before .before .before .before .pre .0 .plan) in
     (omega arith, omega (arith, v .processors), refl, omega arith)
 
-shared-slice-read-budget : tie.Need-shared-slice-read-budget Inv-loop μ-loop
-shared-slice-read-budget c = omega (arith, c .before .before .before .before .before .before .before .before .pre .1 .long)
+budget-at-requires : tie.Need-budget-at-requires Inv-loop μ-loop
+budget-at-requires c κs =
+    let a = c .before .before .before .before .before .before .before in
+    record { long = a .pre .0 .figures .long; row = omega arith; resource = a .pre .1 }
 
 loop-again : tie.Need-loop-again Inv-loop μ-loop
 loop-again c =
-    let a = c .before .before .before .before .before .before .before .before .before in
     let l = c .before .before .before .before .loop in
+    let h = c .before .before .before .before .before .before .before .before .before .pre in
     let own = c .before .before .wide2 .ensures .0 in
-    (omega arith, l .inv .1, others-step _ _ _ _ _ (a .pre .1) own (omega arith) (a .pre .2) (l .inv .2) (c .chosen .ensures), omega arith)
+    (omega arith, l .inv .1, others-step _ _ _ _ _ (h .0 .figures) own (omega arith) (h .1) (l .inv .2) (c .before .budget-at .ensures) (c .chosen .ensures), omega arith)
 
 returns : tie.Need-returns Inv-loop μ-loop
 returns c =
@@ -42,6 +44,5 @@ pub wait-in-spec : {M : Type 1} → statement M
 wait-in-spec =
     tie.close
     (tie.spec
-    Inv-loop μ-loop (λ c κs. search needs) (λ c κs. search needs) loop-holds (λ c κs. search needs) (λ c. omega arith)
-    (λ c. omega arith) (λ c. omega arith) shared-slice-read-budget (λ c κs. search needs) (λ c. omega arith) (λ c. omega arith)
-    (λ c. omega arith) (λ c. omega arith) loop-again returns)
+    Inv-loop μ-loop (λ c κs. c .before .before .pre .0 .plan) (λ c κs. search needs) loop-holds (λ c κs. search needs) budget-at-requires (λ c κs. search needs)
+    (λ c. search needs) (λ c. omega arith) (λ c. omega arith) (λ c. omega arith) loop-again returns)

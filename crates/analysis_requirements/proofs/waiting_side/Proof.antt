@@ -13,32 +13,32 @@ use Rattle.analysis_requirements.proofs.waiting_side.Statement.{stateme
 use Rattle.analysis_requirements.proofs.waiting_side.Tie as tie
 
 abbrev Inv-loop : tie.InvT-loop
-Inv-loop file tasks holds budgets i globals n on side₀ q₀ side q =
+Inv-loop file tasks figures i globals n on side₀ q₀ side q =
     (q ≤ n) × (n ≡ planOf file .resources) × (n ≤ 16) × (side ≤ q * (255 * 8320000 * 520000)) × (side ≡ sumBelow q (waitingAt (planOf file) i))
 
 abbrev μ-loop : tie.MeasureT-loop
-μ-loop file tasks holds budgets i globals n on side₀ q₀ side q = n - q
+μ-loop file tasks figures i globals n on side₀ q₀ side q = n - q
 
 counts-requires : tie.Need-counts-requires Inv-loop μ-loop
-counts-requires c κs = c .before .before .before .before .pre .0
+counts-requires c κs = c .before .before .before .pre .0 .plan
 
 counts-on-requires : tie.Need-counts-on-requires Inv-loop μ-loop
-counts-on-requires c κs = c .before .before .before .before .before .before .pre .0
+counts-on-requires c κs = c .before .before .before .before .before .pre .0 .plan
 
 loop-holds : tie.Need-loop-holds Inv-loop μ-loop
 unfolding sumBelow
 loop-holds c =
     let e = c .before .wide .ensures .0 ∙ c .before .before .counts .ensures .2 in
-    (omega arith, e, omega (arith, e, valid-plan _ (c .before .before .before .before .before .before .before .pre .0) .resources), omega arith, refl)
+    (omega arith, e, omega (arith, e, valid-plan _ (c .before .before .before .before .before .before .pre .0 .plan) .resources), omega arith, refl)
 
 array-read-waiting-at : tie.Need-array-read-waiting-at Inv-loop μ-loop
 array-read-waiting-at c = omega arith
 
 waiting-at-requires : tie.Need-waiting-at-requires Inv-loop μ-loop
 waiting-at-requires c κs =
-    let h = c .before .before .before .before .before .before .before .before .before .pre in
+    let h = c .before .before .before .before .before .before .before .before .pre in
     let l = array-read-waiting-at c in
-    (h .0, h .1, h .2, h .3, h .5, l, h .4 .at _ l, c .before .before .counts-on .ensures .at _ l)
+    (h .0, h .1, h .3, l, h .2 .at _ l, c .before .before .counts-on .ensures .at _ l)
 
 loop-again : tie.Need-loop-again Inv-loop μ-loop
 loop-again c =

@@ -3,7 +3,6 @@ use Prim.Native.Nat.{_+_, _*_, _≤_, _-_, _<_}
 use mathlib.Core.Path.{_≡_, sym, ap, _∙_}
 use native.Mathlib.Omega.{arith}
 use borrow.Author.Needs.{needs}
-use lib.ListN.{getD}
 use Rattle.plan_rules.specs.declared.TaskRow.{TaskRow}
 use Rattle.plan_reading.specs.Plan.{planOf}
 use Rattle.plan_reading.proofs.Laws.{valid-plan}
@@ -13,38 +12,32 @@ use Rattle.analysis_waits.proofs.fellows_of.Statement.{statement}
 use Rattle.analysis_waits.proofs.fellows_of.Tie as tie
 
 abbrev Inv-loop : tie.InvT-loop
-Inv-loop file holds i q n k count₀ sum₀ j₀ count sum j =
+Inv-loop file figures i q n k count₀ sum₀ j₀ count sum j =
     (j ≤ n) × (n ≡ planOf file .tasks) × (n ≤ 64) × (k ≡ processorOf (planOf file) i) × Counted (planOf file) i q j count sum
 
 abbrev μ-loop : tie.MeasureT-loop
-μ-loop file holds i q n k count₀ sum₀ j₀ count sum j = n - j
+μ-loop file figures i q n k count₀ sum₀ j₀ count sum j = n - j
 
 counts-requires : tie.Need-counts-requires Inv-loop μ-loop
-counts-requires c κs = c .before .before .pre .0
+counts-requires c κs = c .before .before .pre .0 .plan
 
 wide-requires : tie.Need-wide-requires Inv-loop μ-loop
 wide-requires c κs = tt
 
 task-requires : tie.Need-task-requires Inv-loop μ-loop
-task-requires c κs = (c .before .before .before .before .pre .0, c .before .before .before .before .pre .2)
+task-requires c κs = let h = c .before .before .before .before .pre in (h .0 .plan, h .1)
 
 loop-holds : tie.Need-loop-holds Inv-loop μ-loop
 loop-holds c =
     let a = c .before .before .before .before .before in
     let e = c .before .wide .ensures .0 ∙ c .before .before .counts .ensures .1 in
-    (omega arith, e, omega (arith, e, valid-plan _ (a .pre .0) .tasks), ap (λ (r : TaskRow). r .processor) (c .task .ensures), counted-none _ _ _)
+    (omega arith, e, omega (arith, e, valid-plan _ (a .pre .0 .plan) .tasks), ap (λ (r : TaskRow). r .processor) (c .task .ensures), counted-none _ _ _)
 
 task-requires-2 : tie.Need-task-requires-2 Inv-loop μ-loop
-task-requires-2 c κs = (c .before .before .before .before .before .before .before .pre .0, omega arith)
+task-requires-2 c κs = (c .before .before .before .before .before .before .before .pre .0 .plan, omega arith)
 
-add-hold : tie.Need-add-hold Inv-loop μ-loop
-add-hold c = omega (arith, c .before .before .before .before .before .before .before .before .pre .3)
-
-mul-hold-2 : tie.Need-mul-hold-2 Inv-loop μ-loop
-mul-hold-2 c = omega (arith, c .before .before .before .before .before .before .before .before .pre .3)
-
-shared-slice-read-hold : tie.Need-shared-slice-read-hold Inv-loop μ-loop
-shared-slice-read-hold c = omega (arith, c .before .before .before .before .before .before .before .before .before .pre .1 .long, c .before .before .before .before .before .before .before .before .before .pre .3)
+hold-at-requires : tie.Need-hold-at-requires Inv-loop μ-loop
+hold-at-requires c κs = let h = c .before .before .before .before .before .before .before .before .pre in record { long = h .0 .figures .long; row = omega arith; resource = h .2 }
 
 flag-requires : tie.Need-flag-requires Inv-loop μ-loop
 flag-requires c κs = tt
@@ -63,21 +56,20 @@ loop-again c =
       l .inv .1,
       l .inv .2,
       l .inv .3,
-      counted-more (planOf (a .args .file .now)) (valid-plan _ (a .pre .0)) (a .args .i) (a .args .q) (a .pre .4)
-          (getD (a .args .holds .now) (l .j * 16 + a .args .q) 0) (c .before .before .before .before .task2 .result .processor) (c .before .before .before .before .before .before .before .task .result .processor) (c .before .flag .result) (c .chosen .result) (l .inv .4)
-          (a .pre .1 .at (l .j) (a .args .q) (omega arith) (a .pre .3)) (ap (λ (r : TaskRow). r .processor) (c .before .before .before .before .task2 .ensures)) (l .inv .3) (c .before .flag .ensures .0) (c .chosen .ensures),
+      counted-more (planOf (a .args .file .now)) (valid-plan _ (a .pre .0 .plan)) (a .args .i) (a .args .q) (a .pre .3)
+          (c .before .before .before .hold-at .result) (c .before .before .before .before .task2 .result .processor) (c .before .before .before .before .before .before .before .task .result .processor) (c .before .flag .result) (c .chosen .result) (l .inv .4)
+          (c .before .before .before .hold-at .ensures ∙ a .pre .0 .figures .hold (l .j) (a .args .q) (omega arith) (a .pre .2)) (ap (λ (r : TaskRow). r .processor) (c .before .before .before .before .task2 .ensures)) (l .inv .3) (c .before .flag .ensures .0) (c .chosen .ensures),
     )
 
 returns : tie.Need-returns Inv-loop μ-loop
 returns c =
     let l = c .before .loop in
     let a = c .before .before .before .before .before .before .before in
-    counted-all (planOf (a .args .file .now)) (valid-plan _ (a .pre .0)) (a .args .i) (a .args .q) (a .pre .4) (let e : l .j ≡ planOf (a .args .file .now) .tasks = omega arith in e) (l .inv .4)
+    counted-all (planOf (a .args .file .now)) (valid-plan _ (a .pre .0 .plan)) (a .args .i) (a .args .q) (a .pre .3) (let e : l .j ≡ planOf (a .args .file .now) .tasks = omega arith in e) (l .inv .4)
 
 pub fellows-of-spec : {M : Type 1} → statement M
 fellows-of-spec =
     tie.close
     (tie.spec
-    Inv-loop μ-loop counts-requires wide-requires task-requires loop-holds task-requires-2 (λ c. omega arith) add-hold mul-hold-2
-    shared-slice-read-hold flag-requires add-count chosen-requires (λ c. search needs) (λ c. search needs) (λ c. omega arith)
+    Inv-loop μ-loop counts-requires wide-requires task-requires loop-holds task-requires-2 hold-at-requires flag-requires add-count chosen-requires (λ c. search needs) (λ c. search needs) (λ c. omega arith)
     (λ c. omega arith) loop-again returns)

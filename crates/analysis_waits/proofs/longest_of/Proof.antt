@@ -11,20 +11,14 @@ use Rattle.analysis_waits.proofs.Counting.{longest-made, product-fits, 
 use Rattle.analysis_waits.proofs.longest_of.Statement.{statement}
 use Rattle.analysis_waits.proofs.longest_of.Tie as tie
 
-mul-t12 : tie.Need-mul-t12
-mul-t12 c = product-fits (let few : _ ≤ 65 = omega (arith, c .fellows-of .ensures .2) in few) (c .before .wait-in .ensures .1)
-
-add-t13 : tie.Need-add-t13
-add-t13 c =
-    sum-fits (c .before .fellows-of .ensures .3) (let few : _ ≤ 65 = omega (arith, c .before .fellows-of .ensures .2) in few) (c .before .before .wait-in .ensures .1)
-
 returns : tie.Need-returns
 returns c =
-    let a = c .before .before .before .before .before .before .before in
+    let a = c .before .before .before .before .before .before in
+    let f = c .before .fellows-of in
     let p = planOf (a .args .file .now) in (
-      c .before .fellows-of .ensures .0,
-      longest-made p (valid-plan _ (a .pre .0)) (a .args .i) (a .args .q) (a .pre .5) (c .before .fellows-of .result .count) (c .before .fellows-of .result .holds) (c .before .before .wait-in .result)
-          (c .before .fellows-of .ensures .0) (c .before .fellows-of .ensures .1)
+      f .ensures .0,
+      longest-made p (valid-plan _ (a .pre .0 .plan)) (a .args .i) (a .args .q) (a .pre .3) (f .result .count) (f .result .holds) (c .before .before .wait-in .result)
+          (f .ensures .0) (f .ensures .1)
           (c .before .before .wait-in .ensures .0 ∙ ap (λ (r : TaskRow). waitTime p (r .processor) (a .args .q)) (c .before .before .before .task .ensures)),
     )
 
@@ -32,5 +26,8 @@ pub longest-of-spec : {M : Type 1} → statement M
 longest-of-spec =
     tie.close
     (tie.spec
-    (λ c κs. search needs) (λ c κs. search needs) (λ c κs. search needs) (λ c. search needs) (λ c. search needs) mul-t12 add-t13
+    (λ c κs. let h = c .before .before .pre in (h .0 .plan, h .1)) (λ c κs. let h = c .before .before .before .pre in (h .0, h .2)) (λ c κs. c .before .before .before .before .pre) (λ c. search needs)
+    (λ c. search needs)
+    (λ c. product-fits (let few : _ ≤ 65 = omega (arith, c .fellows-of .ensures .2) in few) (c .before .wait-in .ensures .1))
+    (λ c. let f = c .before .fellows-of .ensures in sum-fits (f .3) (let few : _ ≤ 65 = omega (arith, f .2) in few) (c .before .before .wait-in .ensures .1))
     returns)

@@ -1,0 +1,31 @@
+-- The invariant: the figures below `x` are there.
+use Prim.Native.Nat.{_≤_, _-_}
+use mathlib.Core.Path.{_≡_, refl}
+use native.Mathlib.Omega.{arith}
+use lib.ListN.{getD, replicate}
+use Rattle.folds.specs.Bytes.{placedBelow}
+use Rattle.folds.proofs.Arrays.{placed-step, placed-done}
+use Rattle.analysis.proofs.holds_of.Statement.{statement}
+use Rattle.analysis.proofs.holds_of.Tie as tie
+
+abbrev Inv-loop : tie.InvT-loop
+Inv-loop figures times₀ x₀ times x = (x ≤ 1024) × (times ≡ placedBelow x (λ y. getD figures y 0) (replicate 1024 0))
+
+abbrev μ-loop : tie.MeasureT-loop
+μ-loop figures times₀ x₀ times x = 1024 - x
+
+loop-holds : tie.Need-loop-holds Inv-loop μ-loop
+unfolding placedBelow
+loop-holds c = (omega arith, refl)
+
+loop-again : tie.Need-loop-again Inv-loop μ-loop
+loop-again c = let l = c .before .before .loop in (omega arith, placed-step (l .x) _ _ (l .inv .1) refl)
+
+returns : tie.Need-returns Inv-loop μ-loop
+returns c = let l = c .before .loop in placed-done 1024 (l .x) _ _ (omega arith) (l .inv .1)
+
+pub holds-of-spec : {M : Type 1} → statement M
+holds-of-spec =
+    tie.close
+    (tie.spec
+    Inv-loop μ-loop loop-holds (λ c. omega arith) (λ c. omega arith) (λ c. omega arith) (λ c. omega arith) (λ c. omega arith) (λ c. omega arith) loop-again returns)
