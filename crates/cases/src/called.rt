@@ -6,7 +6,7 @@ use machine::Reply;
 use machine_calls::CallBytes;
 use machine_rules::Answer;
 use machine_rules::Call;
-use machine_state::Line;
+use machine_state::LineRow;
 use machine_state::Standing;
 use machine_state::State;
 use plan_rules::TaskRow;
@@ -148,7 +148,7 @@ fn turn(rows: [TaskRow; sizes::TASKS], tasks: [Standing; sizes::TASKS], q: u8, k
 }
 
 // A held resource: the hold left, the budget left, and its processors in order.
-fn line(rows: [TaskRow; sizes::TASKS], tasks: [Standing; sizes::TASKS], q: u8, l: Line) {
+fn line(rows: [TaskRow; sizes::TASKS], tasks: [Standing; sizes::TASKS], q: u8, l: LineRow) {
     print::number(q as u64);
     print::text(b":");
     print::digits(l.hold_left as u64);
@@ -169,7 +169,7 @@ fn line(rows: [TaskRow; sizes::TASKS], tasks: [Standing; sizes::TASKS], q: u8, l
 fn held(
     rows: [TaskRow; sizes::TASKS],
     tasks: [Standing; sizes::TASKS],
-    lines: [Line; sizes::RESOURCES],
+    lines: [LineRow; sizes::RESOURCES],
 ) {
     let mut some = false;
     let mut q = 0;

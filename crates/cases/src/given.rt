@@ -1,7 +1,7 @@
 // The parts of a case. Past its end a byte is 0 and a part is empty, so that no case can be unsafe.
 use machine_calls::CallBytes;
 use machine_calls::WIDTH;
-use machine_state::Line;
+use machine_state::LineRow;
 use machine_state::Standing;
 use machine_state::State;
 use plan_rules::Counts;
@@ -225,7 +225,7 @@ pub fn rows(case: &[u8]) -> Rows {
 
 // A state: for each resource how many are queued, 8 processors, in 2 bytes each the hold left and the budget left; then for each task
 // its resource and its place.
-fn line(s: &[u8], at: usize) -> Line
+fn line(s: &[u8], at: usize) -> LineRow
     requires { ⌜ at < 1000 ⌝ }
 {
     let queue = [
@@ -238,7 +238,7 @@ fn line(s: &[u8], at: usize) -> Line
         byte(s, at + 7),
         byte(s, at + 8),
     ];
-    Line {
+    LineRow {
         queued: byte(s, at),
         queue,
         hold_left: word(s, at + 9),
@@ -246,7 +246,7 @@ fn line(s: &[u8], at: usize) -> Line
     }
 }
 
-fn lines(s: &[u8]) -> [Line; sizes::RESOURCES] {
+fn lines(s: &[u8]) -> [LineRow; sizes::RESOURCES] {
     let first = line(s, 0);
     let mut rows = [first; sizes::RESOURCES];
     let mut q = 0;

@@ -1,6 +1,6 @@
 -- What a request is refused for, what it tells where it is not, and what it then does.
 use Prim.Native.Nat.{ℕ, _+_, _*_, _<_, _≤_}
-use mathlib.Core.Bool.{Bool, true, false, cond}
+use mathlib.Core.Bool.{Bool, true, false, cond, not}
 use mathlib.Core.List.{List}
 use mathlib.Core.Logic.{_≢_, _⊎_, inl, inr}
 use mathlib.Core.Path.{_≡_, refl, sym, _∙_}
@@ -8,7 +8,7 @@ use native.Mathlib.Omega.{arith}
 use native.Mathlib.Nat.{mul-le-mul}
 use borrow.Author.Tests.{eq-eqb, ne-eqb, eqb-true, lt-ltb, le-ltb, ltb-true, not-false}
 use lib.Dec.{eqb, ltb}
-use lib.ListN.{length, getD}
+use lib.ListN.{length}
 use Rattle.folds.proofs.Tests.{and-parts, code-zero, code-next}
 use Rattle.folds.proofs.Arrays.{by-eq}
 use Rattle.plan_reading.specs.Plan.{Plan, Valid}
@@ -19,19 +19,19 @@ use Rattle.analysis_equations.proofs.Laws.{hold-low}
 use Rattle.machine_rules.specs.declared.Answer.{Answer}
 use Rattle.machine_rules.specs.declared.Answer.the-variants.{Granted, Waits}
 use Rattle.machine_rules.specs.declared.Call.the-variants.{Request}
-use Rattle.machine_rules.specs.Machine.{View, busy, requestCode, requestTold, answer, step}
-use Rattle.analysis_hold_times.specs.Holds.{cell, Cells, share, Shares}
+use Rattle.machine_rules.specs.Machine.{View, busy, requestCode, requestTold}
+use Rattle.analysis_hold_times.specs.Figures.{Figures}
 use Rattle.machine_state.specs.declared.State.{State}
 use Rattle.machine_state.specs.Shows.{standing, lineAt, shows, noneInLine}
 use Rattle.machine_state.specs.Sound.{sound}
-use Rattle.machine_state.specs.Seats.{Seats}
+use Rattle.machine_state.specs.Inner.{Seats}
 use Rattle.machine_state.proofs.Tables.{low-processor}
 use Rattle.machine_state.proofs.Good.{Whole}
 use Rattle.machine_state.proofs.Wholes.{hold-user, hold-resource, whole-of, sound-of}
-use Rattle.machine_steps.specs.Steps.{joined, taken, takenHolds}
+use Rattle.machine_steps.specs.Inner.{Joining, joinedBy, taken, takenHolds}
 use Rattle.machine_steps.proofs.Joins.{aheadOf, entering, join-room, joined-whole, joined-shows}
 use Rattle.machine_steps.proofs.Asking.{taken-is, request-granted, request-waits, busy-is}
-use Rattle.machine.specs.Inner.{refusedAt, Done}
+use Rattle.machine.specs.Inner.{Acted}
 
 -- ── the number ──
 module _ (p : Plan) (l : View) (tag q : ℕ) {i : ℕ} (e : i ≡ taskNumber p tag) where
@@ -88,15 +88,11 @@ module _ (p : Plan) (v : Valid p) (s : State) (h : sound p s ≡ true) (tag q : 
   whole = whole-of p v s h
 
   module _ {i : ℕ} (e : i ≡ taskNumber p tag) (a : i < p .tasks) (some : 1 ≤ holdAt p i q) where
-    pub request-15 : standing (s .tasks) i .resource ≢ 255 → 15 ≡ requestCode p (shows p s) tag q
+    -- 15 or none, by what the row of the task says
+    pub request-by : {b : Bool} {k : ℕ} → b ≡ not (eqb (standing (s .tasks) i .resource) 255) → k ≡ cond b 15 0
+        → k ≡ requestCode p (shows p s) tag q
     unfolding requestCode
-    request-15 n =
-        rw (use-clear p v tag q e a some, ← e, busy-is p v s whole i a, ne-eqb (standing (s .tasks) i .resource) 255 n)
-
-    pub request-0 : standing (s .tasks) i .resource ≡ 255 → 0 ≡ requestCode p (shows p s) tag q
-    unfolding requestCode
-    request-0 z =
-        rw (use-clear p v tag q e a some, ← e, busy-is p v s whole i a, eq-eqb (standing (s .tasks) i .resource) 255 z)
+    request-by h j = rw (use-clear p v tag q e a some, ← e, busy-is p v s whole i a, ← h) j
 
   -- what the number 0 tells
   pub request-free : {i : ℕ} → i ≡ taskNumber p tag → requestCode p (shows p s) tag q ≡ 0 → Free p s i q
@@ -121,36 +117,24 @@ module _ (p : Plan) (v : Valid p) (s : State) (h : sound p s ≡ true) (tag q : 
       none r (inl e) = e
       none r (inr x) = let bad : ⊥ = omega (arith, v .resources, hold-resource p v i (standing (s .tasks) i .resource) x) in absurd bad
 
-  -- ── what a request does ──
-  pub ask-refused : {k : ℕ} → k ≡ requestCode p (shows p s) tag q → k ≢ 0 → Done p s (Request tag q) (refusedAt s k)
-  unfolding answer step
-  ask-refused {k} e d =
-      record {
-        answer = rw (← e, ne-eqb k 0 d);
-        unchanged = λ n. refl;
-        sound = h;
-        shows = rw (← e, ne-eqb k 0 d);
-      }
-
--- a request that is not refused, on a sound state, with the tables of the plan and the state
-pub record Accepted (p : Plan) (s : State) (tag q : ℕ) (holds budgets seats : List ℕ) : Type 0 where
+-- ── what a request does that is not refused ──
+-- on a sound state, with the tables of the plan and the state
+pub record Accepted (p : Plan) (s : State) (tag q : ℕ) (figures seats : List ℕ) : Type 0 where
   pub valid : Valid p
   pub sound : sound p s ≡ true
   pub tasks-long : length (s .tasks) ≡ 64
   pub lines-long : length (s .lines) ≡ 16
   pub code : requestCode p (shows p s) tag q ≡ 0
-  pub cells : Cells (holdAt p) holds
-  pub shares : Shares p budgets
+  pub table : Figures p figures
   pub seated : Seats p (s .tasks) seats
 
--- what the code calls the task, its processor and the resource: i, k and q, and the last two m and r where they index a table
-pub record Named (p : Plan) (tag q i k r m : ℕ) : Type 0 where
+-- what the code calls the task, its processor and the resource: i, k and r
+pub record Named (p : Plan) (tag q i k r : ℕ) : Type 0 where
   pub task : i ≡ taskNumber p tag
   pub processor : k ≡ processorOf p i
   pub resource : r ≡ q
-  pub core : m ≡ k
 
-module _ {p : Plan} {s : State} {tag q : ℕ} {holds budgets seats : List ℕ} (h : Accepted p s tag q holds budgets seats) where
+module _ {p : Plan} {s : State} {tag q : ℕ} {figures seats : List ℕ} (h : Accepted p s tag q figures seats) where
   abbrev v : Valid p
   v = h .valid
 
@@ -170,47 +154,50 @@ module _ {p : Plan} {s : State} {tag q : ℕ} {holds budgets seats : List ℕ} (
   low-core = low-processor p v i (may .task)
 
   -- it joins the line, whatever the answer
-  done : {a : Answer} → a ≡ requestTold p i q (shows p s .lines q) → Done p s (Request tag q) (record { answer = a; state = entering p s i q })
-  unfolding answer step
+  done : {a : Answer} → a ≡ requestTold p i q (shows p s .lines q) → Acted p s (Request tag q) (record { answer = a; state = entering p s i q })
   done e =
       record {
-        answer = rw (h .code) e;
-        unchanged = λ n. absurd (n (h .code));
+        answer = e;
         sound = sound-of p v (entering p s i q) (joined-whole p v s w (h .tasks-long) (h .lines-long) i q (may .task) (may .some) (may .idle));
-        shows = rw (h .code) (joined-shows p v s w (h .tasks-long) (h .lines-long) i q (may .task) (may .some) (may .idle));
+        shows = joined-shows p v s w (h .tasks-long) (h .lines-long) i q (may .task) (may .some) (may .idle);
       }
 
   -- and so the code has it
-  module _ {j k r m n : ℕ} (g : Named p tag q j k r m) (e : n ≡ taken seats r k) where
+  module _ {j k r n : ℕ} (g : Named p tag q j k r) (e : n ≡ taken seats r k) where
     ahead : n ≡ aheadOf p s i q
     ahead = e ∙ rw (g .processor, g .task, g .resource) (taken-is p v s w q (processorOf p i) low low-core (h .seated))
 
-    pub ask-room : n ≡ 0 → lineAt s q .queued < 8
-    ask-room z = join-room p v s w (h .tasks-long) (h .lines-long) i q (may .task) (may .some) (may .idle) (sym ahead ∙ z)
+    pub ask-joins : Joining figures s q j k n
+    ask-joins =
+        record {
+          figures-long = h .table .long;
+          resource = low;
+          task = omega (arith, g .task, v .tasks, may .task);
+          core = rw (g .processor, g .task) low-core;
+          room = λ z. join-room p v s w (h .tasks-long) (h .lines-long) i q (may .task) (may .some) (may .idle) (sym ahead ∙ z);
+        }
 
-    module _ {next : State} (made : next ≡ joined s q j k n (getD holds (cell j r) 0) (getD budgets (share m r) 0)) where
+    module _ {next : State} (made : next ≡ joinedBy figures s q j k n) where
       joined-is : next ≡ entering p s i q
       joined-is =
           made
           ∙ rw (
             ahead,
-            g .core,
             g .processor,
             g .task,
-            g .resource,
-            h .cells .at i q (omega (arith, v .tasks, may .task)) low,
-            h .shares .at (processorOf p i) q low-core low,
+            h .table .hold i q (omega (arith, v .tasks, may .task)) low,
+            h .table .budget (processorOf p i) q low-core low,
           )
 
-      pub ask-granted : lineAt s r .queued ≡ 0 → Done p s (Request tag q) (record { answer = Granted; state = next })
+      pub ask-granted : lineAt s r .queued ≡ 0 → Acted p s (Request tag q) (record { answer = Granted; state = next })
       ask-granted z = rw joined-is (done (sym (request-granted p v s w i q (rw (g .resource) at z))))
 
-      pub ask-waits : {x y : ℕ} → lineAt s r .queued ≢ 0 → x ≡ takenHolds holds seats r k → y ≡ waitTime p k r
-          → Done p s (Request tag q) (record { answer = Waits n (x + (n + 1) * y); state = next })
+      pub ask-waits : {x y : ℕ} → lineAt s r .queued ≢ 0 → x ≡ takenHolds figures seats r k → y ≡ waitTime p k r
+          → Acted p s (Request tag q) (record { answer = Waits n (x + (n + 1) * y); state = next })
       ask-waits {x} {y} d a b =
           let queued : 1 ≤ lineAt s q .queued = omega (arith, rw (g .resource) at d) in
           rw joined-is
-          (done (rw (e, a, b, g .processor, g .task, g .resource) (sym (request-waits p v s w i q queued low (may .task) (h .seated) (h .cells)))))
+          (done (rw (e, a, b, g .processor, g .task, g .resource) (sym (request-waits p v s w i q queued low (may .task) (h .seated) (h .table)))))
 
 -- a limit has 32 bits
 pub waits-high : (n w : ℕ) → n ≤ 64 → w ≤ 524280 → (n + 1) * w ≤ 34078200

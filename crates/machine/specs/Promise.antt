@@ -81,7 +81,7 @@ pub record FreshRan (f : List ℕ) (calls : List Call) (end : State) : Type 0 wh
 pub record LongestKept (f : List ℕ) : Type 0 where
   -- no request, on the state that any list of calls returned from a sound one, is told more; and it is one of which the question is
   -- not refused
-  pub told : (start : State) → Start f start → (calls : List Call) (s : State) → Returned f start calls s
+  pub never-told-more : (start : State) → Start f start → (calls : List Call) (s : State) → Returned f start calls s
       → (tag q ahead most : ℕ) → reply f s (Request tag q) ≡ Waits ahead most
       → (useCode (planOf f) tag q ≡ 0) × (most ≤ longestWait (planOf f) (taskNumber (planOf f) tag) q)
   -- so nobody who waits is kept longer

@@ -16,7 +16,7 @@ use Rattle.queue_rules.specs.Rules.{Line, line, turn, released}
 use Rattle.machine_rules.specs.declared.Call.{Call}
 use Rattle.machine_rules.specs.declared.Call.the-variants.{Request, Release, Tick}
 use Rattle.machine_rules.specs.declared.Answer.the-variants.{Refused}
-use Rattle.machine_rules.specs.Machine.{View, terms, busy, requestCode, releaseCode, callCode, requestTold, releaseTold, told}
+use Rattle.machine_rules.specs.Machine.{View, terms, busy, requestCode, releaseCode, callCode, requestTold, releaseTold, acceptedAnswer}
 use Rattle.machine_state.specs.declared.State.{State}
 use Rattle.machine_state.specs.Shows.{shows}
 use Rattle.machine.specs.Replies.{stateRefusal, callRefusal, reply}
@@ -47,11 +47,11 @@ module _ (f : List ℕ) (q : ℕ) where
 module _ (f : List ℕ) (bytes : (k : ℕ) → k < length f → getD f k 0 < 256) (s : State) where
   -- a call that is not refused
   reply-names : (c : Call) (q : ℕ)
-      → (callCode (planOf f) (shows (planOf f) s) c ≡ 0 → Checked f → Names f q (told (planOf f) (shows (planOf f) s) c))
+      → (callCode (planOf f) (shows (planOf f) s) c ≡ 0 → Checked f → Names f q (acceptedAnswer (planOf f) (shows (planOf f) s) c))
       → Names f q (reply f s c)
   unfolding reply callRefusal
   reply-names c q n =
-      by-eq (λ (b : Bool). Names f q (cond b (told (planOf f) (shows (planOf f) s) c) (Refused (callRefusal f s c)))) (callRefusal f s c) 0
+      by-eq (λ (b : Bool). Names f q (cond b (acceptedAnswer (planOf f) (shows (planOf f) s) c) (Refused (callRefusal f s c)))) (callRefusal f s c) 0
       (λ e. n (then-zero (stateRefusal f s) _ e) (accepted-checked (record { none = first-zero (refusal f) _ (first-zero (stateRefusal f s) _ e); bytes = bytes })))
       (λ d. tt)
 

@@ -44,12 +44,11 @@ fn put_call(
     at: usize,
     file: &[u8],
     code: u8,
-    holds: &[u16],
-    budgets: &[u16],
+    figures: &[u16],
     state: State,
     bytes: CallBytes,
 ) -> Step
-    requires { ⌜ (Surveyed (now file) code (now holds) (now budgets)) × (at + 96 ≤ length (now buf)) ⌝ }
+    requires { ⌜ (Surveyed (now file) code (now figures)) × (at + 96 ≤ length (now buf)) ⌝ }
     ensures { λ r. ⌜ Stepped (now (file .entry)) state bytes (now (buf .entry)) (now (buf .exit)) at r ⌝ }
 {
     let decoded = machine_calls::decode(bytes.letter, bytes.tag, bytes.resource);
@@ -58,7 +57,7 @@ fn put_call(
         return Step { end, state };
     }
     let wanted = decoded.call;
-    let reply = machine::surveyed::call(file, code, holds, budgets, state, wanted);
+    let reply = machine::surveyed::call(file, code, figures, state, wanted);
     let answer = reply.answer;
     let next = reply.state;
     let end = print_lines::put_answer(buf, at, file, bytes.tag, bytes.resource, answer);
@@ -105,15 +104,14 @@ pub fn call_line(file: &[u8], state: State, bytes: CallBytes, out: &mut [u8]) ->
     ensures { λ r. ⌜ now (out .exit) ≡ lineInUnless (stateRefusal (now (file .entry)) state) (callLine (now (file .entry)) state bytes) (now (out .entry)) ⌝ }
     ensures { λ r. ⌜ StateBeside (r .line .refusal) state (r .state) (AfterBytes (now (file .entry)) state (callIn bytes)) ⌝ }
 {
-    let mut holds = [0u16; 1024];
-    let mut budgets = [0u16; 128];
-    let code = machine::surveyed::look(file, &mut holds, &mut budgets);
-    let first = machine::surveyed::state_code(file, code, &holds, &budgets, state);
+    let mut figures = [0u16; analysis_hold_times::FIGURES];
+    let code = machine::surveyed::look(file, &mut figures);
+    let first = machine::surveyed::state_code(file, code, &figures, state);
     if first != 0 {
         return no_line(first, state);
     }
     let mut buf = [0u8; 96];
-    let step = put_call(&mut buf, 0, file, code, &holds, &budgets, state, bytes);
+    let step = put_call(&mut buf, 0, file, code, &figures, state, bytes);
     let end = step.end;
     let line = print_text::hand_over(&buf[0..end], out);
     let next = step.state;
@@ -155,10 +153,9 @@ fn none_made(refusal: u8, state: State) -> Batch
 pub fn lines(file: &[u8], state: State, calls: &[u8], out: &mut [u8]) -> Batch
     ensures { λ r. ⌜ Told (now (file .entry)) state (now (calls .entry)) (now (out .entry)) (now (out .exit)) r ⌝ }
 {
-    let mut holds = [0u16; 1024];
-    let mut budgets = [0u16; 128];
-    let code = machine::surveyed::look(file, &mut holds, &mut budgets);
-    let first = machine::surveyed::state_code(file, code, &holds, &budgets, state);
+    let mut figures = [0u16; analysis_hold_times::FIGURES];
+    let code = machine::surveyed::look(file, &mut figures);
+    let first = machine::surveyed::state_code(file, code, &figures, state);
     let refusal = lines_code(first, calls.len(), out.len());
     if refusal != 0 {
         return none_made(refusal, state);
@@ -172,8 +169,7 @@ pub fn lines(file: &[u8], state: State, calls: &[u8], out: &mut [u8]) -> Batch
             end,
             file,
             code,
-            &holds,
-            &budgets,
+            &figures,
             current,
             machine_calls::bytes_at(calls, used, WIDTH),
         );

@@ -11,15 +11,18 @@ use Rattle.print_calls.proofs.lines.Statement.{statement}
 use Rattle.print_calls.proofs.lines.Tie as tie
 
 abbrev Inv-loop : tie.InvT-loop
-Inv-loop file calls out₀ holds budgets code first refusal current₀ used₀ end₀ out current used end =
-    (Surveyed file code holds budgets) × (Written file current₀ calls out₀ out used end current) × (Begun used end)
+Inv-loop file calls out₀ figures code first refusal current₀ used₀ end₀ out current used end =
+    (Surveyed file code figures) × (Written file current₀ calls out₀ out used end current) × (Begun used end)
 
 abbrev μ-loop : tie.MeasureT-loop
-μ-loop file calls out₀ holds budgets code first refusal current₀ used₀ end₀ out current used end = length calls - used
+μ-loop file calls out₀ figures code first refusal current₀ used₀ end₀ out current used end = length calls - used
+
+abbrev start : tie.After-state-code Inv-loop μ-loop → tie.Start Inv-loop μ-loop
+start c = c .before .before .before .before .before .before .before .before
 
 -- ── the turn of the loop that a place is in ──
-abbrev turn : tie.After-budgets4 Inv-loop μ-loop → tie.In-loop Inv-loop μ-loop
-turn c = c .before .before .before
+abbrev turn : tie.After-figures4 Inv-loop μ-loop → tie.In-loop Inv-loop μ-loop
+turn c = c .before .before
 
 abbrev made : tie.After-current Inv-loop μ-loop → tie.After-bytes-at Inv-loop μ-loop
 made c = c .before .before .before .before
@@ -29,12 +32,12 @@ small t = omega (arith, call-left (t .before .loop .inv .1) (t .loop-test .taken
 
 returns : tie.Need-returns Inv-loop μ-loop
 returns c =
-    let a = c .before .before .before .before .before .before .before .before .before .before .before .before .before .before .args in
     let l = c .before .before in
+    let a = start (l .before) .args in
     rw (c .none-made .ensures) (told-none _ _ (a .calls .now) _ (l .before .state-code .ensures) (l .lines-code .ensures) (c .before .if1 .taken))
 
 loop-holds : tie.Need-loop-holds Inv-loop μ-loop
-loop-holds c = (c .before .before .before .before .before .before .before .look .ensures .0, written-none _ _ _ _, not-begun)
+loop-holds c = (c .before .before .before .before .before .look .ensures .0, written-none _ _ _ _, not-begun)
 
 sub-loop-2 : tie.Need-sub-loop-2 Inv-loop μ-loop
 sub-loop-2 c = rw (c .loop .inv .1 .long) (c .loop .inv .1 .fits)
@@ -69,8 +72,8 @@ returns-2 : tie.Need-returns-2 Inv-loop μ-loop
 returns-2 c =
     let i = c .before .loop in
     let w = i .inv .1 in
-    let a = c .before .before .before .before .before .before .before .before .before .before .before .before .before .before .before .args in
     let l = c .before .before .before in
+    let a = start (l .before) .args in
     let e = ended-by _ (i .used) _ (i .end) (w .within) (w .fits) (rw (w .long) at (c .loop-test .left)) in
     told-lines _ _ (a .calls .now) _ (l .before .state-code .ensures) (l .lines-code .ensures) (c .before .before .if1 .left) w (i .inv .2) e
 
@@ -78,7 +81,6 @@ pub lines-spec : {M : Type 1} → statement M
 lines-spec =
     tie.close
     (tie.spec Inv-loop μ-loop
-    (λ c. search needs) (λ c. search needs) (λ c κs. search needs) (λ c. search needs) (λ c. search needs) (λ c κs. search needs)
-    (λ c κs. search needs) (λ c κs. search needs) returns loop-holds (λ c. c .loop .inv .1 .within) sub-loop-2 (λ c. search needs)
-    (λ c. search needs)
-    bytes-at-requires put-call-requires add-used loop-less loop-again (λ c. c .before .loop .inv .1 .long) returns-2)
+    (λ c. search needs) (λ c κs. search needs) (λ c. search needs) (λ c κs. search needs) (λ c κs. search needs) (λ c κs. search needs)
+    returns loop-holds (λ c. c .loop .inv .1 .within) sub-loop-2 (λ c. search needs) bytes-at-requires put-call-requires add-used
+    loop-less loop-again (λ c. c .before .loop .inv .1 .long) returns-2)

@@ -16,15 +16,19 @@ returns c =
 put-answer-requires : tie.Need-put-answer-requires
 put-answer-requires c κs =
     let i = c .before .before .before in
-    let e = decoded-call _ (i .before .before .decode .ensures) (i .if1 .left) in
-    (rw (c .before .before .call .ensures .0) (call-names _ (λ k l. c .before .before .before .before .before .before .before .before .shared-slice-known .given k .fits) _ _ _ e), search needs)
+    let d = i .before .before in
+    let file = d .before .before .shared-slice-known .given in
+    let e = decoded-call _ (d .decode .ensures) (i .if1 .left) in
+    (rw (c .before .before .call .ensures .0) (call-names _ (λ k l. file k .fits) _ _ _ e), search needs)
 
 returns-2 : tie.Need-returns-2
 returns-2 c =
-    let i = c .before .before .before .before .before .before in
+    let put = c .before .before in
+    let made = put .before .before .before in
+    let i = made .before in
     let e = decoded-call _ (i .before .before .decode .ensures) (i .if1 .left) in
-    let r = c .before .before .before .before .before .call .ensures in
-    let p = c .before .before .put-answer .ensures in
+    let r = made .call .ensures in
+    let p = put .put-answer .ensures in
     stepped-call _ _ _ _ e (r .0) (r .1) (p .0) (p .1)
 
 pub put-call-spec : {M : Type 1} → statement M
