@@ -1,5 +1,5 @@
-//! The proved code, from the archives of `crates/plan_c`, `crates/analysis_c`, `crates/machine_c` and `crates/sheet_c`. Each function
-//! returns one number; but for those of the machine it has the refusal in the low byte, and a figure above it.
+//! The proved code, from the archive of `crates/bench_hooks`. Each function returns one number, with the refusal in the low byte and a
+//! figure above it; `row` alone has a part of a state in all its bytes.
 
 mod archive {
     extern "C" {

@@ -12,7 +12,9 @@ use Rattle.folds.specs.Bytes.{placedBelow}
 use Rattle.folds.proofs.Tests.{code-zero, code-next}
 use Rattle.folds.proofs.Arrays.{by-eq, placed-same}
 use Rattle.plan_reading.specs.Plan.{Plan, planOf, Checked}
-use Rattle.plan_reading.specs.Reading.{refusal, answered}
+use Rattle.refusals.specs.Outcomes.{outcome}
+use Rattle.plan.specs.Acceptance.{refusal}
+use Rattle.plan.proofs.Laws.{accepted-checked}
 use Rattle.analysis_equations.specs.HoldTimes.{holdAt}
 use Rattle.analysis_equations.specs.Blocking.{globalCount}
 use Rattle.analysis_equations.specs.Requirement.{asks, met, admitted}
@@ -29,9 +31,9 @@ use Rattle.analysis.specs.declared.AdmissionAnswer.{AdmissionAnswer}
 use Rattle.analysis.specs.declared.AdmissionAnswer.the-variants as admissions
 use Rattle.analysis.specs.Answers.{afterReading, figure, figureTold, shareCode, requirementGiven, requirementValues, requirementTold, signedAnswered, admissionAnswer, admissionTold, holdTimes}
 
--- a file of bytes that no check refused
+-- a file of bytes whose plan is not refused
 pub checked-file : (f : List ℕ) → refusal f ≡ 0 → ((i : ℕ) → getD f i 0 < 256) → Checked f
-checked-file f z b = record { none = z; bytes = λ i l. b i }
+checked-file f z b = accepted-checked (record { none = z; bytes = λ i l. b i })
 
 -- a number is that of the reading, or the one that comes after it
 module _ (f : List ℕ) (n : ℕ) where
@@ -63,11 +65,11 @@ pub reading-figure : (f : List ℕ) (n v : ℕ) {k : ℕ} {r : Figure} → k ≡
 reading-figure f n v e z h = rw (reading-holds f n e z) h
 
 -- both things that a contract says of an answer
-pub figure-told : (k v : ℕ) {r : Figure} → r ≡ figure k v → (r ≡ figure k v) × (figureTold r ≡ answered k (v ∷ []))
+pub figure-told : (k v : ℕ) {r : Figure} → r ≡ figure k v → (r ≡ figure k v) × (figureTold r ≡ outcome k (v ∷ []))
 unfolding figure
 figure-told k v e = (e, ap figureTold e ∙ go)
   where
-    go : figureTold (figure k v) ≡ answered k (v ∷ [])
+    go : figureTold (figure k v) ≡ outcome k (v ∷ [])
     go =
         by-eq
         (λ (b : Bool). figureTold (cond b (Given v) (Refused k)) ≡ record { number = k; values = cond b (v ∷ []) [] })
@@ -189,11 +191,11 @@ module _ (f : List ℕ) where
   unfolding admissionAnswer
   admission-decided z e = rw (z, e)
 
-  pub admission-told : {a : AdmissionAnswer} → a ≡ admissionAnswer f → (a ≡ admissionAnswer f) × (admissionTold a ≡ answered (refusal f) (cond (admitted (planOf f)) 1 0 ∷ []))
+  pub admission-told : {a : AdmissionAnswer} → a ≡ admissionAnswer f → (a ≡ admissionAnswer f) × (admissionTold a ≡ outcome (refusal f) (cond (admitted (planOf f)) 1 0 ∷ []))
   unfolding admissionAnswer
   admission-told e = (e, ap admissionTold e ∙ go)
     where
-      go : admissionTold (admissionAnswer f) ≡ answered (refusal f) (cond (admitted (planOf f)) 1 0 ∷ [])
+      go : admissionTold (admissionAnswer f) ≡ outcome (refusal f) (cond (admitted (planOf f)) 1 0 ∷ [])
       go =
           by-eq
           (λ (b : Bool). admissionTold (cond b (admissions.Decided (admitted (planOf f))) (admissions.Refused (refusal f))) ≡ record { number = refusal f; values = cond b (cond (admitted (planOf f)) 1 0 ∷ []) [] })

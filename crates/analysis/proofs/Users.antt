@@ -8,7 +8,7 @@ use borrow.Author.Tests.{ne-eqb, not-false}
 use lib.ListN.{getD}
 use Rattle.folds.proofs.Tests.{and-parts}
 use Rattle.plan_reading.specs.Plan.{Plan, Valid, planOf, Checked}
-use Rattle.plan_reading.specs.Reading.{refusal}
+use Rattle.plan.specs.Acceptance.{refusal}
 use Rattle.plan_reading.proofs.Laws.{valid-plan}
 use Rattle.analysis_equations.specs.Sharing.{uses, global}
 use Rattle.analysis_equations.specs.HoldTimes.{holdTime, holdAt}

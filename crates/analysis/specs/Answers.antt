@@ -6,7 +6,8 @@ use lib.Dec.{eqb}
 use lib.IntN.{ℤ, pos}
 use lib.ListN.{replicate}
 use Rattle.folds.specs.Bytes.{placedBelow}
-use Rattle.plan_reading.specs.Reading.{refusal, Told}
+use Rattle.refusals.specs.Outcomes.{Outcome}
+use Rattle.plan.specs.Acceptance.{refusal}
 use Rattle.plan_reading.specs.Plan.{planOf}
 use Rattle.analysis_equations.specs.HoldTimes.{holdTime, holdAt}
 use Rattle.analysis_equations.specs.Requirement.{admitted}
@@ -31,7 +32,7 @@ unfoldable pub figure : ℕ → ℕ → Figure
 figure k v = cond (eqb k 0) (figures.Given v) (figures.Refused k)
 
 -- what a figure's answer tells
-abbrev pub figureTold : Figure → Told
+abbrev pub figureTold : Figure → Outcome
 figureTold (figures.Given v) = record { number = 0; values = v ∷ [] }
 figureTold (figures.Refused k) = record { number = k; values = [] }
 
@@ -87,7 +88,7 @@ unfoldable pub admissionAnswer : List ℕ → AdmissionAnswer
 admissionAnswer f = cond (eqb (refusal f) 0) (admissions.Decided (admitted (planOf f))) (admissions.Refused (refusal f))
 
 -- 1 for admitted
-abbrev pub admissionTold : AdmissionAnswer → Told
+abbrev pub admissionTold : AdmissionAnswer → Outcome
 admissionTold (admissions.Decided b) = record { number = 0; values = cond b 1 0 ∷ [] }
 admissionTold (admissions.Refused k) = record { number = k; values = [] }
 

@@ -6,8 +6,9 @@ ghost use mathlib.Core.Bool.{cond, not, _||_};
 ghost use mathlib.Core.List.{[], _∷_};
 ghost use Prim.Native.Nat.{_<_};
 ghost use lib.ListN.{length, getD, replicate};
+ghost use Rattle.refusals.specs.Outcomes.{outcome};
 ghost use Rattle.folds.specs.Bytes.{placedBelow};
-ghost use Rattle.plan_reading.specs.Reading.{refusal, answered};
+ghost use Rattle.plan.specs.Acceptance.{refusal};
 ghost use Rattle.plan_reading.specs.Plan.{planOf, Checked};
 ghost use Rattle.analysis_equations.specs.HoldTimes.{budget, waitTime};
 ghost use Rattle.analysis_equations.specs.Blocking.{globalCount, ceiling};
@@ -81,7 +82,7 @@ fn user_of(file: &[u8], tag: u16, q: u8, figures: &mut [u16]) -> User
     requires { ⌜ now figures ≡ replicate figureCount 0 ⌝ }
     ensures { λ r. ⌜ Found (now (file .entry)) tag q (holdCode (now (file .entry)) tag q) (now (figures .exit)) r ⌝ }
 {
-    let code = plan_reading::check(file);
+    let code = plan::check(file);
     if code != 0 {
         return User { code, task: 0 };
     }
@@ -91,7 +92,7 @@ fn user_of(file: &[u8], tag: u16, q: u8, figures: &mut [u16]) -> User
 // The hold time of a resource by the task with this tag.
 pub fn hold_time(file: &[u8], tag: u16, resource: u8) -> Figure
     ensures { λ r. ⌜ r ≡ figure (holdCode (now (file .entry)) tag resource) (holdFigure (now (file .entry)) tag resource) ⌝ }
-    ensures { λ r. ⌜ figureTold r ≡ answered (holdCode (now (file .entry)) tag resource) (holdFigure (now (file .entry)) tag resource ∷ []) ⌝ }
+    ensures { λ r. ⌜ figureTold r ≡ outcome (holdCode (now (file .entry)) tag resource) (holdFigure (now (file .entry)) tag resource ∷ []) ⌝ }
 {
     let mut figures = [0u16; analysis_hold_times::FIGURES];
     let user = user_of(file, tag, resource, &mut figures);
@@ -105,7 +106,7 @@ pub fn hold_time(file: &[u8], tag: u16, resource: u8) -> Figure
 // The longest wait of the task with this tag for a resource: how long it can be kept waiting, whatever is called.
 pub fn longest_wait(file: &[u8], tag: u16, resource: u8) -> Figure
     ensures { λ r. ⌜ r ≡ figure (holdCode (now (file .entry)) tag resource) (longestFigure (now (file .entry)) tag resource) ⌝ }
-    ensures { λ r. ⌜ figureTold r ≡ answered (holdCode (now (file .entry)) tag resource) (longestFigure (now (file .entry)) tag resource ∷ []) ⌝ }
+    ensures { λ r. ⌜ figureTold r ≡ outcome (holdCode (now (file .entry)) tag resource) (longestFigure (now (file .entry)) tag resource ∷ []) ⌝ }
 {
     let mut figures = [0u16; analysis_hold_times::FIGURES];
     let user = user_of(file, tag, resource, &mut figures);
@@ -148,7 +149,7 @@ fn processor_code(file: &[u8], k: u8, q: u8) -> u8
 fn share_code(file: &[u8], k: u8, q: u8) -> u8
     ensures { λ r. ⌜ r ≡ shareCode (now (file .entry)) k q ⌝ }
 {
-    let code = plan_reading::check(file);
+    let code = plan::check(file);
     if code != 0 {
         return code;
     }
@@ -158,7 +159,7 @@ fn share_code(file: &[u8], k: u8, q: u8) -> u8
 // The budget of a processor on a resource; 0 where none of its tasks uses it, or it is local.
 pub fn budget(file: &[u8], processor: u8, resource: u8) -> Figure
     ensures { λ r. ⌜ r ≡ figure (shareCode (now (file .entry)) processor resource) (budget (planOf (now (file .entry))) processor resource) ⌝ }
-    ensures { λ r. ⌜ figureTold r ≡ answered (shareCode (now (file .entry)) processor resource) (budget (planOf (now (file .entry))) processor resource ∷ []) ⌝ }
+    ensures { λ r. ⌜ figureTold r ≡ outcome (shareCode (now (file .entry)) processor resource) (budget (planOf (now (file .entry))) processor resource ∷ []) ⌝ }
 {
     let code = share_code(file, processor, resource);
     if code != 0 {
@@ -171,7 +172,7 @@ pub fn budget(file: &[u8], processor: u8, resource: u8) -> Figure
 // The wait time of a processor on a resource: the sum of the budgets of all others.
 pub fn wait_time(file: &[u8], processor: u8, resource: u8) -> Figure
     ensures { λ r. ⌜ r ≡ figure (shareCode (now (file .entry)) processor resource) (waitTime (planOf (now (file .entry))) processor resource) ⌝ }
-    ensures { λ r. ⌜ figureTold r ≡ answered (shareCode (now (file .entry)) processor resource) (waitTime (planOf (now (file .entry))) processor resource ∷ []) ⌝ }
+    ensures { λ r. ⌜ figureTold r ≡ outcome (shareCode (now (file .entry)) processor resource) (waitTime (planOf (now (file .entry))) processor resource ∷ []) ⌝ }
 {
     let code = share_code(file, processor, resource);
     if code != 0 {
@@ -216,7 +217,7 @@ pub fn requirement(file: &[u8], tag: u16) -> RequirementAnswer
     ensures { λ r. ⌜ r ≡ requirementGiven (requirementNumber (now (file .entry)) tag) (requirementFigures (now (file .entry)) tag) ⌝ }
     ensures { λ r. ⌜ requirementTold r ≡ signedAnswered (requirementNumber (now (file .entry)) tag) (requirementValues (requirementFigures (now (file .entry)) tag)) ⌝ }
 {
-    let code = plan_reading::check(file);
+    let code = plan::check(file);
     if code != 0 {
         return RequirementAnswer::Refused(code);
     }
@@ -292,9 +293,9 @@ fn decided(file: &[u8]) -> bool
 // Whether the plan is admitted: every task with a global section has its requirement met.
 pub fn admission(file: &[u8]) -> AdmissionAnswer
     ensures { λ r. ⌜ r ≡ admissionAnswer (now (file .entry)) ⌝ }
-    ensures { λ r. ⌜ admissionTold r ≡ answered (refusal (now (file .entry))) (cond (admitted (planOf (now (file .entry)))) 1 0 ∷ []) ⌝ }
+    ensures { λ r. ⌜ admissionTold r ≡ outcome (refusal (now (file .entry))) (cond (admitted (planOf (now (file .entry)))) 1 0 ∷ []) ⌝ }
 {
-    let code = plan_reading::check(file);
+    let code = plan::check(file);
     if code != 0 {
         return AdmissionAnswer::Refused(code);
     }
@@ -319,7 +320,7 @@ fn holds_of(figures: &[u16]) -> [u16; 1024]
 pub fn hold_times(file: &[u8]) -> HoldTimes
     ensures { λ r. ⌜ r ≡ holdTimes (now (file .entry)) ⌝ }
 {
-    let code = plan_reading::check(file);
+    let code = plan::check(file);
     if code != 0 {
         return HoldTimes {
             times: [0u16; 1024],

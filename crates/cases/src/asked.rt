@@ -8,13 +8,19 @@ use analysis::RequirementAnswer;
 use analysis_requirements::Requirement;
 use print_text::Line;
 
+// The entries of the table of all hold times.
+const HOLDS: usize = sizes::TASKS * sizes::RESOURCES;
+
+// A buffer in which every sheet has room.
+const SHEET: usize = 131072;
+
 fn figure(answer: Figure, name: &[u8]) {
     match answer {
         Figure::Given(n) => {
             print::text(name);
             print::number(n as u64);
         }
-        Figure::Refused(k) => print::refused(k),
+        Figure::Refused(code) => print::refused(code),
     }
 }
 
@@ -73,7 +79,7 @@ pub fn requirement(case: &[u8]) {
     let tag = given::word(case, 0);
     match analysis::requirement(file(case, 2), tag) {
         RequirementAnswer::Found(r) => found(r),
-        RequirementAnswer::Refused(k) => print::refused(k),
+        RequirementAnswer::Refused(code) => print::refused(code),
     }
 }
 
@@ -81,7 +87,7 @@ pub fn requirement(case: &[u8]) {
 pub fn admission(case: &[u8]) {
     match analysis::admission(case) {
         AdmissionAnswer::Decided(b) => print::which(b, b"admitted", b"not admitted"),
-        AdmissionAnswer::Refused(k) => print::refused(k),
+        AdmissionAnswer::Refused(code) => print::refused(code),
     }
 }
 
@@ -95,10 +101,10 @@ pub fn holds(case: &[u8]) {
     print::text(b"holds");
     let times = found.times;
     let mut x = 0;
-    while x < 1024 {
-        let q = x / 64;
-        let i = x % 64;
-        let time = times[i * 16 + q];
+    while x < HOLDS {
+        let q = x / sizes::TASKS;
+        let i = x % sizes::TASKS;
+        let time = times[i * sizes::RESOURCES + q];
         if time != 0 {
             print::number(time as u64);
         }
@@ -114,16 +120,15 @@ fn make(case: &[u8], buf: &mut [u8]) -> Line {
 
 // The sheet of a plan on lines of its own, behind its length and whether what lies behind it in the buffer is as it was.
 pub fn sheet(case: &[u8]) {
-    let mut buf = [170u8; 131072];
+    let mut buf = [same::FILL; SHEET];
     let made = make(case, &mut buf);
     if made.refusal == 0 {
         print::text(b"sheet");
         print::number(made.length as u64);
-        let behind = given::part(&buf, made.length, 131072);
-        print::which(same::untouched(behind), b" right\n", b" wrong\n");
+        print::which(same::untouched(&buf, made.length), b" right\n", b" wrong\n");
         print::text(given::without_end(&buf, made.length));
     } else {
         print::refused(made.refusal);
-        print::which(same::untouched(&buf), b" unchanged", b" changed");
+        print::unchanged(same::untouched(&buf, 0));
     }
 }

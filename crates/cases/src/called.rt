@@ -33,11 +33,7 @@ pub fn behind(case: &[u8]) -> &[u8] {
 fn is_refusal(answer: Answer) -> bool {
     match answer {
         Answer::Refused(_) => true,
-        Answer::Granted => false,
-        Answer::Waits(_, _) => false,
-        Answer::Next(_) => false,
-        Answer::Free => false,
-        Answer::Ticked(_, _) => false,
+        _ => false,
     }
 }
 
@@ -61,7 +57,7 @@ fn answer(answer: Answer, cut_count: u32) {
             print::number(grants as u64);
             print::number(cut_count as u64);
         }
-        Answer::Refused(k) => print::refused(k),
+        Answer::Refused(code) => print::refused(code),
     }
 }
 
@@ -120,9 +116,15 @@ fn stands(s: Standing, processor: u8, q: u8, k: u8, place: u8) -> bool {
 }
 
 // The task in a place of the queue of processor k for q, where there is one.
-fn in_place(rows: [TaskRow; 64], tasks: [Standing; 64], q: u8, k: u8, place: u8) {
+fn in_place(
+    rows: [TaskRow; sizes::TASKS],
+    tasks: [Standing; sizes::TASKS],
+    q: u8,
+    k: u8,
+    place: u8,
+) {
     let mut u = 0;
-    while u < 64 {
+    while u < sizes::TASKS {
         let row = rows[u];
         if stands(tasks[u], row.processor, q, k, place) {
             print::which(place == 0, b"", b" ");
@@ -133,19 +135,19 @@ fn in_place(rows: [TaskRow; 64], tasks: [Standing; 64], q: u8, k: u8, place: u8)
 }
 
 // Processor k, and its tasks in line for q in order of place.
-fn turn(rows: [TaskRow; 64], tasks: [Standing; 64], q: u8, k: u8) {
+fn turn(rows: [TaskRow; sizes::TASKS], tasks: [Standing; sizes::TASKS], q: u8, k: u8) {
     print::digits(k as u64);
     print::text(b"(");
-    let mut place = 0u8;
-    while place < 64 {
-        in_place(rows, tasks, q, k, place);
+    let mut place = 0;
+    while place < sizes::TASKS {
+        in_place(rows, tasks, q, k, place as u8);
         place += 1;
     }
     print::text(b")");
 }
 
 // A held resource: the hold left, the budget left, and its processors in order.
-fn line(rows: [TaskRow; 64], tasks: [Standing; 64], q: u8, l: Line) {
+fn line(rows: [TaskRow; sizes::TASKS], tasks: [Standing; sizes::TASKS], q: u8, l: Line) {
     print::number(q as u64);
     print::text(b":");
     print::digits(l.hold_left as u64);
@@ -154,7 +156,7 @@ fn line(rows: [TaskRow; 64], tasks: [Standing; 64], q: u8, l: Line) {
     print::text(b":");
     let queue = l.queue;
     let mut i = 0;
-    while i < 8 {
+    while i < sizes::PROCESSORS {
         if i < l.queued as usize {
             turn(rows, tasks, q, queue[i]);
         }
@@ -163,13 +165,17 @@ fn line(rows: [TaskRow; 64], tasks: [Standing; 64], q: u8, l: Line) {
 }
 
 // The resources that are held, and by whom.
-fn held(rows: [TaskRow; 64], tasks: [Standing; 64], lines: [Line; 16]) {
+fn held(
+    rows: [TaskRow; sizes::TASKS],
+    tasks: [Standing; sizes::TASKS],
+    lines: [Line; sizes::RESOURCES],
+) {
     let mut some = false;
-    let mut q = 0u8;
-    while q < 16 {
-        let l = lines[q as usize];
+    let mut q = 0;
+    while q < sizes::RESOURCES {
+        let l = lines[q];
         if l.queued != 0 {
-            line(rows, tasks, q, l);
+            line(rows, tasks, q as u8, l);
             some = true;
         }
         q += 1;
@@ -179,7 +185,7 @@ fn held(rows: [TaskRow; 64], tasks: [Standing; 64], lines: [Line; 16]) {
 
 // What a state shows, with the processors of the tasks from the plan file.
 pub fn shown(file: &[u8], state: State) {
-    let found = plan_reading::read(file);
+    let found = plan::read(file);
     let rows = found.rows;
     let processors = rows.tasks;
     let tasks = state.tasks;
@@ -213,37 +219,36 @@ fn start(file: &[u8]) -> State {
     started.state
 }
 
-// A list of calls of three bytes each from a fresh machine on, with every answer; what the last state shows; whether a run of the
-// whole list ends there.
+// A list of calls from a fresh machine on, with every answer, and behind each what the state then shows, where that is asked: the last
+// state.
+fn all(file: &[u8], calls: &[u8], show: bool) -> State {
+    let mut state = start(file);
+    let n = given::call_count(calls);
+    let mut x = 0;
+    while x < n {
+        let after = next(file, state, given::call(calls, x));
+        state = after;
+        if show {
+            shown(file, state);
+        }
+        x += 1;
+    }
+    state
+}
+
+// A list of calls; what the last state shows; whether a run of the whole list ends there.
 pub fn list(case: &[u8]) {
     let file = file(case);
     let calls = behind(case);
-    let mut state = start(file);
-    let n = calls.len() / 3;
-    let mut x = 0;
-    while x < n {
-        let after = next(file, state, given::part(calls, x * 3, x * 3 + 3));
-        state = after;
-        x += 1;
-    }
+    let state = all(file, calls, false);
     shown(file, state);
     let end = machine::run(file, calls);
     print::which(same::states(state, end), b" run", b" run differs");
 }
 
-// A list of calls of three bytes each from a fresh machine on, with every answer and what the state shows after it.
+// A list of calls, with what the state shows after each.
 pub fn each(case: &[u8]) {
-    let file = file(case);
-    let calls = behind(case);
-    let mut state = start(file);
-    let n = calls.len() / 3;
-    let mut x = 0;
-    while x < n {
-        let after = next(file, state, given::part(calls, x * 3, x * 3 + 3));
-        state = after;
-        shown(file, state);
-        x += 1;
-    }
+    all(file(case), behind(case), true);
 }
 
 // One call on a given state, and what the next one shows where it is not refused. Its tag has two bytes, so that it can be one
@@ -252,13 +257,13 @@ pub fn one(case: &[u8]) {
     let file = file(case);
     let rest = behind(case);
     let state = given::state(rest);
-    let bytes = given::part(rest, 336, rest.len());
+    let bytes = given::part(rest, given::STATE, rest.len());
     let letter = given::byte(bytes, 0);
     let tag = given::word(bytes, 1);
     let resource = given::byte(bytes, 3);
     let outcome = call(file, state, letter, tag, resource);
     let after = outcome.state;
-    print::which(same::states(after, state), b" unchanged", b" changed");
+    print::unchanged(same::states(after, state));
     if !outcome.refused {
         shown(file, after);
     }

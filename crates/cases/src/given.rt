@@ -8,6 +8,17 @@ use plan_rules::SectionRow;
 use plan_rules::TaskRow;
 ghost use Prim.Native.Nat.{_≤_, _<_};
 
+// The bytes of a call in a list, and in a state those of a resource's line and of a task.
+const CALL: usize = 3;
+
+const LINE: usize = 13;
+
+const STANDING: usize = 2;
+
+const LINES: usize = sizes::RESOURCES * LINE;
+
+pub const STATE: usize = LINES + sizes::TASKS * STANDING;
+
 fn half(b: u8) -> u16
     ensures { λ r. ⌜ r < 256 ⌝ }
 {
@@ -57,6 +68,19 @@ pub fn without_end(s: &[u8], length: usize) -> &[u8] {
         return &s[0..0];
     }
     part(s, 0, length - 1)
+}
+
+// How many calls a list has.
+pub fn call_count(calls: &[u8]) -> usize {
+    calls.len() / CALL
+}
+
+// The bytes of call x of a list.
+pub fn call(calls: &[u8], x: usize) -> &[u8] {
+    if x < calls.len() / CALL {
+        return &calls[x * CALL..x * CALL + CALL];
+    }
+    &calls[0..0]
 }
 
 // As many bytes as both have, copied.
@@ -137,32 +161,32 @@ fn section(s: &[u8], at: usize) -> SectionRow
     }
 }
 
-fn tasks(s: &[u8]) -> [TaskRow; 64] {
+fn tasks(s: &[u8]) -> [TaskRow; sizes::TASKS] {
     let first = task(s, 0);
-    let mut rows = [first; 64];
+    let mut rows = [first; sizes::TASKS];
     let mut i = 0;
-    while i < 64 {
+    while i < sizes::TASKS {
         rows[i] = task(s, i * 8);
         i += 1;
     }
     rows
 }
 
-fn lengths(s: &[u8]) -> [u8; 16] {
-    let mut rows = [0u8; 16];
+fn lengths(s: &[u8]) -> [u8; sizes::RESOURCES] {
+    let mut rows = [0u8; sizes::RESOURCES];
     let mut i = 0;
-    while i < 16 {
+    while i < sizes::RESOURCES {
         rows[i] = byte(s, i);
         i += 1;
     }
     rows
 }
 
-fn sections(s: &[u8]) -> [SectionRow; 255] {
+fn sections(s: &[u8]) -> [SectionRow; sizes::SECTIONS] {
     let first = section(s, 0);
-    let mut rows = [first; 255];
+    let mut rows = [first; sizes::SECTIONS];
     let mut i = 0;
-    while i < 255 {
+    while i < sizes::SECTIONS {
         rows[i] = section(s, i * 4);
         i += 1;
     }
@@ -178,8 +202,8 @@ pub fn rows(case: &[u8]) -> Rows {
     }
 }
 
-// A state: for each of 16 resources how many are queued, 8 processors, in 2 bytes each the hold left and the budget left; then for
-// each of 64 tasks its resource and its place.
+// A state: for each resource how many are queued, 8 processors, in 2 bytes each the hold left and the budget left; then for each task
+// its resource and its place.
 fn line(s: &[u8], at: usize) -> Line
     requires { ⌜ at < 1000 ⌝ }
 {
@@ -201,12 +225,12 @@ fn line(s: &[u8], at: usize) -> Line
     }
 }
 
-fn lines(s: &[u8]) -> [Line; 16] {
+fn lines(s: &[u8]) -> [Line; sizes::RESOURCES] {
     let first = line(s, 0);
-    let mut rows = [first; 16];
+    let mut rows = [first; sizes::RESOURCES];
     let mut q = 0;
-    while q < 16 {
-        rows[q] = line(s, q * 13);
+    while q < sizes::RESOURCES {
+        rows[q] = line(s, q * LINE);
         q += 1;
     }
     rows
@@ -221,12 +245,12 @@ fn standing(s: &[u8], at: usize) -> Standing
     }
 }
 
-fn standings(s: &[u8]) -> [Standing; 64] {
+fn standings(s: &[u8]) -> [Standing; sizes::TASKS] {
     let first = standing(s, 0);
-    let mut rows = [first; 64];
+    let mut rows = [first; sizes::TASKS];
     let mut u = 0;
-    while u < 64 {
-        rows[u] = standing(s, u * 2);
+    while u < sizes::TASKS {
+        rows[u] = standing(s, u * STANDING);
         u += 1;
     }
     rows
@@ -234,7 +258,7 @@ fn standings(s: &[u8]) -> [Standing; 64] {
 
 pub fn state(s: &[u8]) -> State {
     State {
-        lines: lines(part(s, 0, 208)),
-        tasks: standings(part(s, 208, 336)),
+        lines: lines(part(s, 0, LINES)),
+        tasks: standings(part(s, LINES, STATE)),
     }
 }

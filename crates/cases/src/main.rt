@@ -10,12 +10,18 @@ mod same;
 use libc::STDIN_FILENO;
 use plan_writing::WriteAnswer;
 
+// The longest file that a case is read as.
+const READ: usize = 131072;
+
+// A buffer in which every plan file has room.
+const WRITTEN: usize = 2048;
+
 // Reading a file: its length in 4 bytes, then its first bytes; the others are zero.
 fn read_case(case: &[u8]) {
-    let mut file = [0u8; 131072];
+    let mut file = [0u8; READ];
     given::copy(given::part(case, 4, case.len()), &mut file);
     let len = given::length(case);
-    let found = plan_reading::read(given::part(&file, 0, len));
+    let found = plan::read(given::part(&file, 0, len));
     let answer = found.answer;
     print::reading(answer);
 }
@@ -24,8 +30,8 @@ fn read_case(case: &[u8]) {
 fn name_case(case: &[u8]) {
     let resource = given::byte(case, 0);
     let file = given::part(case, 1, case.len());
-    let code = plan_reading::name_refusal(file, resource);
-    let name = plan_reading::name(file, resource);
+    let code = plan::name_refusal(file, resource);
+    let name = plan::name(file, resource);
     if code == 0 {
         print::text(name);
     } else if name.len() == 0 {
@@ -39,9 +45,9 @@ fn name_case(case: &[u8]) {
 fn again(case: &[u8], file: &[u8]) -> bool {
     let counts = given::counts(case);
     let rows = given::rows(case);
-    let mut first = [170u8; 2048];
+    let mut first = [same::FILL; WRITTEN];
     let found = plan_writing::read_back(counts, rows, given::names(case), &mut first);
-    let mut second = [170u8; 2048];
+    let mut second = [same::FILL; WRITTEN];
     let copied = plan_writing::copy(file, &mut second);
     let read = found.rows;
     let answer = found.answer;
@@ -49,7 +55,7 @@ fn again(case: &[u8], file: &[u8]) -> bool {
         & same::rows(read, rows, counts)
         & same::written(copied, file.len())
         & same::bytes(given::part(&second, 0, file.len()), file)
-        & same::untouched(given::part(&second, file.len(), 2048))
+        & same::untouched(&second, file.len())
 }
 
 // Writes the case's values into the front of the buffer, of which the case says how much is lent.
@@ -65,19 +71,18 @@ fn write(case: &[u8], buf: &mut [u8]) -> WriteAnswer {
 
 // Writing: the values, what the file is to be, and how much of the buffer is lent.
 fn write_case(case: &[u8]) {
-    let mut buf = [170u8; 2048];
+    let mut buf = [same::FILL; WRITTEN];
     let answer = write(case, &mut buf);
     match answer {
         WriteAnswer::Written(len) => {
             let end = len as usize;
             let file = given::part(&buf, 0, end);
-            let behind = given::part(&buf, end, 2048);
-            let right = same::bytes(file, given::expected(case)) & same::untouched(behind);
+            let right = same::bytes(file, given::expected(case)) & same::untouched(&buf, end);
             print::written(len, right, again(case, file));
         }
-        WriteAnswer::Refused(k) => {
-            print::refused(k);
-            print::which(same::untouched(&buf), b" unchanged", b" changed");
+        WriteAnswer::Refused(code) => {
+            print::refused(code);
+            print::unchanged(same::untouched(&buf, 0));
         }
     }
 }

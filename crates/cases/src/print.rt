@@ -1,7 +1,7 @@
 // The lines that are printed.
 use crate::given;
 use libc::STDOUT_FILENO;
-use plan_reading::ReadAnswer;
+use plan::ReadAnswer;
 
 pub fn text(s: &[u8]) {
     io::write_all(STDOUT_FILENO, s);
@@ -24,9 +24,9 @@ pub fn signed(z: i64) {
     text(given::part(&buf, 0, end));
 }
 
-pub fn refused(k: u8) {
+pub fn refused(code: u8) {
     text(b"refused");
-    number(k as u64);
+    number(code as u64);
 }
 
 pub fn reading(answer: ReadAnswer) {
@@ -38,7 +38,7 @@ pub fn reading(answer: ReadAnswer) {
             number(counts.resources as u64);
             number(counts.sections as u64);
         }
-        ReadAnswer::Refused(k) => refused(k),
+        ReadAnswer::Refused(code) => refused(code),
     }
 }
 
@@ -48,6 +48,11 @@ pub fn which(right: bool, yes: &[u8], no: &[u8]) {
     } else {
         text(no);
     }
+}
+
+// Whether all that was lent, or the state, is as it was.
+pub fn unchanged(as_before: bool) {
+    which(as_before, b" unchanged", b" changed");
 }
 
 pub fn written(len: u16, right: bool, again: bool) {

@@ -8,6 +8,11 @@ use machine_state::State;
 use print_calls::Batch;
 use print_calls::CallLine;
 
+// A buffer in which every line has room, and one for the lines of a list.
+const LINE: usize = 96;
+
+const LINES: usize = 1024;
+
 // Makes a call, with so many bytes of the buffer lent for its line.
 fn call(file: &[u8], state: State, room: usize, bytes: &[u8], buf: &mut [u8]) -> CallLine {
     let lent = given::at_most(room, buf.len());
@@ -19,19 +24,17 @@ fn call(file: &[u8], state: State, room: usize, bytes: &[u8], buf: &mut [u8]) ->
 
 // The line of one call, or why there is none; whether what lies behind it is as it was, or all where there is none.
 fn next(file: &[u8], state: State, room: usize, bytes: &[u8]) -> State {
-    let mut buf = [170u8; 96];
+    let mut buf = [same::FILL; LINE];
     let made = call(file, state, room, bytes, &mut buf);
     let line = made.line;
     let after = made.state;
     print::text(b"; ");
     if line.refusal == 0 {
         print::text(given::without_end(&buf, line.length));
-        let behind = given::part(&buf, line.length, 96);
-        print::which(same::untouched(behind), b"", b" and behind");
+        print::which(same::untouched(&buf, line.length), b"", b" and behind");
     } else {
         print::refused(line.refusal);
-        let as_before = same::untouched(&buf) & same::states(after, state);
-        print::which(as_before, b" unchanged", b" changed");
+        print::unchanged(same::untouched(&buf, 0) & same::states(after, state));
     }
     after
 }
@@ -41,10 +44,10 @@ fn each(file: &[u8], start: State, rest: &[u8]) {
     let room = given::size(given::byte(rest, 0) as u16);
     let calls = given::part(rest, 1, rest.len());
     let mut state = start;
-    let n = calls.len() / 3;
+    let n = given::call_count(calls);
     let mut x = 0;
     while x < n {
-        let after = next(file, state, room, given::part(calls, x * 3, x * 3 + 3));
+        let after = next(file, state, room, given::call(calls, x));
         state = after;
         x += 1;
     }
@@ -64,15 +67,15 @@ pub fn from_state(case: &[u8]) {
     each(
         called::file(case),
         given::state(rest),
-        given::part(rest, 336, rest.len()),
+        given::part(rest, given::STATE, rest.len()),
     );
 }
 
 // Makes calls from a given state on in one go, with so many bytes of the buffer lent for their lines as two bytes behind the state say.
 fn make(case: &[u8], state: State, buf: &mut [u8]) -> Batch {
     let rest = called::behind(case);
-    let lent = given::at_most(given::size(given::word(rest, 336)), buf.len());
-    let calls = given::part(rest, 338, rest.len());
+    let lent = given::at_most(given::size(given::word(rest, given::STATE)), buf.len());
+    let calls = given::part(rest, given::STATE + 2, rest.len());
     print_calls::lines(called::file(case), state, calls, &mut buf[0..lent])
 }
 
@@ -80,21 +83,19 @@ fn make(case: &[u8], state: State, buf: &mut [u8]) -> Batch {
 // what the state shows; then the lines. Or why nothing was made.
 pub fn many(case: &[u8]) {
     let state = given::state(called::behind(case));
-    let mut buf = [170u8; 1024];
+    let mut buf = [same::FILL; LINES];
     let batch = make(case, state, &mut buf);
     let after = batch.state;
     if batch.refusal != 0 {
         print::refused(batch.refusal);
-        let as_before = same::untouched(&buf) & same::states(after, state);
-        let none = (batch.used == 0) & (batch.length == 0);
-        print::which(as_before & none, b" unchanged", b" changed");
+        let as_before = same::untouched(&buf, 0) & same::states(after, state);
+        print::unchanged(as_before & (batch.used == 0) & (batch.length == 0));
         return;
     }
     print::text(b"lines");
     print::number(batch.used as u64);
     print::number(batch.length as u64);
-    let behind = given::part(&buf, batch.length, 1024);
-    print::which(same::untouched(behind), b" right", b" wrong");
+    print::which(same::untouched(&buf, batch.length), b" right", b" wrong");
     called::shown(called::file(case), after);
     print::which(batch.length == 0, b"", b"\n");
     print::text(given::without_end(&buf, batch.length));

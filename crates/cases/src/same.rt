@@ -2,12 +2,15 @@
 use machine_state::Line;
 use machine_state::Standing;
 use machine_state::State;
-use plan_reading::ReadAnswer;
+use plan::ReadAnswer;
 use plan_rules::Counts;
 use plan_rules::Rows;
 use plan_rules::SectionRow;
 use plan_rules::TaskRow;
 use plan_writing::WriteAnswer;
+
+// What a buffer is filled with before it is lent.
+pub const FILL: u8 = 170;
 
 pub fn bytes(a: &[u8], b: &[u8]) -> bool {
     if a.len() != b.len() {
@@ -22,12 +25,12 @@ pub fn bytes(a: &[u8], b: &[u8]) -> bool {
     all
 }
 
-// Whether each byte is still the one that the buffer was filled with.
-pub fn untouched(s: &[u8]) -> bool {
+// Whether each byte from there on is still the one that the buffer was filled with.
+pub fn untouched(buf: &[u8], from: usize) -> bool {
     let mut all = true;
-    let mut i = 0;
-    while i < s.len() {
-        all = all & (s[i] == 170);
+    let mut i = from;
+    while i < buf.len() {
+        all = all & (buf[i] == FILL);
         i += 1;
     }
     all
@@ -75,30 +78,34 @@ fn length(r: u8, g: u8, on: bool) -> bool {
     if on { r == g } else { r == 0 }
 }
 
-fn tasks(read: [TaskRow; 64], given: [TaskRow; 64], n: usize) -> bool {
+fn tasks(read: [TaskRow; sizes::TASKS], given: [TaskRow; sizes::TASKS], n: usize) -> bool {
     let mut all = true;
     let mut i = 0;
-    while i < 64 {
+    while i < sizes::TASKS {
         all = all & task(read[i], given[i], i < n);
         i += 1;
     }
     all
 }
 
-fn lengths(read: [u8; 16], given: [u8; 16], r: usize) -> bool {
+fn lengths(read: [u8; sizes::RESOURCES], given: [u8; sizes::RESOURCES], r: usize) -> bool {
     let mut all = true;
     let mut i = 0;
-    while i < 16 {
+    while i < sizes::RESOURCES {
         all = all & length(read[i], given[i], i < r);
         i += 1;
     }
     all
 }
 
-fn sections(read: [SectionRow; 255], given: [SectionRow; 255], s: usize) -> bool {
+fn sections(
+    read: [SectionRow; sizes::SECTIONS],
+    given: [SectionRow; sizes::SECTIONS],
+    s: usize,
+) -> bool {
     let mut all = true;
     let mut i = 0;
-    while i < 255 {
+    while i < sizes::SECTIONS {
         all = all & section(read[i], given[i], i < s);
         i += 1;
     }
@@ -126,20 +133,20 @@ fn line(a: Line, b: Line) -> bool {
         & (a.budget_left == b.budget_left)
 }
 
-fn lines(a: [Line; 16], b: [Line; 16]) -> bool {
+fn lines(a: [Line; sizes::RESOURCES], b: [Line; sizes::RESOURCES]) -> bool {
     let mut all = true;
     let mut q = 0;
-    while q < 16 {
+    while q < sizes::RESOURCES {
         all = all & line(a[q], b[q]);
         q += 1;
     }
     all
 }
 
-fn standings(a: [Standing; 64], b: [Standing; 64]) -> bool {
+fn standings(a: [Standing; sizes::TASKS], b: [Standing; sizes::TASKS]) -> bool {
     let mut all = true;
     let mut u = 0;
-    while u < 64 {
+    while u < sizes::TASKS {
         let s = a[u];
         let t = b[u];
         all = all & (s.resource == t.resource) & (s.place == t.place);

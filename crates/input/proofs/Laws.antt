@@ -10,7 +10,7 @@ use lib.Dec.{ltb}
 use lib.ListN.{length, getD, take, drop}
 use lib.Seq.{length-take-le, getD-take, take-at}
 use Rattle.folds.specs.Bytes.{number}
-use Rattle.plan_reading.specs.Reading.{planLength}
+use Rattle.plan.specs.Reading.{planLength}
 use Rattle.print_text.specs.Text.{Put}
 use Rattle.input.specs.Input.{Came}
 

@@ -3,7 +3,7 @@ use Prim.Native.Nat.{ℕ, _≤_}
 use mathlib.Core.List.{List, _++_}
 use mathlib.Core.Path.{_≡_}
 use lib.ListN.{length, take, drop}
-use Rattle.plan_reading.specs.Reading.{planLength}
+use Rattle.plan.specs.Reading.{planLength}
 
 -- r bytes came to the front of a buffer that held `before` and holds `now`: all of them are plan, that is they are fewer than 16, or
 -- no more than their own bytes 14-15 say; what lies behind them is as it was

@@ -3,7 +3,7 @@ use libc::STDIN_FILENO;
 ghost use Prim.Native.Nat.{_≤_};
 ghost use mathlib.Core.Path.{_≡_};
 ghost use lib.ListN.{length, take};
-ghost use Rattle.plan_reading.specs.Reading.{planLength};
+ghost use Rattle.plan.specs.Reading.{planLength};
 ghost use Rattle.input.specs.Input.{Came};
 
 // Reads a plan to the front of the buffer: as many bytes as its header says, or as many as there are. What lies behind them in the
@@ -16,7 +16,7 @@ fn read_whole(buf: &mut [u8]) -> usize
     if head < 16 {
         return head;
     }
-    let end = plan_reading::plan_length(buf);
+    let end = plan::plan_length(buf);
     if end <= 16 {
         return end;
     }

@@ -7,9 +7,9 @@ use native.Mathlib.Omega.{arith}
 use borrow.Author.Tests.{eq-eqb}
 use lib.ListN.{getD}
 use Rattle.folds.proofs.Tests.{held, failed}
-use Rattle.plan_reading.specs.Reading.{refusal}
-use Rattle.plan_reading.specs.Plan.{Plan, planOf, Checked, Valid}
-use Rattle.plan_reading.proofs.Laws.{valid-plan}
+use Rattle.plan_reading.specs.Plan.{Plan, planOf, Valid}
+use Rattle.plan.specs.Acceptance.{refusal, Accepted}
+use Rattle.plan.proofs.Laws.{accepted-valid}
 use Rattle.analysis_equations.specs.HoldTimes.{holdAt}
 use Rattle.analysis_hold_times.specs.Holds.{Cells, Shares}
 use Rattle.folds.proofs.Searches.{on-le}
@@ -35,9 +35,9 @@ module _ (p : Plan) (v : Valid p) (ts : List Standing) (keys : List ℕ) (h : Ke
   keys-low u l =
       on-le (getD keys u 0 < 8193) (p .tasks) u (λ m. omega (arith, h .rest u l m)) (λ m. seat-high p v ts keys h u m)
 
--- ── the tables made of a plan that passed every check and of a state ──
+-- ── the tables made of an accepted plan and of a state ──
 pub record Made (f : List ℕ) (s : State) (h b k t : List ℕ) : Type 0 where
-  pub plan : Checked f
+  pub plan : Accepted f
   pub holds : Cells (holdAt (planOf f)) h
   pub budgets : Shares (planOf f) b
   pub keys : Keys (planOf f) (s .tasks) k
@@ -46,7 +46,7 @@ pub record Made (f : List ℕ) (s : State) (h b k t : List ℕ) : Type 0 where
 -- the test by them is that of soundness
 module _ {f : List ℕ} {s : State} {h b k t : List ℕ} (m : Made f s h b k t) where
   test-is : stateTest h b k t s ≡ sound (planOf f) s
-  test-is = sound-test (planOf f) (valid-plan f (m .plan)) s h b k t (m .holds) (m .budgets) (m .keys) (m .seats)
+  test-is = sound-test (planOf f) (accepted-valid (m .plan)) s h b k t (m .holds) (m .budgets) (m .keys) (m .seats)
 
   pub passed : {x : Bool} → x ≡ stateTest h b k t s → not x ≡ false → sound (planOf f) s ≡ true
   passed e n = held (e ∙ test-is) n

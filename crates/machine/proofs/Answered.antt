@@ -9,7 +9,7 @@ use Rattle.folds.specs.Below.{countBelow}
 use Rattle.folds.proofs.Tests.{first-zero}
 use Rattle.folds.proofs.WordLaws.{word-ones}
 use Rattle.folds.proofs.Arrays.{by-eq}
-use Rattle.plan_reading.specs.Reading.{refusal}
+use Rattle.plan.specs.Acceptance.{refusal}
 use Rattle.plan_reading.specs.Plan.{Plan, planOf}
 use Rattle.analysis_equations.specs.Questions.{taskNumber}
 use Rattle.queue_rules.specs.Rules as Rules

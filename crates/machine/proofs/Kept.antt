@@ -6,9 +6,10 @@ use mathlib.Core.Path.{_≡_, refl, sym, ap, _∙_}
 use borrow.Author.Tests.{ne-eqb, eq-eqb}
 use lib.ListN.{length, getD}
 use Rattle.folds.proofs.Arrays.{by-eq}
-use Rattle.plan_reading.specs.Reading.{refusal}
-use Rattle.plan_reading.specs.Plan.{Plan, planOf, Checked, Valid}
-use Rattle.plan_reading.proofs.Laws.{valid-plan, tags-differ}
+use Rattle.plan_reading.specs.Plan.{Plan, planOf, Valid}
+use Rattle.plan_reading.proofs.Laws.{tags-differ}
+use Rattle.plan.specs.Acceptance.{refusal, Accepted}
+use Rattle.plan.proofs.Laws.{accepted-checked, accepted-valid}
 use Rattle.machine_rules.specs.declared.Call.{Call}
 use Rattle.machine_rules.specs.declared.Call.the-variants.{Request}
 use Rattle.machine_rules.specs.Machine.{View, fresh, callCode, step, answer, after, run}
@@ -28,7 +29,7 @@ use Rattle.machine.specs.Promise.{Returned, started, called, Promise, De
 use Rattle.machine.proofs.Answered.{state-refusal, state-accepted, plan-refused}
 use Rattle.machine.proofs.Acting.{sound-answer}
 
-module _ (f : List ℕ) (k : Checked f) where
+module _ (f : List ℕ) (k : Accepted f) where
   -- on a sound state a call that is refused is so by its own number, and the rules leave the lines as they are
   refused-step : (s : State) (c : Call)
       → sound (planOf f) s ≡ true
@@ -60,14 +61,14 @@ module _ (f : List ℕ) (k : Checked f) where
     promised : Orderly (planOf f) s → (calls : List Call) → Promise f start s calls
     promised o calls =
         record {
-          waiting = all-served (planOf f) (valid-plan f k) s o calls;
+          waiting = all-served (planOf f) (accepted-valid k) s o calls;
           answers = λ before since c e t r. returned-answers before t c r;
           states = λ before since e t r. returned-shows before t r;
         }
 
   -- a fresh state shows fresh lines
   pub fresh-is : (sound (planOf f) freshState ≡ true) × (shows (planOf f) freshState ≡ fresh)
-  fresh-is = (fresh-sound (planOf f) (valid-plan f k), fresh-shows (planOf f))
+  fresh-is = (fresh-sound (planOf f) (accepted-valid k), fresh-shows (planOf f))
 
 -- where each call is refused, nothing changes
 pub returned-refused : (f : List ℕ) (start : State) → (stateRefusal f start ≡ 0 → ⊥) → (cs : List Call) (s : State) → Returned f start cs s → s ≡ start
@@ -77,10 +78,10 @@ returned-refused f start d _ _ (called {cs} {s} {t} {c} r n) =
     n .unchanged (λ z. d (state-refusal f start c (rw (← e) z))) ∙ e
 
 -- the contract leaves one next state
-pub next-one : (f : List ℕ) → (refusal f ≡ 0 → Checked f) → (s t u : State) (c : Call) → Shaped t → Shaped u → Next f s c t → Next f s c u → t ≡ u
+pub next-one : (f : List ℕ) → (refusal f ≡ 0 → Accepted f) → (s t u : State) (c : Call) → Shaped t → Shaped u → Next f s c t → Next f s c u → t ≡ u
 next-one f k s t u c a b m n =
     by-eq (λ (x : Bool). t ≡ u) (callRefusal f s c) 0
-    (λ e. let v : Valid (planOf f) = valid-plan f (k (accepted e)) in
+    (λ e. let v : Valid (planOf f) = accepted-valid (k (accepted e)) in
     one-state (planOf f) v t u a b (m .sound e) (n .sound e) (m .shows e ∙ sym (n .shows e)))
     (λ d. m .unchanged d ∙ sym (n .unchanged d))
   where
@@ -90,29 +91,29 @@ next-one f k s t u c a b m n =
 -- from every sound state
 pub from-sound : FromSound
 from-sound f start w =
-    promised f (w .plan) start (shows (planOf f) start) (w .sound, refl) (shown-orderly (planOf f) (valid-plan f (w .plan)) start (w .lines) (w .sound))
+    promised f (w .plan) start (shows (planOf f) start) (w .sound, refl) (shown-orderly (planOf f) (accepted-valid (w .plan)) start (w .lines) (w .sound))
 
 -- demand 3, whole
 pub demand-3 : Demand3
 demand-3 f k calls =
-    record { promise = promised f k freshState fresh (fresh-is f k) (orderly-fresh (planOf f)) calls; since = each-since (planOf f) (valid-plan f k) calls }
+    record { promise = promised f k freshState fresh (fresh-is f k) (orderly-fresh (planOf f)) calls; since = each-since (planOf f) (accepted-valid k) calls }
 
 -- the promise of the longest wait
 pub longest-wait : LongestWait
 longest-wait f k =
     let p : Plan = planOf f in
-    let v : Valid p = valid-plan f k in
+    let v : Valid p = accepted-valid k in
     record {
       told = λ start w calls s r tag q a m e.
           let x = sym (returned-answers f k start (shows p start) (w .sound, refl) calls s (Request tag q) r) ∙ e in
           (waits-asked p v _ tag q a m x, never-more p v (shows p start) (orderly start w) calls tag q a m x);
       kept = λ start w. never-longer p v (shows p start) (orderly start w);
       fresh-kept = never-longer p v fresh (orderly-fresh p);
-      reached = each-reached p v (tags-differ f k);
+      reached = each-reached p v (tags-differ f (accepted-checked k));
     }
   where
     orderly : (start : State) → Start f start → Orderly (planOf f) (shows (planOf f) start)
-    orderly start w = shown-orderly (planOf f) (valid-plan f k) start (w .lines) (w .sound)
+    orderly start w = shown-orderly (planOf f) (accepted-valid k) start (w .lines) (w .sound)
 
 -- what is known of the state once a list of calls was made, where the file is one of bytes
 module _ (f : List ℕ) (bytes : (i : ℕ) → i < length f → getD f i 0 < 256) where
@@ -137,11 +138,11 @@ module _ (f : List ℕ) (bytes : (i : ℕ) → i < length f → getD f i 0 < 256
         unchanged = λ d. r .unchanged (λ z. d (state-accepted f freshState z .0));
         sound = λ z. shown z .0;
         shows = λ z. shown z .1;
-        promise = λ z. demand-3 f (checked z) calls;
+        promise = λ z. demand-3 f (accepted z) calls;
       }
     where
-      checked : refusal f ≡ 0 → Checked f
-      checked z = record { none = z; bytes = bytes }
+      accepted : refusal f ≡ 0 → Accepted f
+      accepted z = record { none = z; bytes = bytes }
 
       shown : refusal f ≡ 0 → (sound (planOf f) s ≡ true) × (shows (planOf f) s ≡ run (planOf f) calls)
-      shown z = returned-shows f (checked z) freshState fresh (fresh-is f (checked z)) calls s (r .returned)
+      shown z = returned-shows f (accepted z) freshState fresh (fresh-is f (accepted z)) calls s (r .returned)

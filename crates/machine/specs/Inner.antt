@@ -7,7 +7,7 @@ use mathlib.Core.Path.{_≡_}
 use lib.Count.{ones}
 use lib.Dec.{eqb}
 use lib.ListN.{getD}
-use Rattle.plan_reading.specs.Reading.{refusal}
+use Rattle.plan.specs.Acceptance.{refusal}
 use Rattle.plan_reading.specs.Plan.{Plan, planOf}
 use Rattle.analysis_equations.specs.HoldTimes.{holdAt}
 use Rattle.analysis_hold_times.specs.Holds.{Cells, Shares}

@@ -7,8 +7,8 @@ use mathlib.Core.Logic.{_≢_}
 use mathlib.Core.Path.{_≡_}
 use lib.Dec.{eqb}
 use lib.ListN.{length, getD}
-use Rattle.plan_reading.specs.Reading.{refusal}
-use Rattle.plan_reading.specs.Plan.{planOf, Checked}
+use Rattle.plan_reading.specs.Plan.{planOf}
+use Rattle.plan.specs.Acceptance.{refusal, Accepted}
 use Rattle.analysis_equations.specs.Questions.{taskNumber, useCode}
 use Rattle.machine_rules.specs.declared.Call.{Call}
 use Rattle.machine_rules.specs.declared.Call.the-variants.{Request, Release, Tick}
@@ -48,11 +48,11 @@ pub record FreshPromise (f : List ℕ) (calls : List Call) : Type 0 where
 
 -- Demand 3: for every plan file that is accepted and every list of calls
 abbrev pub Demand3 : Type 0
-Demand3 = (f : List ℕ) → Checked f → (calls : List Call) → FreshPromise f calls
+Demand3 = (f : List ℕ) → Accepted f → (calls : List Call) → FreshPromise f calls
 
 -- a state of a plan that is accepted, as the operations take one: sound, and of as many rows as the struct has
 pub record Start (f : List ℕ) (start : State) : Type 0 where
-  pub plan : Checked f
+  pub plan : Accepted f
   pub sound : sound (planOf f) start ≡ true
   pub lines : length (start .lines) ≡ 16
 
@@ -95,7 +95,7 @@ pub record LongestKept (f : List ℕ) : Type 0 where
 
 -- for every plan file that is accepted
 abbrev pub LongestWait : Type 0
-LongestWait = (f : List ℕ) → Checked f → LongestKept f
+LongestWait = (f : List ℕ) → Accepted f → LongestKept f
 
 -- ── a list of calls as bytes ──
 

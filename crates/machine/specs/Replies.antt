@@ -7,7 +7,8 @@ use mathlib.Core.Logic.{_≢_}
 use mathlib.Core.Path.{_≡_}
 use lib.Dec.{eqb}
 use Rattle.folds.specs.Below.{countBelow}
-use Rattle.plan_reading.specs.Reading.{refusal, Told, answered}
+use Rattle.refusals.specs.Outcomes.{Outcome, outcome}
+use Rattle.plan.specs.Acceptance.{refusal}
 use Rattle.plan_reading.specs.Plan.{planOf}
 use Rattle.queue_rules.specs.Rules.{cut}
 use Rattle.machine_rules.specs.declared.Call.{Call}
@@ -40,8 +41,8 @@ pub record Next (f : List ℕ) (s : State) (c : Call) (next : State) : Type 0 wh
   pub shows : callRefusal f s c ≡ 0 → shows (planOf f) next ≡ step (planOf f) (shows (planOf f) s) c
 
 -- what the answer tells: the refusal, or 0 and the values of the rules' answer
-unfoldable pub replyTold : List ℕ → State → Call → Told
-replyTold f s c = answered (callRefusal f s c) (answerTold (told (planOf f) (shows (planOf f) s) c) .values)
+unfoldable pub replyTold : List ℕ → State → Call → Outcome
+replyTold f s c = outcome (callRefusal f s c) (answerTold (told (planOf f) (shows (planOf f) s) c) .values)
 
 -- the number of resources whose holds end in a tick; 0 where it is refused
 unfoldable pub cutCount : List ℕ → State → ℕ

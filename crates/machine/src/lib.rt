@@ -8,8 +8,8 @@ ghost use mathlib.Core.Path.{_≡_};
 ghost use mathlib.Core.Bool.{true};
 ghost use Prim.Native.Nat.{_+_, _*_, _≤_, _<_};
 ghost use lib.ListN.{length};
-ghost use Rattle.plan_reading.specs.Reading.{refusal};
 ghost use Rattle.plan_reading.specs.Plan.{planOf, Checked};
+ghost use Rattle.plan.specs.Acceptance.{refusal, Accepted};
 ghost use Rattle.analysis_equations.specs.HoldTimes.{holdAt};
 ghost use Rattle.analysis_hold_times.specs.Holds.{Cells, Shares};
 ghost use Rattle.machine_rules.specs.declared.Call.the-variants.{Request, Release, Tick};
@@ -54,7 +54,7 @@ pub fn start(file: &[u8]) -> Started
     ensures { λ r. ⌜ (refusal (now (file .entry)) ≡ 0 → sound (planOf (now (file .entry))) (r .state) ≡ true) × (shows (planOf (now (file .entry))) (r .state) ≡ fresh) ⌝ }
 {
     Started {
-        refusal: plan_reading::check(file),
+        refusal: plan::check(file),
         state: machine_state::fresh(),
     }
 }
@@ -221,9 +221,9 @@ fn tick_on(
     }
 }
 
-// 19, or what the call does, for a plan that passed every check.
+// 19, or what the call does, for a plan that is accepted.
 fn act(file: &[u8], holds: &[u16], budgets: &[u16], state: State, call: Call) -> Reply
-    requires { ⌜ (Checked (now file)) × (Cells (holdAt (planOf (now file))) (now holds)) × (Shares (planOf (now file)) (now budgets)) ⌝ }
+    requires { ⌜ (Accepted (now file)) × (Cells (holdAt (planOf (now file))) (now holds)) × (Shares (planOf (now file)) (now budgets)) ⌝ }
     ensures { λ r. ⌜ (r .answer ≡ reply (now (file .entry)) state call) × Next (now (file .entry)) state call (r .state) ⌝ }
 {
     let tasks = state.tasks;

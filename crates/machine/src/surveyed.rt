@@ -16,7 +16,7 @@ pub fn look(file: &[u8], holds: &mut [u16], budgets: &mut [u16]) -> u8
     ensures { λ r. ⌜ Surveyed (now (file .entry)) r (now (holds .exit)) (now (budgets .exit)) ⌝ }
     ensures { λ r. ⌜ (r ≢ 0 → (now (holds .exit) ≡ now (holds .entry)) × (now (budgets .exit) ≡ now (budgets .entry))) ⌝ }
 {
-    let code = plan_reading::check(file);
+    let code = plan::check(file);
     if code != 0 {
         return code;
     }

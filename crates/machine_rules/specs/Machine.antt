@@ -7,7 +7,7 @@ use lib.ListN.{length}
 use Rattle.folds.specs.Below.{anyBelow}
 use Rattle.folds.specs.Words.{wordBelow}
 use Rattle.plan_reading.specs.Plan.{Plan}
-use Rattle.plan_reading.specs.Reading.{Told}
+use Rattle.refusals.specs.Outcomes.{Outcome}
 use Rattle.analysis_equations.specs.Sharing.{processorOf}
 use Rattle.analysis_equations.specs.HoldTimes.{holdAt, budget, waitTime}
 use Rattle.analysis_equations.specs.Questions.{taskNumber, useCode}
@@ -109,7 +109,7 @@ module _ (p : Plan) where
   run cs = after fresh cs
 
 -- document 01's number and values for each answer: the number of the refusal, 0 for none; then which answer it is, and its values
-abbrev pub answerTold : Answer → Told
+abbrev pub answerTold : Answer → Outcome
 answerTold Granted = record { number = 0; values = 0 ∷ [] }
 answerTold (Waits ahead most) = record { number = 0; values = 1 ∷ ahead ∷ most ∷ [] }
 answerTold (Next tag) = record { number = 0; values = 2 ∷ tag ∷ [] }

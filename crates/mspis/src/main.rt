@@ -3,7 +3,7 @@
 use libc::STDIN_FILENO;
 use libc::STDOUT_FILENO;
 use machine_state::State;
-use plan_reading::ReadAnswer;
+use plan::ReadAnswer;
 ghost use Prim.Native.Nat.{_-_, _≤_};
 ghost use lib.ListN.{length};
 
@@ -111,10 +111,10 @@ fn main() {
     let mut buf = io::large_buffer();
     let end = input::read_plan(&mut buf);
     let file = &buf[0..end];
-    let found = plan_reading::read(file);
+    let found = plan::read(file);
     let answer = found.answer;
     let ReadAnswer::Accepted(counts) = answer else {
-        print_refused(plan_reading::number(answer));
+        print_refused(plan::number(answer));
         return;
     };
     print_plan(counts);

@@ -1,7 +1,7 @@
 -- What a file that passed its checks tells.
 use Prim.Native.Nat.{ℕ, suc, _+_, _*_, _<_, _≤_}
 use mathlib.Core.Bool.{Bool, true, false, cond, _&&_, not, true≢false}
-use mathlib.Core.List.{List, [], _∷_}
+use mathlib.Core.List.{List}
 use mathlib.Core.Path.{_≡_, refl, sym, ap, ap₂, _∙_}
 use native.Mathlib.Omega.{arith}
 use borrow.Author.Tests.{ltb-true, ltb-false, leb-true, eqb-true, eqb-false, eq-eqb, ne-eqb, not-true}
@@ -12,37 +12,25 @@ use Rattle.folds.specs.Below.{sumBelow}
 use Rattle.folds.specs.Bytes.{number}
 use Rattle.folds.proofs.Tests.{and-parts, is-not-true, code-zero, code-next, first-zero, then-zero, all-at}
 use Rattle.folds.proofs.Figures.{sum-at}
-use Rattle.folds.proofs.Arrays.{by-eq}
 use Rattle.folds.proofs.RowLaws.{Bytes}
 use Rattle.plan_rules.specs.Rules.{taskOf, countsOk, taskOk, tagNew, priorityNew, uniqueOk, namesOk, sumsOk, lengthOf, lengthsOk}
 use Rattle.plan_rules.specs.declared.Counts.{Counts}
 use Rattle.plan_rules.specs.declared.TaskRow.{TaskRow}
-use Rattle.plan_layout.specs.Layout.{countsOf, tasksAt, resourcesAt, sectionsAt, namesAt, offsetsOk, taskAt, taskSpare, sectionAt, taskRowsOk, lengthRowsOk, sectionRowsOk, sectionCode, restCode, partsCode, tasksOf, lengthsOf, sectionsOf, rowsOf, namesOf, startAt, lengthAt, resourceSpare}
+use Rattle.plan_layout.specs.Layout.{countsOf, tasksAt, resourcesAt, sectionsAt, namesAt, offsetsOk, taskAt, taskSpare, sectionAt, taskRowsOk, lengthRowsOk, sectionRowsOk, sectionCode, restCode, partsCode, tasksOf, lengthsOf, sectionsOf, namesOf, startAt, lengthAt, resourceSpare}
 use Rattle.plan_rules.proofs.Laws.{InRange, counts-facts, task-facts, section-facts, length-facts}
 use Rattle.plan_layout.proofs.Laws.{task-read, length-read, start-read, task-fields}
-use Rattle.plan_reading.specs.declared.ReadAnswer.{ReadAnswer}
-use Rattle.plan_reading.specs.declared.ReadAnswer.the-variants.{Accepted, Refused}
-use Rattle.plan_reading.specs.Plan.{planOf, Checked, TaskFits, SectionFits, Valid}
-use Rattle.plan_reading.specs.Reading.{headerCode, rowsCode, refusal, given, reading, refusedWith, told, readTold, nameRefusal, namePart}
+use Rattle.plan_reading.specs.Plan.{planOf, namePart, Checked, TaskFits, SectionFits, Valid}
+use Rattle.plan_reading.specs.Checks.{headerCode, rowsCode, checkCode}
 
--- what the number of a file is after each check that fails or holds
+-- the first check that a file fails, by whether one of its header's does
 module _ (f : List ℕ) where
-  pub header-fails : {k : ℕ} → k ≡ headerCode f → (k ≡ 0 → ⊥) → refusal f ≡ k
-  unfolding refusal
+  pub header-fails : {k : ℕ} → k ≡ headerCode f → (k ≡ 0 → ⊥) → checkCode f ≡ k
+  unfolding checkCode
   header-fails e d = rw (← e, ne-eqb _ _ d)
 
-  pub header-holds : {k : ℕ} → k ≡ headerCode f → k ≡ 0 → refusal f ≡ rowsCode f
-  unfolding refusal
+  pub header-holds : {k : ℕ} → k ≡ headerCode f → k ≡ 0 → checkCode f ≡ rowsCode f
+  unfolding checkCode
   header-holds e z = rw (eq-eqb (headerCode f) 0 (sym e ∙ z))
-
-  -- and what a reading then is
-  pub read-refused : {k : ℕ} → k ≡ refusal f → (k ≡ 0 → ⊥) → reading f ≡ refusedWith k
-  unfolding given
-  read-refused e d = rw (← e, ne-eqb _ _ d)
-
-  pub read-accepted : {k : ℕ} → k ≡ refusal f → k ≡ 0 → reading f ≡ record { answer = Accepted (countsOf f); rows = rowsOf f }
-  unfolding given
-  read-accepted e z = rw (eq-eqb (refusal f) 0 (sym e ∙ z))
 
 -- the header
 pub record Header (f : List ℕ) : Type 0 where
@@ -100,12 +88,12 @@ pub record Whole (f : List ℕ) : Type 0 where
   pub sections : sectionRowsOk (countsOf f .sections) (countsOf f .tasks) (countsOf f .resources) (drop (sectionsAt (countsOf f)) f) ≡ true
   pub sums : sumsOk (countsOf f .tasks) (countsOf f .sections) (tasksOf f) (sectionsOf f) ≡ true
 
-pub header-clear : (f : List ℕ) → refusal f ≡ 0 → headerCode f ≡ 0
-unfolding refusal
+pub header-clear : (f : List ℕ) → checkCode f ≡ 0 → headerCode f ≡ 0
+unfolding checkCode
 header-clear f e = first-zero (headerCode f) (rowsCode f) e
 
-pub whole-facts : (f : List ℕ) → refusal f ≡ 0 → Whole f
-unfolding refusal partsCode restCode sectionCode
+pub whole-facts : (f : List ℕ) → checkCode f ≡ 0 → Whole f
+unfolding checkCode partsCode restCode sectionCode
 whole-facts f e =
     let h : headerCode f ≡ 0 = first-zero (headerCode f) _ e in
     let r1 = then-zero (headerCode f) _ e in
@@ -124,43 +112,6 @@ whole-facts f e =
       sums = code-zero _ _ 8 r6;
     }
 
--- what the answer of a reading tells
-pub record Got (f : List ℕ) (c : Counts) : Type 0 where
-  pub none : refusal f ≡ 0
-  pub counts : c ≡ countsOf f
-  pub rows : reading f .rows ≡ rowsOf f
-
-counts-in : ReadAnswer → Counts
-counts-in (Accepted c) = c
-counts-in (Refused k) = record { processors = 0; tasks = 0; resources = 0; sections = 0 }
-
-number-in : ReadAnswer → ℕ
-number-in (Accepted c) = 0
-number-in (Refused k) = suc k
-
-pub given-told : (f : List ℕ) → told (reading f .answer) ≡ readTold f
-unfolding given
-given-told f =
-    by-eq
-    (λ (b : Bool). told ((cond b (record { answer = Accepted (countsOf f); rows = rowsOf f }) (refusedWith (refusal f))) .answer) ≡ record { number = refusal f; values = cond b (getD f 1 0 ∷ getD f 2 0 ∷ getD f 3 0 ∷ number 2 f 4 ∷ []) [] })
-    (refusal f) 0 (λ q. rw q) (λ d. refl)
-
-pub got-plan : (f : List ℕ) (c : Counts) → reading f .answer ≡ Accepted c → Got f c
-unfolding given counts-in number-in
-got-plan f c e = go (eqb (refusal f) 0) refl e
-  where
-    go : (b : Bool) → eqb (refusal f) 0 ≡ b → (cond b (record { answer = Accepted (countsOf f); rows = rowsOf f }) (refusedWith (refusal f))) .answer ≡ Accepted c → Got f c
-    go true t a = record { none = eqb-true _ _ t; counts = sym (ap counts-in a); rows = rw t }
-    go false t a = let bad : suc (refusal f) ≡ 0 = ap number-in a in let off : ⊥ = omega arith in absurd off
-
-pub got-refusal : (f : List ℕ) (k : ℕ) → reading f .answer ≡ Refused k → (refusal f ≡ k) × (k ≡ 0 → ⊥)
-unfolding given number-in
-got-refusal f k e = go (eqb (refusal f) 0) refl e
-  where
-    go : (b : Bool) → eqb (refusal f) 0 ≡ b → (cond b (record { answer = Accepted (countsOf f); rows = rowsOf f }) (refusedWith (refusal f))) .answer ≡ Refused k → (refusal f ≡ k) × (k ≡ 0 → ⊥)
-    go true t a = let bad : 0 ≡ suc k = ap number-in a in let off : ⊥ = omega arith in absurd off
-    go false t a = let same : suc (refusal f) ≡ suc k = ap number-in a in (omega arith, λ z. eqb-false (refusal f) 0 t (omega arith))
-
 -- a name that is asked for rightly lies in the file, and is as long as its rule says
 pub record Named (f : List ℕ) (q : ℕ) : Type 0 where
   pub whole : Whole f
@@ -168,7 +119,7 @@ pub record Named (f : List ℕ) (q : ℕ) : Type 0 where
   pub fits : namesAt (countsOf f) + (startAt (drop (resourcesAt (countsOf f)) f) q + lengthAt (drop (resourcesAt (countsOf f)) f) q) ≤ length f
   pub short : lengthAt (drop (resourcesAt (countsOf f)) f) q ≤ 12
 
-pub name-facts : (f : List ℕ) (q : ℕ) → refusal f ≡ 0 → q < countsOf f .resources → Named f q
+pub name-facts : (f : List ℕ) (q : ℕ) → checkCode f ≡ 0 → q < countsOf f .resources → Named f q
 unfolding lengthRowsOk namesOk
 name-facts f q e l =
     let part : List ℕ = drop (resourcesAt (countsOf f)) f in
@@ -191,20 +142,6 @@ pub name-said : (part f : List ℕ) (q : ℕ) → Named f q → part ≡ namePar
 unfolding namePart
 name-said part f q n e =
     (e, rw e (omega (arith, length-take (lengthAt (drop (resourcesAt (countsOf f)) f) q) (drop (namesAt (countsOf f) + startAt (drop (resourcesAt (countsOf f)) f) q) f), n .short)))
-
--- what a question for a name that is not refused says
-pub record Answered (f : List ℕ) (q : ℕ) : Type 0 where
-  pub none : refusal f ≡ 0
-  pub below : q < countsOf f .resources
-
-pub name-answered : (f : List ℕ) (q : ℕ) → nameRefusal f q ≡ 0 → Answered f q
-unfolding nameRefusal
-name-answered f q e =
-    let r : ℕ = countsOf f .resources in
-    record {
-      none = first-zero (refusal f) (cond (ltb q r) 0 12) e;
-      below = ltb-true q r (code-zero (ltb q r) 0 11 (then-zero (refusal f) (cond (ltb q r) 0 12) e));
-    }
 
 -- the plan of a file has the counts in its header
 module _ (f : List ℕ) where

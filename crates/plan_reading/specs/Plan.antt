@@ -1,12 +1,12 @@
 -- A plan as the analysis and the machine see it: its counts and its rows, whatever the file they came from.
-use Prim.Native.Nat.{ℕ, _<_, _≤_}
+use Prim.Native.Nat.{ℕ, _+_, _<_, _≤_}
 use mathlib.Core.List.{List}
 use mathlib.Core.Path.{_≡_}
-use lib.ListN.{length, getD, drop}
+use lib.ListN.{length, getD, take, drop}
 use Rattle.plan_rules.specs.declared.TaskRow.{TaskRow}
 use Rattle.plan_rules.specs.declared.SectionRow.{SectionRow}
-use Rattle.plan_layout.specs.Layout.{countsOf, tasksAt, sectionsAt, taskAt, sectionAt}
-use Rattle.plan_reading.specs.Reading.{refusal}
+use Rattle.plan_layout.specs.Layout.{countsOf, tasksAt, resourcesAt, sectionsAt, namesAt, taskAt, sectionAt, startAt, lengthAt}
+use Rattle.plan_reading.specs.Checks.{checkCode}
 
 -- how many processors, tasks, resources and sections there are, and the rows by their numbers
 pub record Plan : Type 0 where
@@ -29,9 +29,15 @@ planOf f =
       section = sectionAt (drop (sectionsAt (countsOf f)) f);
     }
 
--- a file of bytes that passed every check
+-- the part of a file that is the name of resource q
+unfoldable pub namePart : List ℕ → ℕ → List ℕ
+namePart f q =
+    take (lengthAt (drop (resourcesAt (countsOf f)) f) q)
+    (drop (namesAt (countsOf f) + startAt (drop (resourcesAt (countsOf f)) f) q) f)
+
+-- a file of bytes that passed checks 1 to 9
 pub record Checked (f : List ℕ) : Type 0 where
-  pub none : refusal f ≡ 0
+  pub none : checkCode f ≡ 0
   pub bytes : (k : ℕ) → k < length f → getD f k 0 < 256
 
 -- a task that keeps the rules of a plan of so many processors

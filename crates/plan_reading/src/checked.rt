@@ -6,8 +6,7 @@ use plan_rules::TaskRow;
 ghost use mathlib.Core.Path.{_≡_};
 ghost use Prim.Native.Nat.{_<_, _≤_};
 ghost use lib.ListN.{length};
-ghost use Rattle.plan_reading.specs.Plan.{planOf, Checked};
-ghost use Rattle.plan_reading.specs.Reading.{namePart};
+ghost use Rattle.plan_reading.specs.Plan.{planOf, namePart, Checked};
 
 // How many processors, tasks, resources and sections the plan has.
 pub fn counts(file: &[u8]) -> Counts

@@ -14,9 +14,10 @@ use Rattle.plan_rules.specs.Rules.{valuesCode}
 use Rattle.plan_rules.specs.declared.Counts.{Counts}
 use Rattle.plan_rules.specs.declared.Rows.{Rows}
 use Rattle.plan_layout.specs.Layout.{countsOf, rowsOf, namesOf}
-use Rattle.plan_reading.specs.declared.Reading.{Reading}
-use Rattle.plan_reading.specs.declared.ReadAnswer.the-variants.{Accepted}
-use Rattle.plan_reading.specs.Reading.{refusal, given, reading, refusedWith, told as readSaid}
+use Rattle.plan.specs.declared.Reading.{Reading}
+use Rattle.plan.specs.declared.ReadAnswer.the-variants.{Accepted}
+use Rattle.plan.specs.Acceptance.{refusal}
+use Rattle.plan.specs.Reading.{given, reading, refusedWith, told as readSaid}
 use Rattle.plan_writing.specs.declared.WriteAnswer.{WriteAnswer}
 use Rattle.plan_writing.specs.declared.WriteAnswer.the-variants.{Written, Refused}
 use Rattle.plan_writing.specs.Encode.{fileLength, fileOf, writeCode, writing, written, told, writeTold}

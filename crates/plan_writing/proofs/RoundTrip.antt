@@ -19,8 +19,12 @@ use Rattle.plan_rules.specs.declared.Rows.{Rows}
 use Rattle.plan_layout.specs.Layout.{countsOf, tasksAt, resourcesAt, sectionsAt, namesAt, taskWidths, resourceWidths, sectionWidths, taskAt, taskSpare, startAt, lengthAt, resourceSpare, sectionAt, taskRows, lengthRows, sectionRows, taskRowsOk, lengthRowsOk, sectionCode, restCode, partsCode, rowsOf, namesOf}
 use Rattle.plan_rules.proofs.Laws.{InRange, counts-facts}
 use Rattle.plan_layout.proofs.Laws.{task-read, length-read, section-read, start-read, tasks-kept, sections-kept}
-use Rattle.plan_reading.specs.Reading.{headerCode, refusal, nameRefusal, namePart, nameOf}
+use Rattle.plan_reading.specs.Checks.{headerCode, checkCode}
+use Rattle.plan_reading.specs.Plan.{namePart}
+use Rattle.plan.specs.Acceptance.{refusal}
+use Rattle.plan.specs.Reading.{nameRefusal, nameOf}
 use Rattle.plan_reading.proofs.Laws.{Header, Whole, whole-facts}
+use Rattle.plan.proofs.Laws.{none-failed}
 use Rattle.plan_writing.specs.Encode.{headerWidths, headerNumbers, headerBytes, taskNumbers, taskBytes, resourceBytes, sectionNumbers, sectionBytes, fileLength, fileOf}
 use Rattle.plan_writing.specs.RoundTrip.{trimmed, nameIn, SameFile, WrittenThenRead, ReadThenWritten}
 use Rattle.plan_writing.proofs.Same.{Kept, kept-facts, kept-code, rows-joined}
@@ -108,7 +112,7 @@ header-read f h =
     rw (le-ltb _ _ (h .long), eq-eqb _ _ (h .whole), eq-eqb _ _ (h .edition), h .counts, eq-eqb _ _ (h .tasks-at), eq-eqb _ _ (h .resources-at), eq-eqb _ _ (h .sections-at), eq-eqb _ _ (h .names-at), le-leb _ _ (h .ends))
 
 whole-read : (f : List ℕ) → Whole f → refusal f ≡ 0
-unfolding refusal partsCode restCode sectionCode
+unfolding refusal checkCode partsCode restCode sectionCode
 whole-read f w =
     rw (header-read f (w .header), w .tasks, w .unique, w .starts, w .names, w .sections, w .sums)
 
@@ -214,7 +218,7 @@ holds-file f c rows names b h =
 
 pub read-then-written : ReadThenWritten
 read-then-written f b e =
-    let w : Whole f = whole-facts f e in
+    let w : Whole f = whole-facts f (none-failed f e) in
     record {
       accepted = kept-code (countsOf f) (rowsOf f) (namesOf f) (read-kept f w);
       file = holds-file f (countsOf f) (rowsOf f) (namesOf f) b (read-holds f w);

@@ -11,7 +11,7 @@ use Rattle.plan_rules.specs.declared.SectionRow.{SectionRow}
 use Rattle.plan_rules.specs.declared.Counts.{Counts}
 use Rattle.plan_rules.specs.declared.Rows.{Rows}
 use Rattle.plan_layout.specs.Layout.{tasksAt, resourcesAt, sectionsAt, namesAt, taskWidths, resourceWidths, sectionWidths}
-use Rattle.plan_reading.specs.Reading.{Told, answered}
+use Rattle.refusals.specs.Outcomes.{Outcome, outcome}
 use Rattle.plan_writing.specs.declared.WriteAnswer.{WriteAnswer}
 use Rattle.plan_writing.specs.declared.WriteAnswer.the-variants.{Written, Refused}
 
@@ -76,10 +76,10 @@ written c rows names buf =
     cond (eqb (writeCode c rows names (length buf)) 0) (fileOf c rows names ++ drop (fileLength c names) buf) buf
 
 -- document 01's number and values for each case of the answer
-abbrev pub told : WriteAnswer → Told
+abbrev pub told : WriteAnswer → Outcome
 told (Written len) = record { number = 0; values = len ∷ [] }
 told (Refused k) = record { number = k; values = [] }
 
 -- what writing tells
-abbrev pub writeTold : Counts → Rows → List ℕ → ℕ → Told
-writeTold c rows names room = answered (writeCode c rows names room) (fileLength c names ∷ [])
+abbrev pub writeTold : Counts → Rows → List ℕ → ℕ → Outcome
+writeTold c rows names room = outcome (writeCode c rows names room) (fileLength c names ∷ [])

@@ -10,9 +10,11 @@ use Rattle.plan_rules.specs.Rules.{noTask, noSection, taskOf, sectionOf, length
 use Rattle.plan_rules.specs.declared.Counts.{Counts}
 use Rattle.plan_rules.specs.declared.Rows.{Rows}
 use Rattle.plan_layout.specs.Layout.{countsOf, rowsOf, namesOf}
-use Rattle.plan_reading.specs.declared.Reading.{Reading}
-use Rattle.plan_reading.specs.declared.ReadAnswer.the-variants.{Accepted}
-use Rattle.plan_reading.specs.Reading.{Told, answered, refusal, refusedWith, nameRefusal, nameOf}
+use Rattle.plan.specs.declared.Reading.{Reading}
+use Rattle.plan.specs.declared.ReadAnswer.the-variants.{Accepted}
+use Rattle.refusals.specs.Outcomes.{Outcome, outcome}
+use Rattle.plan.specs.Acceptance.{refusal}
+use Rattle.plan.specs.Reading.{refusedWith, nameRefusal, nameOf}
 use Rattle.plan_writing.specs.declared.WriteAnswer.{WriteAnswer}
 use Rattle.plan_writing.specs.declared.WriteAnswer.the-variants.{Written, Refused}
 use Rattle.plan_writing.specs.Encode.{fileOf, writeCode}
@@ -58,9 +60,9 @@ readBack c rows names room =
     cond (eqb (writeCode c rows names room) 0) (record { answer = Accepted c; rows = trimmed c rows }) (refusedWith (writeCode c rows names room))
 
 -- what that tells
-abbrev pub readBackTold : Counts → Rows → List ℕ → ℕ → Told
+abbrev pub readBackTold : Counts → Rows → List ℕ → ℕ → Outcome
 readBackTold c rows names room =
-    answered (writeCode c rows names room) (c .processors ∷ c .tasks ∷ c .resources ∷ c .sections ∷ [])
+    outcome (writeCode c rows names room) (c .processors ∷ c .tasks ∷ c .resources ∷ c .sections ∷ [])
 
 -- copying a file by reading and writing it: 1 to 9 as reading does, then 10
 unfoldable pub copyCode : List ℕ → ℕ → ℕ
@@ -71,8 +73,8 @@ unfoldable pub copying : List ℕ → ℕ → WriteAnswer
 copying f room = cond (eqb (copyCode f room) 0) (Written (length f)) (Refused (copyCode f room))
 
 -- what that tells
-abbrev pub copyTold : List ℕ → ℕ → Told
-copyTold f room = answered (copyCode f room) (length f ∷ [])
+abbrev pub copyTold : List ℕ → ℕ → Outcome
+copyTold f room = outcome (copyCode f room) (length f ∷ [])
 
 -- the buffer after it: the same file, then what was behind; unchanged after a refusal
 unfoldable pub copied : List ℕ → List ℕ → List ℕ

@@ -1,6 +1,6 @@
 // Writing a plan file at the front of a lent buffer, and both round trips.
-use plan_reading::ReadAnswer;
-use plan_reading::Reading;
+use plan::ReadAnswer;
+use plan::Reading;
 use plan_rules::Counts;
 use plan_rules::Rows;
 use plan_rules::SectionRow;
@@ -15,7 +15,7 @@ ghost use Rattle.plan_rules.specs.Rules.{countsOk, tagsOk, valuesCode};
 ghost use Rattle.plan_layout.specs.Layout.{taskWidths, resourceWidths, sectionWidths};
 ghost use Rattle.plan_writing.specs.Encode.{headerBytes, taskNumbers, taskBytes, resourceBytes, sectionNumbers, sectionBytes, fileLength, fileOf, writing, written, told, writeTold};
 ghost use Rattle.plan_writing.specs.RoundTrip.{readBack, readBackTold, copying, copied, copyTold};
-ghost use Rattle.plan_reading.specs.Reading.{told as readSaid};
+ghost use Rattle.plan.specs.Reading.{told as readSaid};
 
 // The length of the file that was written, or the refusal.
 pub enum WriteAnswer {
@@ -240,9 +240,9 @@ pub fn read_back(c: Counts, rows: Rows, names: &[u8], buf: &mut [u8]) -> Reading
     match answer {
         WriteAnswer::Written(len) => {
             let end = len as usize;
-            plan_reading::read(&buf[0..end])
+            plan::read(&buf[0..end])
         }
-        WriteAnswer::Refused(k) => plan_reading::refused(k),
+        WriteAnswer::Refused(k) => plan::refused(k),
     }
 }
 
@@ -252,7 +252,7 @@ pub fn copy(file: &[u8], buf: &mut [u8]) -> WriteAnswer
     ensures { λ r. ⌜ now (buf .exit) ≡ copied (now (file .entry)) (now (buf .entry)) ⌝ }
     ensures { λ r. ⌜ told r ≡ copyTold (now (file .entry)) (length (now (buf .entry))) ⌝ }
 {
-    let found = plan_reading::read(file);
+    let found = plan::read(file);
     let answer = found.answer;
     match answer {
         ReadAnswer::Accepted(counts) => {

@@ -8,8 +8,9 @@ use lib.Dec.{eqb, ltb}
 use lib.ListN.{length, getD}
 use Rattle.folds.proofs.Tests.{code-zero, code-next, first-zero, then-zero}
 use Rattle.folds.proofs.Arrays.{by-eq}
-use Rattle.plan_reading.specs.Reading.{refusal}
 use Rattle.plan_reading.specs.Plan.{Plan, planOf, Checked}
+use Rattle.plan.specs.Acceptance.{refusal}
+use Rattle.plan.proofs.Laws.{accepted-checked}
 use Rattle.analysis_equations.specs.Questions.{taskNumber, useCode}
 use Rattle.queue_rules.specs.Rules.{Line, line, turn, released}
 use Rattle.machine_rules.specs.declared.Call.{Call}
@@ -50,7 +51,7 @@ module _ (f : List ℕ) (bytes : (k : ℕ) → k < length f → getD f k 0 < 256
   unfolding reply callRefusal
   reply-names c q n =
       by-eq (λ (b : Bool). Names f q (cond b (told (planOf f) (shows (planOf f) s) c) (Refused (callRefusal f s c)))) (callRefusal f s c) 0
-      (λ e. n (then-zero (stateRefusal f s) _ e) (record { none = first-zero (refusal f) _ (first-zero (stateRefusal f s) _ e); bytes = bytes }))
+      (λ e. n (then-zero (stateRefusal f s) _ e) (accepted-checked (record { none = first-zero (refusal f) _ (first-zero (stateRefusal f s) _ e); bytes = bytes })))
       (λ d. tt)
 
   -- three bytes that are a call

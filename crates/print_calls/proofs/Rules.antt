@@ -7,7 +7,8 @@ use native.Mathlib.Numerals.{add-one}
 use native.Mathlib.Omega.{arith}
 use lib.ListN.{length, getD, length-append, List·getD-append}
 use lib.Seq.{getD-append-add}
-use Rattle.plan_reading.specs.Plan.{planOf, Checked}
+use Rattle.plan_reading.specs.Plan.{planOf}
+use Rattle.plan.specs.Acceptance.{Accepted}
 use Rattle.machine_rules.specs.declared.Call.{Call}
 use Rattle.machine_rules.specs.declared.Answer.{Answer}
 use Rattle.machine_rules.specs.Machine.{fresh, answer, run}
@@ -69,7 +70,7 @@ pub record ByRules (f l : List ℕ) (t : State) (x : List ℕ) : Type 0 where
 byte-behind : (l x : List ℕ) (m i : ℕ) → length l ≡ m → getD (l ++ x) (m + i) 0 ≡ getD x i 0
 byte-behind l x m i e = rw (← e) (getD-append-add l x i 0)
 
-module _ (f : List ℕ) (k : Checked f) where
+module _ (f : List ℕ) (k : Accepted f) where
   one-more : (l x : List ℕ) (s t : State) (a b c : ℕ) → ByRules f l s x → AfterBytes f s (callOf a b c) t
       → ByRules f (l ++ (a ∷ b ∷ c ∷ [])) t (x ++ callLine f s a b c)
   unfolding linesBelow callLine

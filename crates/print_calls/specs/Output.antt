@@ -5,7 +5,8 @@ use mathlib.Core.List.{List, [], _∷_, _++_}
 use lib.Dec.{eqb}
 use lib.ListN.{length, getD, take, drop}
 use Rattle.plan_layout.specs.Layout.{countsOf}
-use Rattle.plan_reading.specs.Reading.{refusal, planLength}
+use Rattle.plan.specs.Acceptance.{refusal}
+use Rattle.plan.specs.Reading.{planLength}
 use Rattle.plan_reading.specs.Plan.{planOf}
 use Rattle.machine_rules.specs.declared.Call.{Call}
 use Rattle.machine_rules.specs.Machine.{answer, run}

@@ -4,7 +4,7 @@ use mathlib.Core.List.{List, _++_}
 use lib.IntN.{ℤ}
 use Rattle.print_text.specs.Text.{quoted, decimal, signed}
 use Rattle.plan_rules.specs.declared.Counts.{Counts}
-use Rattle.plan_reading.specs.Reading.{namePart}
+use Rattle.plan_reading.specs.Plan.{namePart}
 use Rattle.machine_rules.specs.declared.Answer.{Answer}
 use Rattle.machine_rules.specs.declared.Answer.the-variants.{Granted, Waits, Next, Free, Ticked, Refused}
 

@@ -8,7 +8,8 @@ use Rattle.print_text.specs.declared.Line.{Line}
 use Rattle.print_text.specs.Text.{quoted, textBelow}
 use Rattle.print_text.specs.Buffers.{lineUnless, lineInUnless}
 use Rattle.plan_layout.specs.Layout.{countsOf}
-use Rattle.plan_reading.specs.Reading.{refusal, planLength}
+use Rattle.plan.specs.Acceptance.{refusal}
+use Rattle.plan.specs.Reading.{planLength}
 use Rattle.plan_reading.specs.Plan.{Plan, planOf}
 use Rattle.analysis_equations.specs.Sharing.{uses, usedOn, global}
 use Rattle.analysis_equations.specs.HoldTimes.{holdTime, budget, waitTime}

@@ -389,7 +389,7 @@ pub fn sheet(file: &[u8], out: &mut [u8]) -> Line
     ensures { λ r. ⌜ now (out .exit) ≡ sheetIn (now (file .entry)) (now (out .entry)) ⌝ }
     ensures { λ r. ⌜ r .length ≤ 131072 ⌝ }
 {
-    let code = plan_reading::check(file);
+    let code = plan::check(file);
     if code != 0 {
         return Line {
             refusal: code,

@@ -15,7 +15,8 @@ checked c =
     checked-file _ (sym (c .before .check .ensures) ∙ c .if1 .left) (λ i. c .before .before .shared-slice-known .given i .fits)
 
 returns-2 : tie.Need-returns-2
-returns-2 c = times-given _ _ (checked (c .before .before .before .before .before) .none) (c .before .before .before .fill-figures .ensures .figures) (c .holds-of .ensures)
+returns-2 c =
+    let i = c .before .before .before .before .before in times-given _ _ (sym (i .before .check .ensures) ∙ i .if1 .left) (c .before .before .before .fill-figures .ensures .figures) (c .holds-of .ensures)
 
 pub hold-times-spec : {M : Type 1} → statement M
 hold-times-spec =

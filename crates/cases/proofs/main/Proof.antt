@@ -10,29 +10,8 @@ Inv-loop turns₀ more₀ turns more = Unit {0}
 abbrev μ-loop : tie.MeasureT-loop
 μ-loop turns₀ more₀ turns more = turns
 
-loop-holds : tie.Need-loop-holds Inv-loop μ-loop
-loop-holds c = tt
-
-next-requires : tie.Need-next-requires Inv-loop μ-loop
-next-requires c κs = tt
-
-sub-turns : tie.Need-sub-turns Inv-loop μ-loop
-sub-turns c = omega (arith, ltb-true)
-
-loop-less : tie.Need-loop-less Inv-loop μ-loop
-loop-less c = omega (arith, ltb-true)
-
-loop-again : tie.Need-loop-again Inv-loop μ-loop
-loop-again c = tt
-
-returns : tie.Need-returns Inv-loop μ-loop
-returns c = tt
-
-returns-2 : tie.Need-returns-2 Inv-loop μ-loop
-returns-2 c = tt
-
 pub main-spec : {M : Type 1} → statement M
 main-spec =
     tie.close
     (tie.spec
-    Inv-loop μ-loop loop-holds next-requires sub-turns loop-less loop-again returns returns-2)
+    Inv-loop μ-loop (λ c. tt) (λ c κs. tt) (λ c. omega (arith, ltb-true)) (λ c. omega (arith, ltb-true)) (λ c. tt) (λ c. tt) (λ c. tt))

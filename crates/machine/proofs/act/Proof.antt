@@ -1,6 +1,7 @@
 -- The tables of the state are made of it, and the test by them is that of soundness.
 use borrow.Author.Needs.{needs}
-use Rattle.plan_reading.proofs.Laws.{valid-plan}
+use Rattle.plan.specs.Acceptance.{Accepted}
+use Rattle.plan.proofs.Laws.{accepted-checked, accepted-valid}
 use Rattle.machine.proofs.Acting.{keys-low, Made, passed, not-passed, unsound-reply, sound-reply}
 use Rattle.machine.proofs.act.Statement.{statement}
 use Rattle.machine.proofs.act.Tie as tie
@@ -35,6 +36,13 @@ Here =
     )
     reads.Pre reads.Post
 
+-- the plan is accepted
+plan-of : (c : tie.After-tasks) → Accepted (c .before .before .before .before .args .file .now)
+plan-of c = c .before .before .before .before .pre .0
+
+fill-seats-requires : tie.Need-fill-seats-requires
+fill-seats-requires c κs = (accepted-checked (plan-of (c .before .before .before)), c .before .before .key-table .ensures, search needs)
+
 -- they are those of the plan and the state
 made : (c : Here)
     → let k = c .before .before .before in let a = k .before .before .before .before .before .args in
@@ -47,7 +55,7 @@ made c =
 passes-requires : tie.Need-passes-requires
 passes-requires c κs =
     let m = made (c .before .before .before) in
-    let v = valid-plan _ (m .plan) in
+    let v = accepted-valid (m .plan) in
     (m .holds .long, m .budgets .long, m .keys .long, m .seats .long, m .seats .low, keys-low _ v _ _ (m .keys))
 
 returns : tie.Need-returns
@@ -60,19 +68,19 @@ request-on-requires : tie.Need-request-on-requires
 request-on-requires c κs =
     let i = c .before .before .before .before in
     let m = made (i .before .before .before .before .before) in
-    (m .plan, m .holds, m .budgets, m .seats, passed m (i .before .passes .ensures) (i .if1 .left))
+    (accepted-checked (m .plan), m .holds, m .budgets, m .seats, passed m (i .before .passes .ensures) (i .if1 .left))
 
 release-on-requires : tie.Need-release-on-requires
 release-on-requires c κs =
     let i = c .before .before .before .before .before in
     let m = made (i .before .before .before .before .before) in
-    (m .plan, m .holds, m .budgets, m .keys, m .seats, passed m (i .before .passes .ensures) (i .if1 .left))
+    (accepted-checked (m .plan), m .holds, m .budgets, m .keys, m .seats, passed m (i .before .passes .ensures) (i .if1 .left))
 
 tick-on-requires : tie.Need-tick-on-requires
 tick-on-requires c κs =
     let i = c .before .before .before .before in
     let m = made (i .before .before .before .before .before) in
-    (m .plan, m .holds, m .budgets, m .keys, m .seats, passed m (i .before .passes .ensures) (i .if1 .left))
+    (accepted-checked (m .plan), m .holds, m .budgets, m .keys, m .seats, passed m (i .before .passes .ensures) (i .if1 .left))
 
 returns-2 : tie.Need-returns-2
 returns-2 c =
@@ -99,7 +107,7 @@ pub act-spec : {M : Type 1} → statement M
 act-spec =
     tie.close
     (tie.spec
-    (λ c κs. search needs) (λ c. search needs) (λ c. search needs) (λ c κs. search needs) (λ c. search needs) (λ c. search needs)
+    (λ c κs. accepted-checked (plan-of c)) (λ c. search needs) (λ c. search needs) fill-seats-requires (λ c. search needs) (λ c. search needs)
     passes-requires (λ c κs. search needs) returns (λ c. search needs) (λ c. search needs) request-on-requires (λ c. search needs)
     (λ c. search needs) (λ c. search needs) release-on-requires (λ c. search needs) (λ c. search needs) (λ c. search needs)
     tick-on-requires returns-2 returns-3 returns-4)

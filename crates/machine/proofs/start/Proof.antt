@@ -1,6 +1,6 @@
 -- A fresh state shows nobody in line, and is sound where the plan is not refused.
 use borrow.Author.Needs.{needs}
-use Rattle.plan_reading.proofs.Laws.{valid-plan}
+use Rattle.plan.proofs.Laws.{accepted-valid}
 use Rattle.machine_state.proofs.FreshLaws.{fresh-sound, fresh-shows}
 use Rattle.machine.proofs.start.Statement.{statement}
 use Rattle.machine.proofs.start.Tie as tie
@@ -16,7 +16,7 @@ returns c =
     let file = c .before .before .shared-slice-known .given in
     let e = c .fresh .ensures in (
       (c .before .check .ensures, e),
-      rw e (λ z. fresh-sound _ (valid-plan _ (record { none = z; bytes = λ i l. file i .fits })), fresh-shows _),
+      rw e (λ z. fresh-sound _ (accepted-valid (record { none = z; bytes = λ i l. file i .fits })), fresh-shows _),
     )
 
 pub start-spec : {M : Type 1} → statement M

@@ -5,7 +5,7 @@ use Rattle.folds.proofs.Tests.{held, failed}
 use Rattle.plan_rules.specs.Rules.{countsOk}
 use Rattle.plan_rules.specs.declared.Counts.{Counts}
 use Rattle.plan_layout.specs.Layout.{offsetsOk}
-use Rattle.plan_reading.specs.Reading.{headerCode}
+use Rattle.plan_reading.specs.Checks.{headerCode}
 use borrow.Author.Needs.{needs}
 use Rattle.plan_reading.proofs.header_code.Statement.{statement}
 use Rattle.plan_reading.proofs.header_code.Tie as tie

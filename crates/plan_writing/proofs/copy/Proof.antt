@@ -7,8 +7,9 @@ use borrow.Author.Needs.{needs}
 use lib.ListN.{length, getD, take, drop}
 use Rattle.folds.proofs.Parts.{part-rest}
 use Rattle.plan_layout.specs.Layout.{countsOf, rowsOf, namesOf, namesAt}
-use Rattle.plan_reading.specs.declared.Reading.{Reading}
-use Rattle.plan_reading.proofs.Laws.{Got, got-plan, got-refusal, whole-facts}
+use Rattle.plan.specs.declared.Reading.{Reading}
+use Rattle.plan_reading.proofs.Laws.{whole-facts}
+use Rattle.plan.proofs.Laws.{none-failed, Got, got-plan, got-refusal}
 use Rattle.plan_writing.specs.Encode.{told}
 use Rattle.plan_writing.proofs.Outcome.{copy-buffer, copy-answer, copy-refused, copy-told}
 use Rattle.plan_writing.proofs.copy.Statement.{statement}
@@ -52,6 +53,6 @@ copy-spec =
     tie.close
     (tie.spec
     (λ c κs. search needs) (λ c. search needs) (λ c κs. search needs)
-    (λ c. omega (arith, at-names c, whole-facts _ (got c .none) .header .ends))
-    (λ c. omega (arith, at-names c, whole-facts _ (got c .none) .header .ends)) (λ c. search needs) (λ c κs. search needs)
+    (λ c. omega (arith, at-names c, whole-facts _ (none-failed _ (got c .none)) .header .ends))
+    (λ c. omega (arith, at-names c, whole-facts _ (none-failed _ (got c .none)) .header .ends)) (λ c. search needs) (λ c κs. search needs)
     (λ c. search needs) (λ c. search needs) returns returns-2)

@@ -5,8 +5,8 @@ use native.Mathlib.Nat.{sub-zero}
 use native.Mathlib.Omega.{arith}
 use borrow.Author.Needs.{needs}
 use lib.ListN.{take}
-use Rattle.plan_reading.specs.declared.Reading.{Reading}
-use Rattle.plan_reading.specs.Reading.{told as readSaid}
+use Rattle.plan.specs.declared.Reading.{Reading}
+use Rattle.plan.specs.Reading.{told as readSaid}
 use Rattle.plan_writing.specs.Encode.{fileOf}
 use Rattle.plan_writing.proofs.Outcome.{was-written, was-refused, code-clear, wrote, file-front, back-same, back-refused, back-told}
 use Rattle.plan_writing.proofs.read_back.Statement.{statement}

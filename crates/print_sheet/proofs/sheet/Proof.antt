@@ -4,6 +4,7 @@ use mathlib.Core.Path.{sym, _∙_}
 use native.Mathlib.Omega.{arith}
 use borrow.Author.Needs.{needs}
 use Rattle.print_text.proofs.Lines.{long-line, refused-before, none-before}
+use Rattle.plan.proofs.Laws.{accepted-checked}
 use Rattle.print_sheet.specs.Sheet.{planSheet, sheetLine, sheetIn}
 use Rattle.print_sheet.proofs.sheet.Statement.{statement}
 use Rattle.print_sheet.proofs.sheet.Tie as tie
@@ -18,7 +19,7 @@ returns c =
 sheet-aside-requires : tie.Need-sheet-aside-requires
 sheet-aside-requires c κs =
     let i = c .before .before in
-    record { none = sym (i .before .check .ensures) ∙ i .if1 .left; bytes = λ k l. i .before .before .before .shared-slice-known .given k .fits }
+    accepted-checked (record { none = sym (i .before .check .ensures) ∙ i .if1 .left; bytes = λ k l. i .before .before .before .shared-slice-known .given k .fits })
 
 returns-2 : tie.Need-returns-2
 unfolding sheetLine sheetIn
@@ -32,7 +33,7 @@ returns-2 c =
 put-plan-sheet-requires : tie.Need-put-plan-sheet-requires
 put-plan-sheet-requires c κs =
     let i = c .before .before in
-    (record { none = sym (i .before .check .ensures) ∙ i .if1 .left; bytes = λ k l. i .before .before .before .shared-slice-known .given k .fits }, search needs)
+    (accepted-checked (record { none = sym (i .before .check .ensures) ∙ i .if1 .left; bytes = λ k l. i .before .before .before .shared-slice-known .given k .fits }), search needs)
 
 returns-3 : tie.Need-returns-3
 unfolding sheetLine sheetIn

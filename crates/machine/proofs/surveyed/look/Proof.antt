@@ -1,6 +1,7 @@
 -- The number of the reading, or the tables of a plan that passed every check.
 use mathlib.Core.Path.{refl, sym, _∙_}
 use borrow.Author.Needs.{needs}
+use Rattle.plan.proofs.Laws.{accepted-checked}
 use Rattle.machine.proofs.surveyed.look.Statement.{statement}
 use Rattle.machine.proofs.surveyed.look.Tie as tie
 
@@ -16,7 +17,7 @@ hold-table-requires : tie.Need-hold-table-requires
 hold-table-requires c κs =
     let i = c .before .before in
     let p = i .before .before .before .before .before .pre in
-    (record { none = sym (i .before .check .ensures) ∙ i .if1 .left; bytes = λ k l. i .before .before .before .before .shared-slice-known .given k .fits }, p .0, p .1)
+    (accepted-checked (record { none = sym (i .before .check .ensures) ∙ i .if1 .left; bytes = λ k l. i .before .before .before .before .shared-slice-known .given k .fits }), p .0, p .1)
 
 same-length : tie.Need-same-length
 same-length c = search needs

@@ -2,15 +2,15 @@
 use mathlib.Core.Path.{sym, _∙_}
 use borrow.Author.Needs.{needs}
 use borrow.Author.Tests.{eq-eqb, ne-eqb}
-use Rattle.plan_reading.specs.Plan.{Checked}
-use Rattle.plan_reading.proofs.Laws.{valid-plan}
+use Rattle.plan.specs.Acceptance.{Accepted}
+use Rattle.plan.proofs.Laws.{accepted-checked, accepted-valid}
 use Rattle.machine.proofs.Acting.{keys-low, Made, passed, not-passed}
 use Rattle.machine.proofs.surveyed.state_code.Statement.{statement}
 use Rattle.machine.proofs.surveyed.state_code.Tie as tie
 
--- the plan passed every check
-checked : (c : tie.After-tasks) → Checked (c .before .before .before .before .before .args .file .now)
-checked c =
+-- the plan is accepted
+accepted : (c : tie.After-tasks) → Accepted (c .before .before .before .before .before .args .file .now)
+accepted c =
     let a = c .before .before .before .before .before in
     record { none = sym (a .pre .told) ∙ c .before .if1 .left; bytes = λ k l. c .before .before .before .before .shared-slice-known .given k .fits }
 
@@ -22,18 +22,18 @@ made c =
     let k = c .before .before .before in
     let a = k .before .before .before .before .before .before in
     let z = k .before .before .if1 .left in
-    record { plan = checked (k .before); holds = a .pre .holds z; budgets = a .pre .budgets z; keys = k .key-table .ensures; seats = c .fill-seats .ensures }
+    record { plan = accepted (k .before); holds = a .pre .holds z; budgets = a .pre .budgets z; keys = k .key-table .ensures; seats = c .fill-seats .ensures }
 
 returns : tie.Need-returns
 returns c = rw (← c .before .before .before .before .pre .told, ne-eqb _ _ (c .if1 .taken))
 
 fill-seats-requires : tie.Need-fill-seats-requires
-fill-seats-requires c κs = (checked (c .before .before .before), c .before .before .key-table .ensures, search needs)
+fill-seats-requires c κs = (accepted-checked (accepted (c .before .before .before)), c .before .before .key-table .ensures, search needs)
 
 passes-requires : tie.Need-passes-requires
 passes-requires c κs =
     let m = made (c .before .before .before) in
-    let v = valid-plan _ (m .plan) in
+    let v = accepted-valid (m .plan) in
     (m .holds .long, m .budgets .long, m .keys .long, m .seats .long, m .seats .low, keys-low _ v _ _ (m .keys))
 
 returns-2 : tie.Need-returns-2
@@ -50,5 +50,5 @@ pub state-code-spec : {M : Type 1} → statement M
 state-code-spec =
     tie.close
     (tie.spec
-    returns (λ c κs. checked c) (λ c. search needs) (λ c. search needs) fill-seats-requires (λ c. search needs)
+    returns (λ c κs. accepted-checked (accepted c)) (λ c. search needs) (λ c. search needs) fill-seats-requires (λ c. search needs)
     (λ c. search needs) passes-requires returns-2 returns-3)

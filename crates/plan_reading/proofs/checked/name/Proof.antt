@@ -6,7 +6,7 @@ use borrow.Author.Needs.{needs}
 use lib.ListN.{drop, length-drop}
 use Rattle.folds.proofs.Parts.{part-rest, part-span}
 use Rattle.plan_layout.specs.Layout.{countsOf, resourcesAt, namesAt, startAt, lengthAt}
-use Rattle.plan_reading.specs.Reading.{namePart}
+use Rattle.plan_reading.specs.Plan.{namePart}
 use Rattle.plan_reading.proofs.Laws.{Named, name-facts, name-said, plan-resources}
 use Rattle.plan_reading.proofs.checked.name.Statement.{statement}
 use Rattle.plan_reading.proofs.checked.name.Tie as tie

@@ -1,0 +1,17 @@
+-- The number is made of the fields of the answer.
+use Rattle.bench_hooks.specs.Asking.{holdNumber}
+use borrow.Author.Needs.{needs}
+use Rattle.bench_hooks.proofs.asking.hold_time_at.Statement.{statement}
+use Rattle.bench_hooks.proofs.asking.hold_time_at.Tie as tie
+
+returns : tie.Need-returns
+unfolding holdNumber
+returns c =
+    rw (c .word .ensures .0, c .before .before .byte .ensures .0, c .before .before .before .hold-times .ensures)
+
+pub hold-time-at-spec : {M : Type 1} → statement M
+hold-time-at-spec =
+    tie.close
+    (tie.spec
+    (λ c κs. search needs) (λ c. search needs) (λ c κs. search needs) (λ c. search needs) (λ c. search needs)
+    (λ c κs. search needs) (λ c. search needs) (λ c. search needs) returns)

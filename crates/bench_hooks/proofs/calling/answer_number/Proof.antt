@@ -1,0 +1,27 @@
+-- Each answer has its number.
+use mathlib.Core.Path.{sym, ap}
+use borrow.Author.Needs.{needs}
+use Rattle.bench_hooks.specs.Calling.{answerNumber}
+use Rattle.bench_hooks.proofs.calling.answer_number.Statement.{statement}
+use Rattle.bench_hooks.proofs.calling.answer_number.Tie as tie
+
+returns-2 : tie.Need-returns-2
+returns-2 c = rw (c .byte .ensures .0) (sym (ap answerNumber (c .before .before .answer .given .1)))
+
+returns-3 : tie.Need-returns-3
+returns-3 c = rw (c .word .ensures .0) (sym (ap answerNumber (c .before .before .answer2 .given .1)))
+
+returns-5 : tie.Need-returns-5
+returns-5 c =
+    let h = c .before in
+    rw (h .word2 .ensures .0, c .word3 .ensures .0) (sym (ap answerNumber (h .before .before .answer3 .given .1)))
+
+pub answer-number-spec : {M : Type 1} → statement M
+answer-number-spec =
+    tie.close
+    (tie.spec
+    (λ c. search needs) (λ c. search needs) (λ c κs. search needs) (λ c. search needs) (λ c. search needs) (λ c. search needs)
+    (λ c. search needs) (λ c. search needs) (λ c. search needs) (λ c κs. search needs) (λ c. search needs) (λ c. search needs)
+    (λ c. search needs) (λ c. search needs) (λ c κs. search needs) (λ c. search needs) (λ c. search needs) (λ c κs. search needs)
+    (λ c. search needs) (λ c. search needs) (λ c. search needs) (λ c κs. search needs) (λ c. search needs) returns-2 returns-3
+    (λ c. search needs) returns-5 (λ c. search needs))

@@ -1,0 +1,17 @@
+-- The sum is that of the rows at the three indices.
+use Rattle.bench_hooks.specs.Reading.{lastRows}
+use borrow.Author.Needs.{needs}
+use Rattle.bench_hooks.proofs.reading.last_rows.Statement.{statement}
+use Rattle.bench_hooks.proofs.reading.last_rows.Tie as tie
+
+returns : tie.Need-returns
+unfolding lastRows
+returns c = (cc, search needs)
+
+pub last-rows-spec : {M : Type 1} → statement M
+last-rows-spec =
+    tie.close
+    (tie.spec
+    (λ c κs. search needs) (λ c κs. search needs) (λ c κs. search needs) (λ c κs. search needs) (λ c. search needs)
+    (λ c κs. search needs) (λ c. search needs) (λ c. search needs) (λ c. search needs) (λ c. search needs) (λ c κs. search needs)
+    (λ c. search needs) (λ c κs. search needs) (λ c. search needs) (λ c κs. search needs) (λ c. search needs) returns)

@@ -1,0 +1,20 @@
+-- The two parts of the answer, as one number.
+use Prim.Native.Nat.{_+_, _*_}
+use mathlib.Core.Path.{_≡_, ap, _∙_}
+use borrow.Author.Needs.{needs}
+use Rattle.print_text.specs.declared.Line.{Line}
+use Rattle.bench_hooks.specs.Sheets.{sheetNumber}
+use Rattle.bench_hooks.proofs.sheets.plan_sheet.Statement.{statement}
+use Rattle.bench_hooks.proofs.sheets.plan_sheet.Tie as tie
+
+returns : tie.Need-returns
+unfolding sheetNumber
+returns c =
+    let s = c .before .before .before .sheet in
+    (rw (c .byte .ensures .0) (ap (λ (r : Line). r .refusal + 256 * r .length) (s .ensures .0)), s .ensures .1 .0)
+
+pub plan-sheet-spec : {M : Type 1} → statement M
+plan-sheet-spec =
+    tie.close
+    (tie.spec
+    (λ c κs. search needs) (λ c κs. search needs) (λ c. search needs) (λ c. search needs) (λ c. search needs) returns)

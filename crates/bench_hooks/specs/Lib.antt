@@ -1,0 +1,4 @@
+pub mod Asking
+pub mod Calling
+pub mod Reading
+pub mod Sheets

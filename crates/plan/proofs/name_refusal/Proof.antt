@@ -1,0 +1,43 @@
+-- A plan that is read has the resource or has it not; one that is refused gives its number.
+use Prim.Native.Nat.{_<_, _≤_}
+use mathlib.Core.Path.{sym, ap, _∙_}
+use native.Mathlib.Omega.{arith}
+use borrow.Author.Needs.{needs}
+use borrow.Author.Tests.{lt-ltb, le-ltb, eq-eqb, ne-eqb}
+use Rattle.plan_rules.specs.declared.Counts.{Counts}
+use Rattle.plan_layout.specs.Layout.{countsOf}
+use Rattle.plan.specs.Reading.{nameRefusal}
+use Rattle.plan_reading.proofs.Laws.{whole-facts}
+use Rattle.plan.proofs.Laws.{none-failed}
+use Rattle.plan.proofs.name_refusal.Statement.{statement}
+use Rattle.plan.proofs.name_refusal.Tie as tie
+
+check-requires : tie.Need-check-requires
+check-requires c κs = search needs
+
+returns : tie.Need-returns
+unfolding nameRefusal
+returns c = rw (← c .before .check .ensures, ne-eqb _ _ (c .if1 .taken))
+
+counts-at-requires : tie.Need-counts-at-requires
+counts-at-requires c κs = whole-facts _ (none-failed _ (sym (c .before .check .ensures) ∙ c .if1 .left)) .header .long
+
+returns-2 : tie.Need-returns-2
+unfolding nameRefusal
+returns-2 c =
+    let k = c .before .before .before .before in
+    let n = ap (λ (x : Counts). x .resources) (c .before .before .counts-at .ensures) in
+    let l : k .before .before .args .resource < countsOf (k .before .before .args .file .now) .resources = omega (arith, c .if2 .taken) in
+    rw (eq-eqb _ _ (sym (k .check .ensures) ∙ c .before .before .before .if1 .left), lt-ltb _ _ l)
+
+returns-3 : tie.Need-returns-3
+unfolding nameRefusal
+returns-3 c =
+    let k = c .before .before .before .before in
+    let n = ap (λ (x : Counts). x .resources) (c .before .before .counts-at .ensures) in
+    let l : countsOf (k .before .before .args .file .now) .resources ≤ k .before .before .args .resource = omega (arith, c .if2 .left) in
+    rw (eq-eqb _ _ (sym (k .check .ensures) ∙ c .before .before .before .if1 .left), le-ltb _ _ l)
+
+pub name-refusal-spec : {M : Type 1} → statement M
+name-refusal-spec =
+    tie.close (tie.spec check-requires returns counts-at-requires returns-2 returns-3)

@@ -1,0 +1,39 @@
+-- Each return is the branch of the definition.
+use mathlib.Core.Path.{_≡_, sym, ap, _∙_}
+use borrow.Author.Needs.{needs}
+use Rattle.plan.specs.declared.Reading.{Reading}
+use Rattle.plan.specs.declared.ReadAnswer.the-variants.{Accepted}
+use Rattle.plan.specs.Reading.{told, reading}
+use Rattle.plan_reading.proofs.Laws.{whole-facts, header-clear}
+use Rattle.plan.proofs.Laws.{none-failed, read-refused, read-accepted, given-told}
+use Rattle.plan.proofs.read.Statement.{statement}
+use Rattle.plan.proofs.read.Tie as tie
+
+check-requires : tie.Need-check-requires
+check-requires c κs = search needs
+
+refused-requires : tie.Need-refused-requires
+refused-requires c κs = search needs
+
+returns : tie.Need-returns
+returns c =
+    let e = c .refused .ensures ∙ sym (read-refused _ (c .before .before .check .ensures) (c .before .if1 .taken)) in
+    (e, ap (λ (r : Reading). told (r .answer)) e ∙ given-told _)
+
+counts-at-requires : tie.Need-counts-at-requires
+counts-at-requires c κs = whole-facts _ (none-failed _ (sym (c .before .check .ensures) ∙ c .if1 .left)) .header .long
+
+load-requires : tie.Need-load-requires
+load-requires c κs = (header-clear _ (none-failed _ (sym (c .before .before .check .ensures) ∙ c .before .if1 .left)), c .counts-at .ensures)
+
+returns-2 : tie.Need-returns-2
+returns-2 c =
+    let a = c .before .before .before in
+    let made : Reading = record { answer = Accepted (c .before .counts-at .result); rows = c .load .result } in
+    let e : made ≡ reading (a .before .before .args .file .now) = rw (c .load .ensures, c .before .counts-at .ensures) (sym (read-accepted _ (a .check .ensures) (c .before .before .if1 .left))) in
+    (e, ap (λ (r : Reading). told (r .answer)) e ∙ given-told _)
+
+pub read-spec : {M : Type 1} → statement M
+read-spec =
+    tie.close
+    (tie.spec check-requires refused-requires returns counts-at-requires load-requires returns-2)
