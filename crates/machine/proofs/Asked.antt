@@ -6,10 +6,10 @@ use mathlib.Core.Logic.{_≢_, _⊎_, inl, inr}
 use mathlib.Core.Path.{_≡_, refl, sym, _∙_}
 use native.Mathlib.Omega.{arith}
 use native.Mathlib.Nat.{mul-le-mul}
-use borrow.Author.Tests.{eq-eqb, ne-eqb, eqb-true, lt-ltb, le-ltb, ltb-true, not-false}
+use borrow.Author.Tests.{ne-eqb, eqb-true, ltb-true, not-false}
 use lib.Dec.{eqb, ltb}
 use lib.ListN.{length}
-use Rattle.folds.proofs.Tests.{and-parts, code-zero, code-next}
+use Rattle.folds.proofs.Tests.{code-zero, code-next}
 use Rattle.folds.proofs.Arrays.{by-eq}
 use Rattle.plan_reading.specs.Plan.{Plan, Valid}
 use Rattle.analysis_equations.specs.Sharing.{processorOf, uses, global}
@@ -27,45 +27,39 @@ use Rattle.machine_state.specs.Sound.{sound}
 use Rattle.machine_state.specs.Inner.{Seats}
 use Rattle.machine_state.proofs.Tables.{low-processor}
 use Rattle.machine_state.proofs.Good.{Whole}
-use Rattle.machine_state.proofs.Wholes.{hold-user, hold-resource, whole-of, sound-of}
+use Rattle.machine_state.proofs.Wholes.{hold-resource, whole-of, sound-of}
 use Rattle.machine_steps.specs.Inner.{Joining, joinedBy, taken, takenHolds}
 use Rattle.machine_steps.proofs.Joins.{aheadOf, entering, join-room, joined-whole, joined-shows}
 use Rattle.machine_steps.proofs.Asking.{taken-is, request-granted, request-waits, busy-is}
 use Rattle.machine.specs.Inner.{Acted}
 
 -- ── the number ──
-module _ (p : Plan) (l : View) (tag q : ℕ) {i : ℕ} (e : i ≡ taskNumber p tag) where
-  -- 11 to 14 are those of the use
-  use-refused : {k : ℕ} → k ≡ useCode p tag q → k ≢ 0 → k ≡ requestCode p l tag q
-  unfolding requestCode
-  use-refused {k} h d = rw (← h, ne-eqb k 0 d)
-
-  pub request-11 : p .tasks ≤ i → 11 ≡ requestCode p l tag q
+-- a task that may use the resource is there, and so is the resource
+module _ (p : Plan) (tag q : ℕ) (z : useCode p tag q ≡ 0) where
+  pub use-task : taskNumber p tag < p .tasks
   unfolding useCode
-  request-11 h = use-refused (rw (← e, le-ltb i (p .tasks) h)) (λ z. omega arith)
+  use-task = ltb-true _ _ (code-zero (ltb (taskNumber p tag) (p .tasks)) _ 10 z)
 
-  pub request-12 : i < p .tasks → p .resources ≤ q → 12 ≡ requestCode p l tag q
+  use-resource : q < p .resources
   unfolding useCode
-  request-12 a h = use-refused (rw (← e, lt-ltb i (p .tasks) a, le-ltb q (p .resources) h)) (λ z. omega arith)
+  use-resource = ltb-true _ _ (code-zero (ltb q (p .resources)) _ 11 (code-next (ltb (taskNumber p tag) (p .tasks)) _ 10 z))
 
-  pub request-share : {k : ℕ} → i < p .tasks → q < p .resources → k ≡ sharingCode p i q → 1 ≤ k → k ≡ requestCode p l tag q
+  use-sharing : sharingCode p (taskNumber p tag) q ≡ 0
   unfolding useCode
-  request-share a b h n = use-refused (rw (← e, lt-ltb i (p .tasks) a, lt-ltb q (p .resources) b) h) (λ z. omega arith)
+  use-sharing = code-next (ltb q (p .resources)) _ 11 (code-next (ltb (taskNumber p tag) (p .tasks)) _ 10 z)
 
-module _ (p : Plan) (v : Valid p) where
-  -- who has a hold time may use the resource, and the other way round
-  use-clear : (tag q : ℕ) {i : ℕ} → i ≡ taskNumber p tag → i < p .tasks → 1 ≤ holdAt p i q → useCode p tag q ≡ 0
-  unfolding useCode sharingCode
-  use-clear tag q {i} e a some =
-      let u = and-parts (global p q) (uses p i q) (hold-user p v i q some) in
-      rw (← e, lt-ltb i (p .tasks) a, lt-ltb q (p .resources) (hold-resource p v i q some), u .0, u .1)
+-- 11 to 14 are those of the use
+pub use-refused : (p : Plan) (l : View) (tag q : ℕ) {k : ℕ} → k ≡ useCode p tag q → k ≢ 0 → k ≡ requestCode p l tag q
+unfolding requestCode
+use-refused p l tag q {k} h d = rw (← h, ne-eqb k 0 d)
 
-  hold-some : (i q : ℕ) → sharingCode p i q ≡ 0 → 1 ≤ holdAt p i q
-  unfolding sharingCode holdAt
-  hold-some i q z =
-      let u : uses p i q ≡ true = code-zero (uses p i q) _ 12 z in
-      let g : global p q ≡ true = code-zero (global p q) 0 13 (code-next (uses p i q) _ 12 z) in
-      rw (g, u) (hold-low p v i q u)
+-- who may use the resource has a hold time
+hold-some : (p : Plan) → Valid p → (i q : ℕ) → sharingCode p i q ≡ 0 → 1 ≤ holdAt p i q
+unfolding sharingCode holdAt
+hold-some p v i q z =
+    let u : uses p i q ≡ true = code-zero (uses p i q) _ 12 z in
+    let g : global p q ≡ true = code-zero (global p q) 0 13 (code-next (uses p i q) _ 12 z) in
+    rw (g, u) (hold-low p v i q u)
 
 -- both are 0 where the number is
 clear-parts : (k : ℕ) (b : Bool) → cond (eqb k 0) (cond b 15 0) k ≡ 0 → (k ≡ 0) × (b ≡ false)
@@ -87,27 +81,24 @@ module _ (p : Plan) (v : Valid p) (s : State) (h : sound p s ≡ true) (tag q : 
   whole : Whole p s
   whole = whole-of p v s h
 
-  module _ {i : ℕ} (e : i ≡ taskNumber p tag) (a : i < p .tasks) (some : 1 ≤ holdAt p i q) where
-    -- 15 or none, by what the row of the task says
-    pub request-by : {b : Bool} {k : ℕ} → b ≡ not (eqb (standing (s .tasks) i .resource) 255) → k ≡ cond b 15 0
-        → k ≡ requestCode p (shows p s) tag q
-    unfolding requestCode
-    request-by h j = rw (use-clear p v tag q e a some, ← e, busy-is p v s whole i a, ← h) j
+  -- 15 or none, by what the row of the task says
+  pub request-by : {i k : ℕ} {b : Bool} → useCode p tag q ≡ 0 → i ≡ taskNumber p tag → b ≡ not (eqb (standing (s .tasks) i .resource) 255)
+      → k ≡ cond b 15 0 → k ≡ requestCode p (shows p s) tag q
+  unfolding requestCode
+  request-by {i} z e h j = rw (z, ← e, busy-is p v s whole i (rw e (use-task p tag q z)), ← h) j
 
   -- what the number 0 tells
   pub request-free : {i : ℕ} → i ≡ taskNumber p tag → requestCode p (shows p s) tag q ≡ 0 → Free p s i q
-  unfolding requestCode useCode
+  unfolding requestCode
   request-free {i} e z =
       let c = clear-parts (useCode p tag q) (busy p (shows p s) i) (rw e z) in
-      let t = rw (← e) at (c .0) in
-      let a : i < p .tasks = ltb-true i (p .tasks) (code-zero (ltb i (p .tasks)) _ 10 t) in
-      let u = code-next (ltb i (p .tasks)) _ 10 t in
+      let a : i < p .tasks = rw e (use-task p tag q (c .0)) in
       let r : standing (s .tasks) i .resource ≡ 255 =
       eqb-true (standing (s .tasks) i .resource) 255 (not-false _ (sym (busy-is p v s whole i a) ∙ c .1)) in
       record {
         task = a;
-        resource = ltb-true q (p .resources) (code-zero (ltb q (p .resources)) _ 11 u);
-        some = hold-some p v i q (code-next (ltb q (p .resources)) _ 11 u);
+        resource = use-resource p tag q (c .0);
+        some = rw e (hold-some p v (taskNumber p tag) q (use-sharing p tag q (c .0)));
         idle = none r (whole .rows i (omega (arith, v .tasks)));
       }
     where

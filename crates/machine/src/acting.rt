@@ -33,17 +33,11 @@ fn request_code(file: &[u8], figures: &[u16], state: State, tag: u16, q: u8) -> 
     requires { ⌜ (Known (now file) (now figures)) × (sound (planOf (now file)) state ≡ true) ⌝ }
     ensures { λ r. ⌜ r ≡ requestCode (planOf (now (file .entry))) (shows (planOf (now (file .entry))) state) tag q ⌝ }
 {
-    let counts = plan_reading::checked::counts(file);
-    let i = tables::task_number(file, tag);
-    if folds::wide(counts.tasks) <= i {
-        return refusals::UNKNOWN_TAG;
+    let user = analysis_hold_times::user_in(file, figures, tag, q);
+    if user.code != 0 {
+        return user.code;
     }
-    if counts.resources <= q {
-        return refusals::UNKNOWN_RESOURCE;
-    }
-    if analysis_hold_times::hold_at(figures, i, folds::wide(q)) == 0 {
-        return analysis_hold_times::sharing_code(file, i, q);
-    }
+    let i = user.task;
     let standing = state.tasks[i];
     if machine_state::is_in_line(standing) {
         return refusals::ALREADY_IN_LINE;
@@ -57,7 +51,7 @@ fn release_code(file: &[u8], seats: &[u8], state: State, tag: u16, q: u8) -> u8
     ensures { λ r. ⌜ r ≡ releaseCode (planOf (now (file .entry))) (shows (planOf (now (file .entry))) state) tag q ⌝ }
 {
     let counts = plan_reading::checked::counts(file);
-    let i = tables::task_number(file, tag);
+    let i = analysis_hold_times::task_number(file, tag);
     if folds::wide(counts.tasks) <= i {
         return refusals::UNKNOWN_TAG;
     }
@@ -93,7 +87,7 @@ fn request_on(file: &[u8], figures: &[u16], seats: &[u8], state: State, tag: u16
     requires { ⌜ Asks (now file) state (now figures) (now seats) tag q ⌝ }
     ensures { λ r. ⌜ Acted (planOf (now (file .entry))) state (Request tag q) r ⌝ }
 {
-    let i = tables::task_number(file, tag);
+    let i = analysis_hold_times::task_number(file, tag);
     let row = plan_reading::checked::task(file, i);
     let k = row.processor;
     let r = folds::wide(q);

@@ -108,8 +108,8 @@ fn seat_of(s: Standing, processor: u8) -> u16
     requires { ⌜ InQueue s processor ⌝ }
     ensures { λ r. ⌜ r ≡ seat (s .resource) processor (s .place) ⌝ }
 {
-    let queue = tables::half(s.resource) * 8 + tables::half(processor);
-    queue * 64 + tables::half(s.place)
+    let queue = folds::half(s.resource) * 8 + folds::half(processor);
+    queue * 64 + folds::half(s.place)
 }
 
 // The seats of the tasks; those in no queue have none.

@@ -16,8 +16,7 @@ checked c =
 
 returns-2 : tie.Need-returns-2
 returns-2 c =
-    let i = c .before .before .before .before .before in
-    times-given _ _ (sym (i .before .check .ensures) ∙ i .if1 .left) (c .before .before .before .fill-figures .ensures .figures) (c .holds-of .ensures)
+    let i = c .before .before .before .before .before in times-given _ _ (sym (i .before .check .ensures) ∙ i .if1 .left) (c .before .before .before .fill-figures .ensures .figures) (c .holds-of .ensures)
 
 pub hold-times-spec : {M : Type 1} → statement M
 hold-times-spec =
