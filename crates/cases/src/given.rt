@@ -117,6 +117,7 @@ pub fn copy(from: &[u8], to: &mut [u8]) {
 // rows of each kind are given; then the names, the expected file and the rows.
 pub fn counts(case: &[u8]) -> Counts {
     Counts {
+        edition: 1,
         processors: byte(case, 0),
         tasks: byte(case, 1),
         resources: byte(case, 2),

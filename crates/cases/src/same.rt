@@ -39,7 +39,8 @@ pub fn untouched(buf: &[u8], from: usize) -> bool {
 pub fn counts(answer: ReadAnswer, c: Counts) -> bool {
     match answer {
         ReadAnswer::Accepted(r) => {
-            (r.processors == c.processors)
+            (r.edition == c.edition)
+                & (r.processors == c.processors)
                 & (r.tasks == c.tasks)
                 & (r.resources == c.resources)
                 & (r.sections == c.sections)

@@ -5,8 +5,12 @@ use mathlib.Core.Path.{_≡_}
 use lib.ListN.{length, take, drop}
 use Rattle.plan.specs.Reading.{planLength}
 
--- r bytes came to the front of a buffer that held `before` and holds `now`: all of them are plan, that is they are fewer than 16, or
--- no more than their own bytes 14-15 say; what lies behind them is as it was
+-- a buffer of so many bytes holds every plan of which a header can tell the length
+abbrev pub mostPlanBytes : ℕ
+mostPlanBytes = 65536
+
+-- r bytes came to the front of a buffer that held `before` and holds `now`: all of them are plan, that is they are fewer than a header
+-- has, or no more than their own bytes 14-15 say; what lies behind them is as it was
 pub record Came (before now : List ℕ) (r : ℕ) : Type 0 where
   pub plan : planLength (take r now) ≡ r
   pub behind : now ≡ take r now ++ drop r before

@@ -1,13 +1,12 @@
 -- What an accepted plan file passed, and what reading one tells.
 use Prim.Native.Nat.{ℕ, suc, _<_}
 use mathlib.Core.Bool.{Bool, true, false, cond}
-use mathlib.Core.List.{List, [], _∷_}
+use mathlib.Core.List.{List, []}
 use mathlib.Core.Path.{_≡_, refl, sym, ap, _∙_}
 use native.Mathlib.Omega.{arith}
 use borrow.Author.Tests.{ltb-true, eqb-true, eqb-false, eq-eqb, ne-eqb}
 use lib.Dec.{eqb, ltb}
-use lib.ListN.{getD}
-use Rattle.folds.specs.Bytes.{number}
+use Rattle.refusals.specs.Numbers.{unknownResource}
 use Rattle.folds.proofs.Tests.{code-zero, first-zero, then-zero}
 use Rattle.folds.proofs.Arrays.{by-eq}
 use Rattle.plan_rules.specs.declared.Counts.{Counts}
@@ -19,7 +18,7 @@ use Rattle.plan.specs.declared.ReadAnswer.{ReadAnswer}
 use Rattle.plan.specs.declared.ReadAnswer.the-variants.{Accepted, Refused}
 use Rattle.plan.specs.Acceptance as acceptance
 use Rattle.plan.specs.Acceptance.{refusal}
-use Rattle.plan.specs.Reading.{given, reading, refusedWith, told, readTold, nameRefusal}
+use Rattle.plan.specs.Reading.{given, reading, refusedWith, countValues, told, readTold, nameRefusal}
 
 -- a plan that is not refused passed checks 1 to 9
 pub none-failed : (f : List ℕ) → refusal f ≡ 0 → checkCode f ≡ 0
@@ -52,7 +51,7 @@ pub record Got (f : List ℕ) (c : Counts) : Type 0 where
 
 counts-in : ReadAnswer → Counts
 counts-in (Accepted c) = c
-counts-in (Refused k) = record { processors = 0; tasks = 0; resources = 0; sections = 0 }
+counts-in (Refused k) = record { edition = 0; processors = 0; tasks = 0; resources = 0; sections = 0 }
 
 number-in : ReadAnswer → ℕ
 number-in (Accepted c) = 0
@@ -62,7 +61,7 @@ pub given-told : (f : List ℕ) → told (reading f .answer) ≡ readTold f
 unfolding given
 given-told f =
     by-eq
-    (λ (b : Bool). told ((cond b (record { answer = Accepted (countsOf f); rows = rowsOf f }) (refusedWith (refusal f))) .answer) ≡ record { number = refusal f; values = cond b (getD f 1 0 ∷ getD f 2 0 ∷ getD f 3 0 ∷ number 2 f 4 ∷ []) [] })
+    (λ (b : Bool). told ((cond b (record { answer = Accepted (countsOf f); rows = rowsOf f }) (refusedWith (refusal f))) .answer) ≡ record { number = refusal f; values = cond b (countValues (countsOf f)) [] })
     (refusal f) 0 (λ q. rw q) (λ d. refl)
 
 pub got-plan : (f : List ℕ) (c : Counts) → reading f .answer ≡ Accepted c → Got f c
@@ -91,6 +90,6 @@ unfolding nameRefusal
 name-answered f q e =
     let r : ℕ = countsOf f .resources in
     record {
-      none = first-zero (refusal f) (cond (ltb q r) 0 12) e;
-      below = ltb-true q r (code-zero (ltb q r) 0 11 (then-zero (refusal f) (cond (ltb q r) 0 12) e));
+      none = first-zero (refusal f) (cond (ltb q r) 0 unknownResource) e;
+      below = ltb-true q r (code-zero (ltb q r) 0 11 (then-zero (refusal f) (cond (ltb q r) 0 unknownResource) e));
     }

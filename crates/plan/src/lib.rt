@@ -98,10 +98,10 @@ pub fn plan_length(input: &[u8]) -> usize
     ensures { λ r. ⌜ r ≡ planLength (now (input .entry)) ⌝ }
     ensures { λ r. ⌜ r ≤ length (now (input .entry)) ⌝ }
 {
-    if input.len() < 16 {
+    if input.len() < plan_layout::HEADER {
         return input.len();
     }
-    let said = plan_layout::word_at(input, 14);
+    let said = plan_layout::length_said(input);
     if said < input.len() {
         return said;
     }

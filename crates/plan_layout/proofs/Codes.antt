@@ -5,8 +5,10 @@ use mathlib.Core.List.{List}
 use mathlib.Core.Path.{_≡_, refl, sym}
 use native.Mathlib.Omega.{arith}
 use Rattle.plan_rules.specs.declared.Counts.{Counts}
-use Rattle.plan_rules.specs.Rules.{uniqueOk, namesOk}
-use Rattle.plan_layout.specs.Layout.{taskRows, taskRowsOk, taskCode, lengthRows, lengthRowsOk, sectionCode, restCode, partsCode}
+use Rattle.refusals.specs.Numbers.{wrongName}
+use Rattle.plan_rules.specs.Rules.{namesOk, Tests}
+use Rattle.plan_layout.specs.Layout.{laid, lengthRows, lengthRowsOk, partsTests, partsCode}
+use Rattle.plan_layout.specs.Inner.{taskCode, sectionCode, restCode}
 
 stop : (a b : Bool) (x m l : ℕ) {k : ℕ} → k ≡ cond a (cond b 0 (suc m)) (suc l) → (k ≡ 0 → ⊥) → cond a (cond b x (suc m)) (suc l) ≡ k
 stop true true x m l e d = absurd (d e)
@@ -19,24 +21,25 @@ pass true false x m l e z = let bad : ⊥ = omega arith in absurd bad
 pass false b x m l e z = let bad : ⊥ = omega arith in absurd bad
 
 module _ (c : Counts) (tasks resources sections names : List ℕ) where
-  pub tasks-fail : {k : ℕ} → k ≡ taskCode (c .tasks) (c .processors) tasks → (k ≡ 0 → ⊥) → partsCode c tasks resources sections names ≡ k
-  unfolding partsCode taskCode
-  tasks-fail e d =
-      stop (taskRowsOk (c .tasks) (c .processors) tasks) (uniqueOk (c .tasks) (taskRows (c .tasks) tasks)) (restCode c tasks resources sections names) 5 4 e d
+  abbrev whole : Tests
+  whole = partsTests c tasks resources sections names
 
-  pub tasks-hold : {k : ℕ} → k ≡ taskCode (c .tasks) (c .processors) tasks → k ≡ 0 → partsCode c tasks resources sections names ≡ restCode c tasks resources sections names
+  pub tasks-fail : {k : ℕ} → k ≡ taskCode (laid c) (c .tasks) (c .processors) tasks → (k ≡ 0 → ⊥) → partsCode c tasks resources sections names ≡ k
   unfolding partsCode taskCode
-  tasks-hold e z =
-      pass (taskRowsOk (c .tasks) (c .processors) tasks) (uniqueOk (c .tasks) (taskRows (c .tasks) tasks)) (restCode c tasks resources sections names) 5 4 e z
+  tasks-fail e d = stop (whole .tasks) (whole .unique) _ 5 4 e d
 
-  pub starts-fail : lengthRowsOk (c .resources) resources ≡ false → restCode c tasks resources sections names ≡ 7
+  pub tasks-hold : {k : ℕ} → k ≡ taskCode (laid c) (c .tasks) (c .processors) tasks → k ≡ 0 → partsCode c tasks resources sections names ≡ restCode c tasks resources sections names
+  unfolding partsCode taskCode restCode
+  tasks-hold e z = pass (whole .tasks) (whole .unique) _ 5 4 e z
+
+  pub starts-fail : lengthRowsOk (laid c) (c .resources) resources ≡ false → restCode c tasks resources sections names ≡ wrongName
   unfolding restCode
   starts-fail a = rw a
 
-  pub names-fail : lengthRowsOk (c .resources) resources ≡ true → namesOk (c .resources) (lengthRows (c .resources) resources) names ≡ false → restCode c tasks resources sections names ≡ 7
+  pub names-fail : lengthRowsOk (laid c) (c .resources) resources ≡ true → namesOk (c .resources) (lengthRows (laid c) (c .resources) resources) names ≡ false → restCode c tasks resources sections names ≡ wrongName
   unfolding restCode
   names-fail a b = rw (a, b)
 
-  pub names-hold : lengthRowsOk (c .resources) resources ≡ true → namesOk (c .resources) (lengthRows (c .resources) resources) names ≡ true → restCode c tasks resources sections names ≡ sectionCode (c .tasks) (c .sections) (c .resources) tasks sections
-  unfolding restCode
+  pub names-hold : lengthRowsOk (laid c) (c .resources) resources ≡ true → namesOk (c .resources) (lengthRows (laid c) (c .resources) resources) names ≡ true → restCode c tasks resources sections names ≡ sectionCode (laid c) (c .tasks) (c .sections) (c .resources) tasks sections
+  unfolding restCode sectionCode
   names-hold a b = rw (a, b)

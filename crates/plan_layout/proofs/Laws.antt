@@ -1,72 +1,93 @@
 -- What the rows of a part tell of the rows by value: the same rows, under the same rules.
 use Prim.Native.Nat.{ℕ, _+_, _*_, _<_, _≤_}
 use mathlib.Core.Bool.{true}
-use mathlib.Core.List.{List}
-use mathlib.Core.Path.{_≡_, ap, _∙_}
+use mathlib.Core.List.{List, [], _∷_}
+use mathlib.Core.Path.{_≡_, refl, ap, _∙_}
 use native.Mathlib.Nat.{add-zero}
 use native.Mathlib.Omega.{arith}
 use lib.Dec.{eqb}
 use lib.ListN.{length, getD, replicate, length-replicate}
+use Rattle.sizes.specs.Sizes.{mostTasks, mostResources, mostSections}
 use Rattle.folds.specs.Below.{sumBelow}
 use Rattle.folds.proofs.Tests.{all-at, all-from, all-same, and-parts}
 use Rattle.folds.proofs.Figures.{sum-same}
-use Rattle.folds.specs.Bytes.{number, rowAt, fields, width}
+use Rattle.folds.specs.Bytes.{number, rowAt, fields}
 use Rattle.folds.proofs.Arrays.{placed-at}
 use Rattle.folds.proofs.RowLaws.{number-drop, number-byte}
 use Rattle.plan_rules.specs.Rules.{noTask, noSection, taskOk, sectionOk, tasksOk, sectionsOk, lengthOf, taskOf, sectionOf}
-use Rattle.plan_layout.specs.Layout.{taskAt, taskSpare, startAt, lengthAt, resourceSpare, sectionAt, taskRows, lengthRows, sectionRows, taskRowsOk, sectionRowsOk}
+use Rattle.plan_layout.specs.Editions.{Edition, edition1, formatOf}
+use Rattle.plan_layout.specs.Layout.{headerIn, countsOf, lengthSaid, taskAt, taskSpare, startAt, lengthAt, resourceSpare, sectionAt, taskRows, lengthRows, sectionRows, taskRowsOk, sectionRowsOk}
+
+-- where the numbers of a header stand in a file of edition 1
+module _ (f : List ℕ) where
+  pub header-fields : headerIn f ≡ getD f 0 0 ∷ getD f 1 0 ∷ getD f 2 0 ∷ getD f 3 0 ∷ number 2 f 4 ∷ number 2 f 6 ∷ number 2 f 8 ∷ number 2 f 10 ∷ number 2 f 12 ∷ number 2 f 14 ∷ []
+  unfolding headerIn fields
+  header-fields = simp number-byte
+
+  pub counts-fields : countsOf f ≡ record { edition = getD f 0 0; processors = getD f 1 0; tasks = getD f 2 0; resources = getD f 3 0; sections = number 2 f 4 }
+  unfolding countsOf
+  counts-fields = rw header-fields
+
+  pub length-field-said : lengthSaid f ≡ number 2 f 14
+  unfolding lengthSaid
+  length-field-said = rw header-fields
+
+  -- the numbers of a header by what they say
+  pub header-parts : headerIn f ≡ countsOf f .edition ∷ countsOf f .processors ∷ countsOf f .tasks ∷ countsOf f .resources ∷ countsOf f .sections ∷ getD (headerIn f) 5 0 ∷ getD (headerIn f) 6 0 ∷ getD (headerIn f) 7 0 ∷ getD (headerIn f) 8 0 ∷ lengthSaid f ∷ []
+  unfolding headerIn countsOf lengthSaid fields
+  header-parts = refl
 
 -- where the fields of row i stand in its part
 module _ (part : List ℕ) (i : ℕ) where
-  pub task-fields : taskAt part i ≡ record { processor = getD part (i * 8) 0; tag = getD part (i * 8 + 1) 0; priority = getD part (i * 8 + 2) 0; period = number 2 part (i * 8 + 4); execution = number 2 part (i * 8 + 6) }
-  unfolding taskAt rowAt fields width
+  pub task-fields : taskAt edition1 part i ≡ record { processor = getD part (i * 8) 0; tag = getD part (i * 8 + 1) 0; priority = getD part (i * 8 + 2) 0; period = number 2 part (i * 8 + 4); execution = number 2 part (i * 8 + 6) }
+  unfolding taskAt rowAt fields
   task-fields = simp (number-drop, number-byte, add-zero)
 
-  pub task-spare : taskSpare part i ≡ getD part (i * 8 + 3) 0
-  unfolding taskSpare rowAt fields width
+  pub task-spare : taskSpare edition1 part i ≡ getD part (i * 8 + 3) 0
+  unfolding taskSpare rowAt fields
   task-spare = simp (number-drop, number-byte)
 
-  pub start-field : startAt part i ≡ number 2 part (i * 4)
-  unfolding startAt rowAt fields width
+  pub start-field : startAt edition1 part i ≡ number 2 part (i * 4)
+  unfolding startAt rowAt fields
   start-field = simp (number-drop, add-zero)
 
-  pub length-field : lengthAt part i ≡ getD part (i * 4 + 2) 0
-  unfolding lengthAt rowAt fields width
+  pub length-field : lengthAt edition1 part i ≡ getD part (i * 4 + 2) 0
+  unfolding lengthAt rowAt fields
   length-field = simp (number-drop, number-byte)
 
-  pub resource-spare : resourceSpare part i ≡ getD part (i * 4 + 3) 0
-  unfolding resourceSpare rowAt fields width
+  pub resource-spare : resourceSpare edition1 part i ≡ getD part (i * 4 + 3) 0
+  unfolding resourceSpare rowAt fields
   resource-spare = simp (number-drop, number-byte)
 
-  pub section-fields : sectionAt part i ≡ record { task = getD part (i * 4) 0; resource = getD part (i * 4 + 1) 0; length = number 2 part (i * 4 + 2) }
-  unfolding sectionAt rowAt fields width
+  pub section-fields : sectionAt edition1 part i ≡ record { task = getD part (i * 4) 0; resource = getD part (i * 4 + 1) 0; length = number 2 part (i * 4 + 2) }
+  unfolding sectionAt rowAt fields
   section-fields = simp (number-drop, number-byte, add-zero)
 
-module _ (n : ℕ) (part : List ℕ) where
+module _ (e : Edition) (n : ℕ) (part : List ℕ) where
   -- row i by value is row i of the part
-  pub task-read : (i : ℕ) → i < n → n ≤ 64 → taskOf (taskRows n part) i ≡ taskAt part i
+  pub task-read : (i : ℕ) → i < n → n ≤ mostTasks → taskOf (taskRows e n part) i ≡ taskAt e part i
   unfolding taskRows
-  task-read i l h = placed-at n i (taskAt part) (replicate 64 noTask) noTask l (rw length-replicate h)
+  task-read i l h = placed-at n i (taskAt e part) (replicate mostTasks noTask) noTask l (rw length-replicate h)
 
-  pub length-read : (i : ℕ) → i < n → n ≤ 16 → lengthOf (lengthRows n part) i ≡ lengthAt part i
+  pub length-read : (i : ℕ) → i < n → n ≤ mostResources → lengthOf (lengthRows e n part) i ≡ lengthAt e part i
   unfolding lengthRows
-  length-read i l h = placed-at n i (lengthAt part) (replicate 16 0) 0 l (rw length-replicate h)
+  length-read i l h = placed-at n i (lengthAt e part) (replicate mostResources 0) 0 l (rw length-replicate h)
 
-  pub section-read : (i : ℕ) → i < n → n ≤ 255 → sectionOf (sectionRows n part) i ≡ sectionAt part i
+  pub section-read : (i : ℕ) → i < n → n ≤ mostSections → sectionOf (sectionRows e n part) i ≡ sectionAt e part i
   unfolding sectionRows
-  section-read i l h = placed-at n i (sectionAt part) (replicate 255 noSection) noSection l (rw length-replicate h)
+  section-read i l h = placed-at n i (sectionAt e part) (replicate mostSections noSection) noSection l (rw length-replicate h)
 
   -- so a name starts where the lengths of the part say
-  pub start-read : (i : ℕ) → i ≤ n → n ≤ 16 → sumBelow i (lengthOf (lengthRows n part)) ≡ sumBelow i (lengthAt part)
-  start-read i l h = sum-same i (lengthOf (lengthRows n part)) (lengthAt part) (λ k lt. length-read k (omega arith) h)
+  pub start-read : (i : ℕ) → i ≤ n → n ≤ mostResources → sumBelow i (lengthOf (lengthRows e n part)) ≡ sumBelow i (lengthAt e part)
+  start-read i l h = sum-same i (lengthOf (lengthRows e n part)) (lengthAt e part) (λ k lt. length-read k (omega arith) h)
 
   -- rows that passed their check keep the rules of rows by value
-  pub tasks-kept : (p : ℕ) → n ≤ 64 → taskRowsOk n p part ≡ true → tasksOk n p (taskRows n part) ≡ true
+  pub tasks-kept : (p : ℕ) → n ≤ mostTasks → taskRowsOk e n p part ≡ true → tasksOk n (formatOf e .mostTag) p (taskRows e n part) ≡ true
   unfolding taskRowsOk tasksOk
-  tasks-kept p h e =
-      all-from n (λ i. taskOk p (taskOf (taskRows n part) i))
-      (λ i l. ap (taskOk p) (task-read i l h) ∙ and-parts (taskOk p (taskAt part i)) (eqb (taskSpare part i) 0) (all-at n i _ e l) .0)
+  tasks-kept p h k =
+      all-from n (λ i. taskOk (formatOf e .mostTag) p (taskOf (taskRows e n part) i))
+      (λ i l. ap (taskOk (formatOf e .mostTag) p) (task-read i l h) ∙ and-parts (taskOk (formatOf e .mostTag) p (taskAt e part i)) (eqb (taskSpare e part i) 0) (all-at n i _ k l) .0)
 
-  pub sections-kept : (m r : ℕ) → n ≤ 255 → sectionsOk n m r (sectionRows n part) ≡ sectionRowsOk n m r part
+  pub sections-kept : (m r : ℕ) → n ≤ mostSections → sectionsOk n m r (sectionRows e n part) ≡ sectionRowsOk e n m r part
   unfolding sectionRowsOk sectionsOk
   sections-kept m r h = all-same n _ _ (λ i l. ap (sectionOk m r) (section-read i l h))

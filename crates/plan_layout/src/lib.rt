@@ -4,23 +4,41 @@ use plan_rules::Counts;
 use plan_rules::SectionRow;
 use plan_rules::TaskRow;
 ghost use mathlib.Core.Path.{_≡_};
+ghost use mathlib.Core.Bool.{true};
 ghost use Prim.Native.Nat.{_+_, _*_, _≤_, _<_};
 ghost use lib.ListN.{length};
+ghost use Rattle.sizes.specs.Sizes.{mostTasks, mostResources, mostSections};
 ghost use Rattle.folds.specs.Bytes.{number};
-ghost use mathlib.Core.Bool.{true};
 ghost use Rattle.plan_rules.specs.Rules.{countsOk, noTask, noSection};
-ghost use Rattle.plan_layout.specs.Layout.{countsOf, offsetsOk, resourcesAt, sectionsAt, namesAt, taskAt, sectionAt, startAt, lengthAt, resourceSpare, taskCode, lengthRowsOk, sectionRowsOk, sumsFit, sectionCode, restCode, partsCode, fileCode, taskRows, lengthRows, sectionRows};
+ghost use Rattle.plan_layout.specs.Editions.{edition1, formatOf, known, headerLength};
+ghost use Rattle.plan_layout.specs.Layout.{countsOf, lengthSaid, offsetsOk, resourcesAt, sectionsAt, namesAt, taskAt, taskSpare, sectionAt};
+ghost use Rattle.plan_layout.specs.Layout.{taskRows, lengthRows, sectionRows, lengthRowsOk, sectionRowsOk, partsCode, fileCode};
+ghost use Rattle.plan_layout.specs.Inner.{taskRow, resourceRow, sectionRow, taskCode, sumsFit, sectionCode, restCode};
+ghost use Rattle.plan_layout.specs.Inner.{ResourceRead, TasksFit, SectionsFit, PartsFit};
+
+// The edition that is read and written, the bytes of its header and of its rows, and the greatest tag that a row has room for.
+const EDITION: u8 = 1;
+
+pub const HEADER: usize = 16;
+
+pub const TASK_ROW: usize = 8;
+
+pub const RESOURCE_ROW: usize = 4;
+
+pub const SECTION_ROW: usize = 4;
+
+pub const MOST_TAG: u16 = 255;
 
 // The name lengths of a part, and whether its rows follow one another as they should.
 pub struct LoadedLengths {
-    pub lengths: [u8; 16],
+    pub lengths: [u8; sizes::RESOURCES],
     pub ok: bool,
 }
 
 // A resource row: start and length of its name, and the spare byte.
 pub struct ResourceRow {
     pub start: usize,
-    pub length: usize,
+    pub length: u8,
     pub spare: u8,
 }
 
@@ -40,12 +58,20 @@ fn half_at(s: &[u8], at: usize) -> u16
     word_at(s, at) as u16
 }
 
+// Whether a number is that of an edition.
+pub fn known(edition: u8) -> bool
+    ensures { λ r. ⌜ r ≡ known edition ⌝ }
+{
+    edition == EDITION
+}
+
 // The counts in a header.
 pub fn counts_at(file: &[u8]) -> Counts
-    requires { ⌜ 16 ≤ length (now file) ⌝ }
+    requires { ⌜ headerLength ≤ length (now file) ⌝ }
     ensures { λ r. ⌜ r ≡ countsOf (now (file .entry)) ⌝ }
 {
     Counts {
+        edition: file[0],
         processors: file[1],
         tasks: file[2],
         resources: file[3],
@@ -53,18 +79,26 @@ pub fn counts_at(file: &[u8]) -> Counts
     }
 }
 
+// The length that a header says the file has.
+pub fn length_said(file: &[u8]) -> usize
+    requires { ⌜ headerLength ≤ length (now file) ⌝ }
+    ensures { λ r. ⌜ r ≡ lengthSaid (now (file .entry)) ⌝ }
+{
+    word_at(file, 14)
+}
+
 // Where the resource rows begin.
 pub fn resources_at(c: Counts) -> usize
     ensures { λ r. ⌜ r ≡ resourcesAt c ⌝ }
 {
-    16 + 8 * folds::wide(c.tasks)
+    HEADER + TASK_ROW * folds::wide(c.tasks)
 }
 
 // Where the section rows begin.
 pub fn sections_at(c: Counts) -> usize
     ensures { λ r. ⌜ r ≡ sectionsAt c ⌝ }
 {
-    16 + 8 * folds::wide(c.tasks) + 4 * folds::wide(c.resources)
+    HEADER + TASK_ROW * folds::wide(c.tasks) + RESOURCE_ROW * folds::wide(c.resources)
 }
 
 // Where the names begin.
@@ -72,12 +106,15 @@ pub fn names_at(c: Counts) -> usize
     ensures { λ r. ⌜ r ≡ namesAt c ⌝ }
 {
     let s = c.sections as usize;
-    16 + 8 * folds::wide(c.tasks) + 4 * folds::wide(c.resources) + 4 * s
+    HEADER
+        + TASK_ROW * folds::wide(c.tasks)
+        + RESOURCE_ROW * folds::wide(c.resources)
+        + SECTION_ROW * s
 }
 
 // 4: whether the four parts follow the header without gaps, and begin in the file.
 pub fn offsets_ok(file: &[u8], c: Counts) -> bool
-    requires { ⌜ 16 ≤ length (now file) ⌝ }
+    requires { ⌜ headerLength ≤ length (now file) ⌝ }
     ensures { λ r. ⌜ r ≡ offsetsOk c (now (file .entry)) ⌝ }
 {
     let tasks = word_at(file, 6);
@@ -85,7 +122,7 @@ pub fn offsets_ok(file: &[u8], c: Counts) -> bool
     let sections = word_at(file, 10);
     let names = word_at(file, 12);
     let end = names_at(c);
-    (tasks == 16)
+    (tasks == HEADER)
         & (resources == resources_at(c))
         & (sections == sections_at(c))
         & (names == end)
@@ -118,10 +155,10 @@ pub fn no_section() -> SectionRow
 
 // Task row i of the part that begins at the task rows.
 pub fn task_at(part: &[u8], i: usize) -> TaskRow
-    requires { ⌜ (i < 64) × (i * 8 + 8 ≤ length (now part)) ⌝ }
-    ensures { λ r. ⌜ r ≡ taskAt (now (part .entry)) i ⌝ }
+    requires { ⌜ (i < mostTasks) × (i * taskRow + taskRow ≤ length (now part)) ⌝ }
+    ensures { λ r. ⌜ (r ≡ taskAt edition1 (now (part .entry)) i) × (r .tag ≤ formatOf edition1 .mostTag) ⌝ }
 {
-    let at = i * 8;
+    let at = i * TASK_ROW;
     TaskRow {
         processor: part[at],
         tag: part[at + 1] as u16,
@@ -131,12 +168,20 @@ pub fn task_at(part: &[u8], i: usize) -> TaskRow
     }
 }
 
+// The spare byte of it.
+fn task_spare(part: &[u8], i: usize) -> u8
+    requires { ⌜ (i < mostTasks) × (i * taskRow + taskRow ≤ length (now part)) ⌝ }
+    ensures { λ r. ⌜ r ≡ taskSpare edition1 (now (part .entry)) i ⌝ }
+{
+    part[i * TASK_ROW + 3]
+}
+
 // 5 and 6, on the part of the file that begins at the task rows, in one pass: 5 where a row breaks its rule, else 6 where a
 // tag is repeated, or a priority on a processor, else 0. Tables say which tags and which places, a processor with a
 // priority, were seen; a processor of 8 and more, whose row is refused anyway, is taken modulo 8.
 fn task_code(part: &[u8], n: usize, p: u8) -> u8
-    requires { ⌜ (n ≤ 64) × (p ≤ 8) × (n * 8 ≤ length (now part)) ⌝ }
-    ensures { λ r. ⌜ r ≡ taskCode n p (now (part .entry)) ⌝ }
+    requires { ⌜ TasksFit n p (now part) ⌝ }
+    ensures { λ r. ⌜ r ≡ taskCode edition1 n p (now (part .entry)) ⌝ }
 {
     let mut tags = [0u8; 256];
     let mut places = [0u8; 2048];
@@ -144,32 +189,32 @@ fn task_code(part: &[u8], n: usize, p: u8) -> u8
     let mut fresh = true;
     let mut i = 0;
     while i < n {
-        let at = i * 8;
         let row = task_at(part, i);
-        let tag = folds::wide(part[at + 1]);
-        let place = folds::wide(part[at]) % 8 * 256 + folds::wide(part[at + 2]);
-        ok = ok & (plan_rules::task_ok(row, p) & (part[at + 3] == 0));
+        let tag = row.tag as usize;
+        let place = folds::wide(row.processor) % sizes::PROCESSORS * 256
+            + folds::wide(row.priority);
+        ok = ok & (plan_rules::task_ok(row, p, MOST_TAG) & (task_spare(part, i) == 0));
         fresh = fresh & ((tags[tag] == 0) & (places[place] == 0));
         tags[tag] = 1;
         places[place] = 1;
         i += 1;
     }
     if !ok {
-        return 5;
+        return refusals::WRONG_TASK;
     }
     if !fresh {
-        return 6;
+        return refusals::REPEATED;
     }
     0
 }
 
 // The task rows of that part, by value.
-pub fn load_tasks(part: &[u8], n: usize) -> [TaskRow; 64]
-    requires { ⌜ (n ≤ 64) × (n * 8 ≤ length (now part)) ⌝ }
-    ensures { λ r. ⌜ r ≡ taskRows n (now (part .entry)) ⌝ }
+pub fn load_tasks(part: &[u8], n: usize) -> [TaskRow; sizes::TASKS]
+    requires { ⌜ (n ≤ mostTasks) × (n * taskRow ≤ length (now part)) ⌝ }
+    ensures { λ r. ⌜ r ≡ taskRows edition1 n (now (part .entry)) ⌝ }
 {
     let none = no_task();
-    let mut rows = [none; 64];
+    let mut rows = [none; sizes::TASKS];
     let mut i = 0;
     while i < n {
         let row = task_at(part, i);
@@ -181,31 +226,31 @@ pub fn load_tasks(part: &[u8], n: usize) -> [TaskRow; 64]
 
 // Resource row i of the part that begins at the resource rows.
 pub fn resource_at(part: &[u8], i: usize) -> ResourceRow
-    requires { ⌜ (i < 256) × (i * 4 + 4 ≤ length (now part)) ⌝ }
-    ensures { λ r. ⌜ (r .start ≡ startAt (now (part .entry)) i) × (r .start < 65536) × (r .length ≡ lengthAt (now (part .entry)) i) × (r .length < 256) × (r .spare ≡ resourceSpare (now (part .entry)) i) ⌝ }
+    requires { ⌜ (i < mostResources) × (i * resourceRow + resourceRow ≤ length (now part)) ⌝ }
+    ensures { λ r. ⌜ ResourceRead edition1 (now (part .entry)) i r ⌝ }
 {
-    let at = i * 4;
+    let at = i * RESOURCE_ROW;
     ResourceRow {
         start: word_at(part, at),
-        length: folds::wide(part[at + 2]),
+        length: part[at + 2],
         spare: part[at + 3],
     }
 }
 
 // 7: the lengths in the resource rows, and whether each name starts where the last ended and each spare byte is 0.
 pub fn load_lengths(part: &[u8], r: usize) -> LoadedLengths
-    requires { ⌜ (r ≤ 16) × (r * 4 ≤ length (now part)) ⌝ }
-    ensures { λ l. ⌜ (l .ok ≡ lengthRowsOk r (now (part .entry))) × (l .lengths ≡ lengthRows r (now (part .entry))) ⌝ }
+    requires { ⌜ (r ≤ mostResources) × (r * resourceRow ≤ length (now part)) ⌝ }
+    ensures { λ l. ⌜ (l .ok ≡ lengthRowsOk edition1 r (now (part .entry))) × (l .lengths ≡ lengthRows edition1 r (now (part .entry))) ⌝ }
 {
-    let mut lengths = [0u8; 16];
+    let mut lengths = [0u8; sizes::RESOURCES];
     let mut ok = true;
     let mut end = 0;
     let mut i = 0;
     while i < r {
         let row = resource_at(part, i);
         ok = ok & ((row.start == end) & (row.spare == 0));
-        lengths[i] = part[i * 4 + 2];
-        end += row.length;
+        lengths[i] = row.length;
+        end += folds::wide(row.length);
         i += 1;
     }
     LoadedLengths { ok, lengths }
@@ -213,10 +258,10 @@ pub fn load_lengths(part: &[u8], r: usize) -> LoadedLengths
 
 // Section row i of the part that begins at the section rows.
 pub fn section_at(part: &[u8], i: usize) -> SectionRow
-    requires { ⌜ (i < 255) × (i * 4 + 4 ≤ length (now part)) ⌝ }
-    ensures { λ r. ⌜ r ≡ sectionAt (now (part .entry)) i ⌝ }
+    requires { ⌜ (i < mostSections) × (i * sectionRow + sectionRow ≤ length (now part)) ⌝ }
+    ensures { λ r. ⌜ r ≡ sectionAt edition1 (now (part .entry)) i ⌝ }
 {
-    let at = i * 4;
+    let at = i * SECTION_ROW;
     SectionRow {
         task: part[at],
         resource: part[at + 1],
@@ -225,9 +270,9 @@ pub fn section_at(part: &[u8], i: usize) -> SectionRow
 }
 
 // Whether the sum of each of the n tasks is at most its execution time, in the part that begins at the task rows.
-fn sums_fit(tasks: &[u8], sums: [u32; 64], n: usize) -> bool
-    requires { ⌜ (n ≤ 64) × (n * 8 ≤ length (now tasks)) ⌝ }
-    ensures { λ r. ⌜ r ≡ sumsFit n sums (now (tasks .entry)) ⌝ }
+fn sums_fit(tasks: &[u8], sums: [u32; sizes::TASKS], n: usize) -> bool
+    requires { ⌜ (n ≤ mostTasks) × (n * taskRow ≤ length (now tasks)) ⌝ }
+    ensures { λ r. ⌜ r ≡ sumsFit edition1 n sums (now (tasks .entry)) ⌝ }
 {
     let mut ok = true;
     let mut i = 0;
@@ -242,8 +287,8 @@ fn sums_fit(tasks: &[u8], sums: [u32; 64], n: usize) -> bool
 
 // Whether each section row of the part that begins at them keeps its rule.
 fn section_rows_ok(part: &[u8], s: usize, n: u8, r: u8) -> bool
-    requires { ⌜ (s ≤ 255) × (s * 4 ≤ length (now part)) ⌝ }
-    ensures { λ b. ⌜ b ≡ sectionRowsOk s n r (now (part .entry)) ⌝ }
+    requires { ⌜ (s ≤ mostSections) × (s * sectionRow ≤ length (now part)) ⌝ }
+    ensures { λ b. ⌜ b ≡ sectionRowsOk edition1 s n r (now (part .entry)) ⌝ }
 {
     let mut ok = true;
     let mut i = 0;
@@ -259,33 +304,33 @@ fn section_rows_ok(part: &[u8], s: usize, n: u8, r: u8) -> bool
 // where the sections of a task are longer than its execution time, else 0. The sums are gathered in one pass; the test of
 // the rows has its own, which runs many rows at a time. A task number is below 64 here, and taken modulo 64 all the same.
 fn section_code(tasks: &[u8], part: &[u8], s: usize, n: u8, r: u8) -> u8
-    requires { ⌜ (s ≤ 255) × (n ≤ 64) × (n * 8 ≤ length (now tasks)) × (s * 4 ≤ length (now part)) ⌝ }
-    ensures { λ k. ⌜ k ≡ sectionCode n s r (now (tasks .entry)) (now (part .entry)) ⌝ }
+    requires { ⌜ SectionsFit n s (now tasks) (now part) ⌝ }
+    ensures { λ code. ⌜ code ≡ sectionCode edition1 n s r (now (tasks .entry)) (now (part .entry)) ⌝ }
 {
     if !section_rows_ok(part, s, n, r) {
-        return 8;
+        return refusals::WRONG_SECTION;
     }
-    let mut sums = [0u32; 64];
+    let mut sums = [0u32; sizes::TASKS];
     let mut i = 0;
     while i < s {
         let row = section_at(part, i);
-        let task = folds::wide(part[i * 4]) % 64;
+        let task = folds::wide(row.task) % sizes::TASKS;
         sums[task] += row.length as u32;
         i += 1;
     }
     if !sums_fit(tasks, sums, folds::wide(n)) {
-        return 9;
+        return refusals::SECTIONS_ABOVE;
     }
     0
 }
 
 // The section rows of that part, by value.
-pub fn load_sections(part: &[u8], s: usize) -> [SectionRow; 255]
-    requires { ⌜ (s ≤ 255) × (s * 4 ≤ length (now part)) ⌝ }
-    ensures { λ l. ⌜ l ≡ sectionRows s (now (part .entry)) ⌝ }
+pub fn load_sections(part: &[u8], s: usize) -> [SectionRow; sizes::SECTIONS]
+    requires { ⌜ (s ≤ mostSections) × (s * sectionRow ≤ length (now part)) ⌝ }
+    ensures { λ l. ⌜ l ≡ sectionRows edition1 s (now (part .entry)) ⌝ }
 {
     let none = no_section();
-    let mut rows = [none; 255];
+    let mut rows = [none; sizes::SECTIONS];
     let mut i = 0;
     while i < s {
         let row = section_at(part, i);
@@ -297,17 +342,17 @@ pub fn load_sections(part: &[u8], s: usize) -> [SectionRow; 255]
 
 // 7, then 8 and 9, on the parts of the file that begin at their offsets: the first that fails, 0 for none.
 fn rest_code(tasks: &[u8], resources: &[u8], sections: &[u8], names: &[u8], c: Counts) -> u8
-    requires { ⌜ (countsOk c ≡ true) × (c .tasks * 8 ≤ length (now tasks)) × (c .resources * 4 ≤ length (now resources)) × (c .sections * 4 ≤ length (now sections)) ⌝ }
-    ensures { λ k. ⌜ k ≡ restCode c (now (tasks .entry)) (now (resources .entry)) (now (sections .entry)) (now (names .entry)) ⌝ }
+    requires { ⌜ PartsFit c (now tasks) (now resources) (now sections) ⌝ }
+    ensures { λ code. ⌜ code ≡ restCode c (now (tasks .entry)) (now (resources .entry)) (now (sections .entry)) (now (names .entry)) ⌝ }
 {
     let r = folds::wide(c.resources);
     let loaded = load_lengths(resources, r);
     if !loaded.ok {
-        return 7;
+        return refusals::WRONG_NAME;
     }
     let lengths = loaded.lengths;
     if !plan_rules::names::names_ok(lengths, r, names) {
-        return 7;
+        return refusals::WRONG_NAME;
     }
     let s = c.sections as usize;
     section_code(tasks, sections, s, c.tasks, c.resources)
@@ -315,8 +360,8 @@ fn rest_code(tasks: &[u8], resources: &[u8], sections: &[u8], names: &[u8], c: C
 
 // 5 to 9, on the parts of the file that begin at their offsets: the first that fails, 0 for none.
 fn parts_code(tasks: &[u8], resources: &[u8], sections: &[u8], names: &[u8], c: Counts) -> u8
-    requires { ⌜ (countsOk c ≡ true) × (c .tasks * 8 ≤ length (now tasks)) × (c .resources * 4 ≤ length (now resources)) × (c .sections * 4 ≤ length (now sections)) ⌝ }
-    ensures { λ k. ⌜ k ≡ partsCode c (now (tasks .entry)) (now (resources .entry)) (now (sections .entry)) (now (names .entry)) ⌝ }
+    requires { ⌜ PartsFit c (now tasks) (now resources) (now sections) ⌝ }
+    ensures { λ code. ⌜ code ≡ partsCode c (now (tasks .entry)) (now (resources .entry)) (now (sections .entry)) (now (names .entry)) ⌝ }
 {
     let code = task_code(tasks, folds::wide(c.tasks), c.processors);
     if code != 0 {
@@ -329,12 +374,12 @@ fn parts_code(tasks: &[u8], resources: &[u8], sections: &[u8], names: &[u8], c: 
 // is handed on as the part of the file that begins at its offset.
 pub fn file_code(file: &[u8], names: &[u8], c: Counts) -> u8
     requires { ⌜ (countsOk c ≡ true) × (namesAt c ≤ length (now file)) ⌝ }
-    ensures { λ k. ⌜ k ≡ fileCode c (now (file .entry)) (now (names .entry)) ⌝ }
+    ensures { λ code. ⌜ code ≡ fileCode c (now (file .entry)) (now (names .entry)) ⌝ }
 {
     let resources_at = resources_at(c);
     let sections_at = sections_at(c);
     parts_code(
-        &file[16..],
+        &file[HEADER..],
         &file[resources_at..],
         &file[sections_at..],
         names,

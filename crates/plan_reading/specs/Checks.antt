@@ -3,19 +3,23 @@ use Prim.Native.Nat.{ℕ}
 use mathlib.Core.Bool.{cond}
 use mathlib.Core.List.{List}
 use lib.Dec.{ltb, eqb}
-use lib.ListN.{length, getD}
+use lib.ListN.{length}
 use Rattle.refusals.specs.Numbers.{wrongLength, wrongEdition, wrongCount, wrongOffset}
-use Rattle.folds.specs.Bytes.{number}
 use Rattle.plan_rules.specs.Rules.{countsOk}
-use Rattle.plan_layout.specs.Layout.{countsOf, offsetsOk, fileCode, namesOf}
+use Rattle.plan_layout.specs.Editions.{known, headerLength}
+use Rattle.plan_layout.specs.Layout.{countsOf, lengthSaid, offsetsOk, fileCode, namesOf}
 
--- 1, fewer than 16 bytes or not the length in bytes 14-15; 2, edition; 3, a count beyond its range; 4, an offset
+-- 2, edition; 3, a count beyond its range; 4, an offset
+unfoldable pub countsCode : List ℕ → ℕ
+countsCode f =
+    cond (known (countsOf f .edition))
+    (cond (countsOk (countsOf f)) (cond (offsetsOk (countsOf f) f) 0 wrongOffset) wrongCount)
+    wrongEdition
+
+-- 1, fewer bytes than every header has, or not the length that the header says; then these
 unfoldable pub headerCode : List ℕ → ℕ
 headerCode f =
-    cond (ltb (length f) 16) wrongLength
-    (cond (eqb (number 2 f 14) (length f))
-    (cond (eqb (getD f 0 0) 1) (cond (countsOk (countsOf f)) (cond (offsetsOk (countsOf f) f) 0 wrongOffset) wrongCount) wrongEdition)
-    wrongLength)
+    cond (ltb (length f) headerLength) wrongLength (cond (eqb (lengthSaid f) (length f)) (countsCode f) wrongLength)
 
 -- 5, a task row; 6, a repeated tag, or a priority repeated on a processor; 7, a resource row or name, or two equal names;
 -- 8, a section; 9, sections above C

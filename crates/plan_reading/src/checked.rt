@@ -6,12 +6,14 @@ use plan_rules::TaskRow;
 ghost use mathlib.Core.Path.{_≡_};
 ghost use Prim.Native.Nat.{_<_, _≤_};
 ghost use lib.ListN.{length};
+ghost use Rattle.sizes.specs.Sizes.{mostNameBytes};
 ghost use Rattle.plan_reading.specs.Plan.{planOf, namePart, Checked};
+ghost use Rattle.plan_reading.specs.Inner.{Counted};
 
 // How many processors, tasks, resources and sections the plan has.
 pub fn counts(file: &[u8]) -> Counts
     requires { ⌜ Checked (now file) ⌝ }
-    ensures { λ r. ⌜ (r .processors ≡ planOf (now (file .entry)) .processors) × (r .tasks ≡ planOf (now (file .entry)) .tasks) × (r .resources ≡ planOf (now (file .entry)) .resources) × (r .sections ≡ planOf (now (file .entry)) .sections) ⌝ }
+    ensures { λ r. ⌜ Counted (planOf (now (file .entry))) r ⌝ }
 {
     plan_layout::counts_at(file)
 }
@@ -21,7 +23,7 @@ pub fn task(file: &[u8], i: usize) -> TaskRow
     requires { ⌜ (Checked (now file)) × (i < planOf (now file) .tasks) ⌝ }
     ensures { λ r. ⌜ r ≡ planOf (now (file .entry)) .task i ⌝ }
 {
-    plan_layout::task_at(&file[16..], i)
+    plan_layout::task_at(&file[plan_layout::HEADER..], i)
 }
 
 // Section s.
@@ -36,12 +38,12 @@ pub fn section(file: &[u8], s: usize) -> SectionRow
 // The name of a resource, as that part of the file.
 pub fn name(file: &[u8], resource: u8) -> &[u8]
     requires { ⌜ (Checked (now file)) × (resource < planOf (now file) .resources) ⌝ }
-    ensures { λ r. ⌜ (now r ≡ namePart (now (file .entry)) resource) × (length (now r) ≤ 12) ⌝ }
+    ensures { λ r. ⌜ (now r ≡ namePart (now (file .entry)) resource) × (length (now r) ≤ mostNameBytes) ⌝ }
 {
     let counts = plan_layout::counts_at(file);
     let resources_at = plan_layout::resources_at(counts);
     let row = plan_layout::resource_at(&file[resources_at..], folds::wide(resource));
     let start = plan_layout::names_at(counts) + row.start;
-    let end = start + row.length;
+    let end = start + folds::wide(row.length);
     &file[start..end]
 }

@@ -2,25 +2,23 @@
 use plan_rules::Counts;
 use plan_rules::Rows;
 ghost use mathlib.Core.Path.{_≡_};
+ghost use Prim.Native.Nat.{_≤_};
+ghost use lib.ListN.{length};
+ghost use Rattle.plan_layout.specs.Editions.{headerLength};
 ghost use Rattle.plan_layout.specs.Layout.{countsOf, rowsOf};
-ghost use Rattle.plan_reading.specs.Checks.{headerCode, rowsCode, checkCode};
+ghost use Rattle.plan_reading.specs.Checks.{countsCode, headerCode, rowsCode, checkCode};
 
 pub mod checked;
 
-// Checks 1 to 4.
-fn header_code(file: &[u8]) -> u8
-    ensures { λ r. ⌜ r ≡ headerCode (now (file .entry)) ⌝ }
+// Checks 2 to 4: the first that fails, 0 for none.
+fn counts_code(file: &[u8]) -> u8
+    requires { ⌜ headerLength ≤ length (now file) ⌝ }
+    ensures { λ r. ⌜ r ≡ countsCode (now (file .entry)) ⌝ }
 {
-    if file.len() < 16 {
-        return refusals::WRONG_LENGTH;
-    }
-    if plan_layout::word_at(file, 14) != file.len() {
-        return refusals::WRONG_LENGTH;
-    }
-    if file[0] != 1 {
+    let counts = plan_layout::counts_at(file);
+    if !plan_layout::known(counts.edition) {
         return refusals::WRONG_EDITION;
     }
-    let counts = plan_layout::counts_at(file);
     if !plan_rules::counts_ok(counts) {
         return refusals::WRONG_COUNT;
     }
@@ -28,6 +26,19 @@ fn header_code(file: &[u8]) -> u8
         return refusals::WRONG_OFFSET;
     }
     0
+}
+
+// Check 1, then these.
+fn header_code(file: &[u8]) -> u8
+    ensures { λ r. ⌜ r ≡ headerCode (now (file .entry)) ⌝ }
+{
+    if file.len() < plan_layout::HEADER {
+        return refusals::WRONG_LENGTH;
+    }
+    if plan_layout::length_said(file) != file.len() {
+        return refusals::WRONG_LENGTH;
+    }
+    counts_code(file)
 }
 
 // Checks 5 to 9, of a file that passed those before: the first that fails, 0 for none.
@@ -64,7 +75,7 @@ pub fn load(file: &[u8], c: Counts) -> Rows
     let loaded = plan_layout::load_lengths(&file[resources_at..], r);
     let lengths = loaded.lengths;
     Rows {
-        tasks: plan_layout::load_tasks(&file[16..], n),
+        tasks: plan_layout::load_tasks(&file[plan_layout::HEADER..], n),
         lengths,
         sections: plan_layout::load_sections(&file[sections_at..], s),
     }

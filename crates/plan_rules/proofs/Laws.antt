@@ -8,25 +8,26 @@ use native.Mathlib.Omega.{arith}
 use borrow.Author.Tests.{le-leb, ltb-true, ltb-false, leb-true, eq-eqb, ne-eqb, eqb-true, eqb-false, not-true}
 use lib.Dec.{leb, ltb, eqb}
 use lib.ListN.{length, getD, replicate}
-use Rattle.folds.proofs.Tests.{and-parts, all-at, all-from}
+use Rattle.sizes.specs.Sizes.{mostProcessors, mostTasks, mostResources, mostSections, mostNameBytes, mostSectionTicks}
+use Rattle.folds.proofs.Tests.{and-parts, code-zero, code-next, all-at, all-from}
 use Rattle.folds.specs.Bytes.{number}
 use Rattle.folds.proofs.RowLaws.{number-same}
 use Rattle.folds.proofs.Arrays.{by-eq, placed-at}
 use Rattle.plan_rules.specs.declared.Counts.{Counts}
 use Rattle.plan_rules.specs.declared.TaskRow.{TaskRow}
 use Rattle.plan_rules.specs.declared.SectionRow.{SectionRow}
-use Rattle.plan_rules.specs.Rules.{taskOf, countsOk, taskOk, tasksOk, tagsOk, sectionOk, lengthOf, startOf, lengthsOk, sameBytes, differ, nameNew, namesDiffer}
-use Rattle.plan_rules.specs.Digests.{digestOf, digestsOf, numberNew, numbersDiffer}
+use Rattle.plan_rules.specs.Rules.{taskOf, countsOk, taskOk, tasksOk, tagsOk, sectionOk, lengthOf, startOf, lengthsOk, sameBytes, differ, nameNew, namesDiffer, Tests, testsCode}
+use Rattle.plan_rules.specs.Inner.{digestOf, digestsOf, numberNew, numbersDiffer}
 
 -- counts in their ranges
 pub record InRange (c : Counts) : Type 0 where
   pub processor : 1 ≤ c .processors
-  pub processors : c .processors ≤ 8
+  pub processors : c .processors ≤ mostProcessors
   pub task : 1 ≤ c .tasks
-  pub tasks : c .tasks ≤ 64
+  pub tasks : c .tasks ≤ mostTasks
   pub resource : 1 ≤ c .resources
-  pub resources : c .resources ≤ 16
-  pub sections : c .sections ≤ 255
+  pub resources : c .resources ≤ mostResources
+  pub sections : c .sections ≤ mostSections
 
 pub counts-facts : (c : Counts) → countsOk c ≡ true → InRange c
 counts-facts c h =
@@ -47,15 +48,15 @@ counts-facts c h =
     }
 
 -- a task that keeps its rule in a plan of p processors
-pub record Task (p : ℕ) (t : TaskRow) : Type 0 where
+pub record Task (most p : ℕ) (t : TaskRow) : Type 0 where
   pub processor : t .processor < p
-  pub tag : t .tag ≤ 255
+  pub tag : t .tag ≤ most
   pub priority : 1 ≤ t .priority
   pub execution : 1 ≤ t .execution
   pub period : t .execution ≤ t .period
 
-pub task-facts : (p : ℕ) (t : TaskRow) → taskOk p t ≡ true → Task p t
-task-facts p t h =
+pub task-facts : (most p : ℕ) (t : TaskRow) → taskOk most p t ≡ true → Task most p t
+task-facts most p t h =
     let e = and-parts _ _ h in
     let d = and-parts _ _ (e .0) in
     let c = and-parts _ _ (d .0) in
@@ -68,21 +69,46 @@ task-facts p t h =
       period = leb-true _ _ (e .1);
     }
 
-pub task-at : (n p i : ℕ) (tasks : List TaskRow) → tasksOk n p tasks ≡ true → i < n → Task p (taskOf tasks i)
+pub task-at : (n most p i : ℕ) (tasks : List TaskRow) → tasksOk n most p tasks ≡ true → i < n → Task most p (taskOf tasks i)
 unfolding tasksOk
-task-at n p i tasks h l = task-facts p (taskOf tasks i) (all-at n i (λ k. taskOk p (taskOf tasks k)) h l)
+task-at n most p i tasks h l = task-facts most p (taskOf tasks i) (all-at n i (λ k. taskOk most p (taskOf tasks k)) h l)
 
--- tasks that keep their rule have tags of one byte
-pub tags-kept : (n p : ℕ) (tasks : List TaskRow) → tasksOk n p tasks ≡ true → tagsOk n tasks ≡ true
+-- tasks that keep their rule have tags for which a row has room
+pub tags-kept : (n most p : ℕ) (tasks : List TaskRow) → tasksOk n most p tasks ≡ true → tagsOk n most tasks ≡ true
 unfolding tagsOk
-tags-kept n p tasks h = all-from n _ (λ i l. le-leb _ _ (task-at n p i tasks h l .tag))
+tags-kept n most p tasks h = all-from n _ (λ i l. le-leb _ _ (task-at n most p i tasks h l .tag))
+
+-- checks 5 to 9, all of which hold
+pub record Passed (t : Tests) : Type 0 where
+  pub tasks : t .tasks ≡ true
+  pub unique : t .unique ≡ true
+  pub names : t .names ≡ true
+  pub sections : t .sections ≡ true
+  pub sums : t .sums ≡ true
+
+pub tests-facts : (t : Tests) → testsCode t ≡ 0 → Passed t
+tests-facts t e =
+    let e2 = code-next (t .tasks) _ 4 e in
+    let e3 = code-next (t .unique) _ 5 e2 in
+    let e4 = code-next (t .names) _ 6 e3 in
+    let e5 = code-next (t .sections) _ 7 e4 in
+    record {
+      tasks = code-zero (t .tasks) _ 4 e;
+      unique = code-zero (t .unique) _ 5 e2;
+      names = code-zero (t .names) _ 6 e3;
+      sections = code-zero (t .sections) _ 7 e4;
+      sums = code-zero (t .sums) _ 8 e5;
+    }
+
+pub tests-pass : (t : Tests) → Passed t → testsCode t ≡ 0
+tests-pass t p = rw (p .tasks, p .unique, p .names, p .sections, p .sums)
 
 -- a section that keeps its rule in a plan of n tasks and r resources
 pub record Section (n r : ℕ) (s : SectionRow) : Type 0 where
   pub task : s .task < n
   pub resource : s .resource < r
   pub low : 1 ≤ s .length
-  pub high : s .length ≤ 1000
+  pub high : s .length ≤ mostSectionTicks
 
 pub section-facts : (n r : ℕ) (s : SectionRow) → sectionOk n r s ≡ true → Section n r s
 section-facts n r s h =
@@ -103,22 +129,28 @@ place-eqb p q a b la lb =
     (λ e. by-eq (λ (t : Bool). eqb (p * 256 + a) (q * 256 + b) ≡ t) a b (λ f. eq-eqb (p * 256 + a) (q * 256 + b) (omega arith)) (λ d. ne-eqb (p * 256 + a) (q * 256 + b) (λ f. d (omega arith))))
     (λ d. ne-eqb (p * 256 + a) (q * 256 + b) (λ f. d (omega arith)))
 
+-- the names of the resources below i are passed, with this found of them; the next one starts at `at`
+pub record Walked (r : ℕ) (lengths : List ℕ) (at i : ℕ) (Found : Type 0) : Type 0 where
+  pub below : i ≤ r
+  pub start : at ≡ startOf lengths i
+  pub found : Found
+
 -- a name length that keeps its rule
 pub record Length (l : ℕ) : Type 0 where
   pub low : 1 ≤ l
-  pub high : l ≤ 12
+  pub high : l ≤ mostNameBytes
 
 pub length-facts : (r i : ℕ) (lengths : List ℕ) → lengthsOk r lengths ≡ true → i < r → Length (lengthOf lengths i)
 unfolding lengthsOk
 length-facts r i lengths h l =
-    let a = and-parts (leb 1 (lengthOf lengths i)) (leb (lengthOf lengths i) 12) (all-at r i _ h l) in
+    let a = and-parts (leb 1 (lengthOf lengths i)) (leb (lengthOf lengths i) mostNameBytes) (all-at r i _ h l) in
     record { low = leb-true _ _ (a .0); high = leb-true _ _ (a .1) }
 
 -- the number of name i among those of r names
-pub digest-at : (r i : ℕ) (lengths names : List ℕ) → i < r → r ≤ 16 → getD (digestsOf r lengths names) i 0 ≡ digestOf names (startOf lengths i) (lengthOf lengths i)
+pub digest-at : (r i : ℕ) (lengths names : List ℕ) → i < r → r ≤ mostResources → getD (digestsOf r lengths names) i 0 ≡ digestOf names (startOf lengths i) (lengthOf lengths i)
 unfolding digestsOf
 digest-at r i lengths names l h =
-    placed-at r i (λ k. digestOf names (startOf lengths k) (lengthOf lengths k)) (replicate 16 0) 0 l h
+    placed-at r i (λ k. digestOf names (startOf lengths k) (lengthOf lengths k)) (replicate mostResources 0) 0 l h
 
 -- the same bytes have one number
 pub digest-same : (names : List ℕ) (a b len : ℕ) → 1 ≤ len → sameBytes names a b len ≡ true → digestOf names a len ≡ digestOf names b len
@@ -151,7 +183,7 @@ digest-differ lengths names i j a b h d =
     either true false g = refl
     either false y g = refl
 
-pub digests-differ : (r : ℕ) (lengths names : List ℕ) → r ≤ 16 → lengthsOk r lengths ≡ true → numbersDiffer r (digestsOf r lengths names) ≡ true → namesDiffer r lengths names ≡ true
+pub digests-differ : (r : ℕ) (lengths names : List ℕ) → r ≤ mostResources → lengthsOk r lengths ≡ true → numbersDiffer r (digestsOf r lengths names) ≡ true → namesDiffer r lengths names ≡ true
 unfolding numbersDiffer numberNew namesDiffer nameNew
 digests-differ r lengths names h ok t =
     let l : List ℕ = digestsOf r lengths names in

@@ -4,11 +4,12 @@ use mathlib.Core.Bool.{Bool, cond, _&&_, not}
 use mathlib.Core.List.{List}
 use lib.Dec.{leb, ltb, eqb}
 use lib.ListN.{length, getD}
+use Rattle.refusals.specs.Numbers.{wrongTask, repeated, wrongName, wrongSection, sectionsAbove}
+use Rattle.sizes.specs.Sizes.{mostProcessors, mostTasks, mostResources, mostSections, mostNameBytes, mostSectionTicks}
 use Rattle.folds.specs.Below.{allBelow, sumBelow}
 use Rattle.plan_rules.specs.declared.TaskRow.{TaskRow}
 use Rattle.plan_rules.specs.declared.SectionRow.{SectionRow}
 use Rattle.plan_rules.specs.declared.Counts.{Counts}
-use Rattle.plan_rules.specs.declared.Rows.{Rows}
 
 -- a row that is not there
 abbrev pub noTask : TaskRow
@@ -34,29 +35,30 @@ lengthOf lengths i = getD lengths i 0
 abbrev pub countsOk : Counts → Bool
 countsOk c =
     leb 1 (c .processors)
-    && leb (c .processors) 8
+    && leb (c .processors) mostProcessors
     && leb 1 (c .tasks)
-    && leb (c .tasks) 64
+    && leb (c .tasks) mostTasks
     && leb 1 (c .resources)
-    && leb (c .resources) 16
-    && leb (c .sections) 255
+    && leb (c .resources) mostResources
+    && leb (c .sections) mostSections
 
--- 5. A task of a plan of p processors: processor below p, a tag of one byte, priority at least 1, 1 ≤ C ≤ T
-abbrev pub taskOk : ℕ → TaskRow → Bool
-taskOk p t =
+-- 5. A task of a plan of p processors: processor below p, a tag that its row has room for (`most` is the greatest), priority at least
+-- 1, 1 ≤ C ≤ T
+abbrev pub taskOk : ℕ → ℕ → TaskRow → Bool
+taskOk most p t =
     ltb (t .processor) p
-    && leb (t .tag) 255
+    && leb (t .tag) most
     && leb 1 (t .priority)
     && leb 1 (t .execution)
     && leb (t .execution) (t .period)
 
 -- 5. Each of n tasks
-unfoldable pub tasksOk : ℕ → ℕ → List TaskRow → Bool
-tasksOk n p tasks = allBelow n (λ i. taskOk p (taskOf tasks i))
+unfoldable pub tasksOk : ℕ → ℕ → ℕ → List TaskRow → Bool
+tasksOk n most p tasks = allBelow n (λ i. taskOk most p (taskOf tasks i))
 
--- 5. The tag of each of n tasks has one byte
-unfoldable pub tagsOk : ℕ → List TaskRow → Bool
-tagsOk n tasks = allBelow n (λ i. leb (taskOf tasks i .tag) 255)
+-- 5. A row has room for the tag of each of n tasks
+unfoldable pub tagsOk : ℕ → ℕ → List TaskRow → Bool
+tagsOk n most tasks = allBelow n (λ i. leb (taskOf tasks i .tag) most)
 
 -- 6. Task i's tag is that of no earlier task
 unfoldable pub tagNew : List TaskRow → ℕ → Bool
@@ -73,11 +75,19 @@ uniqueOk n tasks = allBelow n (λ i. tagNew tasks i && priorityNew tasks i)
 
 -- 7. A name has 1 to 12 bytes
 unfoldable pub lengthsOk : ℕ → List ℕ → Bool
-lengthsOk r lengths = allBelow r (λ i. leb 1 (lengthOf lengths i) && leb (lengthOf lengths i) 12)
+lengthsOk r lengths = allBelow r (λ i. leb 1 (lengthOf lengths i) && leb (lengthOf lengths i) mostNameBytes)
 
--- 7. Name bytes are 33 to 126
+-- "Name bytes are 33 to 126": the first
+abbrev pub firstByte : ℕ
+firstByte = 33
+
+-- and the last
+abbrev pub lastByte : ℕ
+lastByte = 126
+
+-- 7. Each name byte is one of these
 unfoldable pub bytesOk : List ℕ → Bool
-bytesOk names = allBelow (length names) (λ k. leb 33 (getD names k 0) && leb (getD names k 0) 126)
+bytesOk names = allBelow (length names) (λ k. leb firstByte (getD names k 0) && leb (getD names k 0) lastByte)
 
 -- the first name starts at 0, each next one where the last ended
 abbrev pub startOf : List ℕ → ℕ → ℕ
@@ -107,7 +117,7 @@ namesOk r lengths names =
 
 -- 8. A section of a plan of n tasks and r resources: task below n, resource below r, length 1 to 1,000
 abbrev pub sectionOk : ℕ → ℕ → SectionRow → Bool
-sectionOk n r s = ltb (s .task) n && ltb (s .resource) r && leb 1 (s .length) && leb (s .length) 1000
+sectionOk n r s = ltb (s .task) n && ltb (s .resource) r && leb 1 (s .length) && leb (s .length) mostSectionTicks
 
 -- 8. Each of s sections
 unfoldable pub sectionsOk : ℕ → ℕ → ℕ → List SectionRow → Bool
@@ -121,19 +131,19 @@ sectionSum s sections t = sumBelow s (λ i. cond (eqb (sectionOf sections i .tas
 unfoldable pub sumsOk : ℕ → ℕ → List TaskRow → List SectionRow → Bool
 sumsOk n s tasks sections = allBelow n (λ t. leb (sectionSum s sections t) (taskOf tasks t .execution))
 
--- the first of 5 to 9 that the rows and names break, 0 for none
-unfoldable pub rowsCode : Counts → Rows → List ℕ → ℕ
-rowsCode c rows names =
-    cond (tasksOk (c .tasks) (c .processors) (rows .tasks))
-    (cond (uniqueOk (c .tasks) (rows .tasks))
-    (cond (namesOk (c .resources) (rows .lengths) names)
-    (cond (sectionsOk (c .sections) (c .tasks) (c .resources) (rows .sections))
-    (cond (sumsOk (c .tasks) (c .sections) (rows .tasks) (rows .sections)) 0 9)
-    8)
-    7)
-    6)
-    5
+-- what checks 5 to 9 ask of a plan's rows and names: whether each holds
+pub record Tests : Type 0 where
+  pub tasks : Bool
+  pub unique : Bool
+  pub names : Bool
+  pub sections : Bool
+  pub sums : Bool
 
--- the first of 3 and 5 to 9 that values break, 0 for none: counts beyond their range are refused before any row is looked at
-unfoldable pub valuesCode : Counts → Rows → List ℕ → ℕ
-valuesCode c rows names = cond (countsOk c) (rowsCode c rows names) 3
+-- the first of 5 to 9 that fails, 0 for none: each is made over all rows before the next
+abbrev pub testsCode : Tests → ℕ
+testsCode t =
+    cond (t .tasks)
+    (cond (t .unique)
+    (cond (t .names) (cond (t .sections) (cond (t .sums) 0 sectionsAbove) wrongSection) wrongName)
+    repeated)
+    wrongTask

@@ -4,6 +4,9 @@ ghost use Rattle.plan_rules.specs.Rules.{countsOk, taskOk, sectionOk};
 
 pub mod names;
 
+// The most ticks of a section.
+const SECTION_TICKS: u16 = 1000;
+
 // A task: its tag, period T, execution time C, processor and priority. The wide fields stand first, so that no byte is lost
 // between them.
 pub struct TaskRow {
@@ -21,8 +24,9 @@ pub struct SectionRow {
     pub length: u16,
 }
 
-// How many processors, tasks, resources and sections a plan has.
+// The edition of a plan file, and how many processors, tasks, resources and sections the plan has.
 pub struct Counts {
+    pub edition: u8,
     pub processors: u8,
     pub tasks: u8,
     pub resources: u8,
@@ -31,9 +35,9 @@ pub struct Counts {
 
 // The rows; those past a plan's counts are all zero where a file was read.
 pub struct Rows {
-    pub tasks: [TaskRow; 64],
-    pub lengths: [u8; 16],
-    pub sections: [SectionRow; 255],
+    pub tasks: [TaskRow; sizes::TASKS],
+    pub lengths: [u8; sizes::RESOURCES],
+    pub sections: [SectionRow; sizes::SECTIONS],
 }
 
 // Whether each count is in its range.
@@ -41,20 +45,20 @@ pub fn counts_ok(c: Counts) -> bool
     ensures { λ r. ⌜ r ≡ countsOk c ⌝ }
 {
     (1 <= c.processors)
-        & (c.processors <= 8)
+        & (c.processors <= sizes::PROCESSORS as u8)
         & (1 <= c.tasks)
-        & (c.tasks <= 64)
+        & (c.tasks <= sizes::TASKS as u8)
         & (1 <= c.resources)
-        & (c.resources <= 16)
-        & (c.sections <= 255)
+        & (c.resources <= sizes::RESOURCES as u8)
+        & (c.sections <= sizes::SECTIONS as u16)
 }
 
-// Whether a task row of a plan of p processors keeps its rule.
-pub fn task_ok(t: TaskRow, p: u8) -> bool
-    ensures { λ r. ⌜ r ≡ taskOk p t ⌝ }
+// Whether a task row of a plan of p processors keeps its rule, where `most` is the greatest tag that a row has room for.
+pub fn task_ok(t: TaskRow, p: u8, most: u16) -> bool
+    ensures { λ r. ⌜ r ≡ taskOk most p t ⌝ }
 {
     (t.processor < p)
-        & (t.tag <= 255)
+        & (t.tag <= most)
         & (1 <= t.priority)
         & (1 <= t.execution)
         & (t.execution <= t.period)
@@ -64,5 +68,5 @@ pub fn task_ok(t: TaskRow, p: u8) -> bool
 pub fn section_ok(s: SectionRow, n: u8, r: u8) -> bool
     ensures { λ b. ⌜ b ≡ sectionOk n r s ⌝ }
 {
-    (s.task < n) & (s.resource < r) & (1 <= s.length) & (s.length <= 1000)
+    (s.task < n) & (s.resource < r) & (1 <= s.length) & (s.length <= SECTION_TICKS)
 }

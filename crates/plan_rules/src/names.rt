@@ -1,17 +1,22 @@
 // The rules of names. These functions are for the crates that read and write plans: each relies on what the checks before it
 // gave, and says so in its `requires`.
 ghost use mathlib.Core.Path.{_≡_};
-ghost use mathlib.Core.Bool.{true};
 ghost use Prim.Native.Nat.{_+_, _≤_, _<_};
 ghost use lib.ListN.{length};
 ghost use Rattle.folds.specs.Below.{sumBelow};
 ghost use Rattle.folds.specs.Bytes.{number};
-ghost use Rattle.plan_rules.specs.Digests.{digestOf, digestsOf, numberNew, numbersDiffer};
+ghost use Rattle.sizes.specs.Sizes.{mostResources};
 ghost use Rattle.plan_rules.specs.Rules.{lengthOf, lengthsOk, bytesOk, sameBytes, differ, namesDiffer, nameNew, namesOk};
+ghost use Rattle.plan_rules.specs.Inner.{digestOf, digestsOf, numberNew, numbersDiffer, NameLies, TwoNames, DigestLies, NamesFit};
+
+// The range of a name's bytes.
+const FIRST_BYTE: u8 = 33;
+
+const LAST_BYTE: u8 = 126;
 
 // The sum of the first r name lengths.
-fn total_length(lengths: [u8; 16], r: usize) -> usize
-    requires { ⌜ r ≤ 16 ⌝ }
+fn total_length(lengths: [u8; sizes::RESOURCES], r: usize) -> usize
+    requires { ⌜ r ≤ mostResources ⌝ }
     ensures { λ t. ⌜ (t ≡ sumBelow r (lengthOf lengths)) × (t ≤ 4080) ⌝ }
 {
     let mut sum = 0;
@@ -24,15 +29,15 @@ fn total_length(lengths: [u8; 16], r: usize) -> usize
 }
 
 // Whether each of the first r name lengths is in its range.
-fn lengths_ok(lengths: [u8; 16], r: usize) -> bool
-    requires { ⌜ r ≤ 16 ⌝ }
+fn lengths_ok(lengths: [u8; sizes::RESOURCES], r: usize) -> bool
+    requires { ⌜ r ≤ mostResources ⌝ }
     ensures { λ b. ⌜ b ≡ lengthsOk r lengths ⌝ }
 {
     let mut ok = true;
     let mut i = 0;
     while i < r {
         let len = lengths[i];
-        ok = ok & ((1 <= len) & (len <= 12));
+        ok = ok & ((1 <= len) & (len <= sizes::NAME as u8));
         i += 1;
     }
     ok
@@ -46,7 +51,7 @@ fn bytes_ok(names: &[u8]) -> bool
     let mut k = 0;
     while k < names.len() {
         let b = names[k];
-        ok = ok & ((33 <= b) & (b <= 126));
+        ok = ok & ((FIRST_BYTE <= b) & (b <= LAST_BYTE));
         k += 1;
     }
     ok
@@ -68,8 +73,15 @@ fn same_bytes(names: &[u8], a: usize, b: usize, len: usize) -> bool
 }
 
 // Whether the name of resource i, which begins at `at`, differs from that of resource j, which begins at `other`.
-fn differs(lengths: [u8; 16], names: &[u8], i: usize, j: usize, at: usize, other: usize) -> bool
-    requires { ⌜ (i < 16) × (j < 16) × (at + lengthOf lengths i ≤ length (now names)) × (other + lengthOf lengths j ≤ length (now names)) ⌝ }
+fn differs(
+    lengths: [u8; sizes::RESOURCES],
+    names: &[u8],
+    i: usize,
+    j: usize,
+    at: usize,
+    other: usize,
+) -> bool
+    requires { ⌜ TwoNames lengths (now names) i j at other ⌝ }
     ensures { λ r. ⌜ r ≡ differ lengths (now (names .entry)) i j at other ⌝ }
 {
     let len = folds::wide(lengths[i]);
@@ -80,8 +92,8 @@ fn differs(lengths: [u8; 16], names: &[u8], i: usize, j: usize, at: usize, other
 }
 
 // Whether the name of resource i, which begins at `at`, differs from those of all earlier ones.
-fn name_is_new(lengths: [u8; 16], names: &[u8], i: usize, at: usize) -> bool
-    requires { ⌜ (i < 16) × (at ≡ sumBelow i (lengthOf lengths)) × (at + lengthOf lengths i ≤ length (now names)) ⌝ }
+fn name_is_new(lengths: [u8; sizes::RESOURCES], names: &[u8], i: usize, at: usize) -> bool
+    requires { ⌜ NameLies lengths (now names) i at ⌝ }
     ensures { λ r. ⌜ r ≡ nameNew lengths (now (names .entry)) i ⌝ }
 {
     let mut ok = true;
@@ -108,7 +120,7 @@ fn quad(s: &[u8], at: usize) -> u64
 // A number that equal names have in common, made of all their bytes: of up to 3 bytes their sum, of 4 to 12 bytes the sum of the
 // first four, the middle four and the last four, each times its own factor.
 fn digest_of(names: &[u8], at: usize, len: usize) -> u64
-    requires { ⌜ (1 ≤ len) × (len ≤ 12) × (at + len ≤ length (now names)) ⌝ }
+    requires { ⌜ DigestLies (now names) at len ⌝ }
     ensures { λ r. ⌜ r ≡ digestOf (now (names .entry)) at len ⌝ }
 {
     if len < 4 {
@@ -121,11 +133,11 @@ fn digest_of(names: &[u8], at: usize, len: usize) -> u64
 }
 
 // Those numbers of all names.
-fn digests(lengths: [u8; 16], r: usize, names: &[u8]) -> [u64; 16]
-    requires { ⌜ (r ≤ 16) × (lengthsOk r lengths ≡ true) × (sumBelow r (lengthOf lengths) ≡ length (now names)) ⌝ }
+fn digests(lengths: [u8; sizes::RESOURCES], r: usize, names: &[u8]) -> [u64; sizes::RESOURCES]
+    requires { ⌜ NamesFit r lengths (now names) ⌝ }
     ensures { λ l. ⌜ l ≡ digestsOf r lengths (now (names .entry)) ⌝ }
 {
-    let mut found = [0u64; 16];
+    let mut found = [0u64; sizes::RESOURCES];
     let mut at = 0;
     let mut i = 0;
     while i < r {
@@ -138,8 +150,8 @@ fn digests(lengths: [u8; 16], r: usize, names: &[u8]) -> [u64; 16]
 }
 
 // Whether number i differs from all before it.
-fn digest_is_new(found: [u64; 16], i: usize) -> bool
-    requires { ⌜ i < 16 ⌝ }
+fn digest_is_new(found: [u64; sizes::RESOURCES], i: usize) -> bool
+    requires { ⌜ i < mostResources ⌝ }
     ensures { λ r. ⌜ r ≡ numberNew found i ⌝ }
 {
     let own = found[i];
@@ -153,8 +165,8 @@ fn digest_is_new(found: [u64; 16], i: usize) -> bool
 }
 
 // Whether the first r numbers differ.
-fn digests_differ(found: [u64; 16], r: usize) -> bool
-    requires { ⌜ r ≤ 16 ⌝ }
+fn digests_differ(found: [u64; sizes::RESOURCES], r: usize) -> bool
+    requires { ⌜ r ≤ mostResources ⌝ }
     ensures { λ b. ⌜ b ≡ numbersDiffer r found ⌝ }
 {
     let mut ok = true;
@@ -167,8 +179,8 @@ fn digests_differ(found: [u64; 16], r: usize) -> bool
 }
 
 // Whether all names differ, compared byte by byte.
-fn bytes_differ(lengths: [u8; 16], r: usize, names: &[u8]) -> bool
-    requires { ⌜ (r ≤ 16) × (sumBelow r (lengthOf lengths) ≡ length (now names)) ⌝ }
+fn bytes_differ(lengths: [u8; sizes::RESOURCES], r: usize, names: &[u8]) -> bool
+    requires { ⌜ (r ≤ mostResources) × (sumBelow r (lengthOf lengths) ≡ length (now names)) ⌝ }
     ensures { λ b. ⌜ b ≡ namesDiffer r lengths (now (names .entry)) ⌝ }
 {
     let mut ok = true;
@@ -183,8 +195,8 @@ fn bytes_differ(lengths: [u8; 16], r: usize, names: &[u8]) -> bool
 }
 
 // Whether all names differ. Where their numbers differ, so do they; only else are they compared.
-fn names_differ(lengths: [u8; 16], r: usize, names: &[u8]) -> bool
-    requires { ⌜ (r ≤ 16) × (lengthsOk r lengths ≡ true) × (sumBelow r (lengthOf lengths) ≡ length (now names)) ⌝ }
+fn names_differ(lengths: [u8; sizes::RESOURCES], r: usize, names: &[u8]) -> bool
+    requires { ⌜ NamesFit r lengths (now names) ⌝ }
     ensures { λ b. ⌜ b ≡ namesDiffer r lengths (now (names .entry)) ⌝ }
 {
     let found = digests(lengths, r, names);
@@ -195,8 +207,8 @@ fn names_differ(lengths: [u8; 16], r: usize, names: &[u8]) -> bool
 }
 
 // 7: whether lengths and names keep their rules: lengths in range that add up to the bytes, bytes in range, names that differ.
-pub fn names_ok(lengths: [u8; 16], r: usize, names: &[u8]) -> bool
-    requires { ⌜ r ≤ 16 ⌝ }
+pub fn names_ok(lengths: [u8; sizes::RESOURCES], r: usize, names: &[u8]) -> bool
+    requires { ⌜ r ≤ mostResources ⌝ }
     ensures { λ b. ⌜ b ≡ namesOk r lengths (now (names .entry)) ⌝ }
 {
     if total_length(lengths, r) != names.len() {

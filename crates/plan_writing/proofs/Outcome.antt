@@ -8,16 +8,16 @@ use borrow.Author.Tests.{eq-eqb, ne-eqb, le-leb, lt-leb, leb-true}
 use lib.Dec.{leb}
 use lib.ListN.{length, getD, take, drop}
 use lib.Seq.{take-at}
+use Rattle.refusals.specs.Numbers.{noRoom}
 use Rattle.folds.proofs.Tests.{code-zero}
 use Rattle.folds.proofs.Arrays.{by-eq}
-use Rattle.plan_rules.specs.Rules.{valuesCode}
 use Rattle.plan_rules.specs.declared.Counts.{Counts}
 use Rattle.plan_rules.specs.declared.Rows.{Rows}
-use Rattle.plan_layout.specs.Layout.{countsOf, rowsOf, namesOf}
+use Rattle.plan_layout.specs.Layout.{countsOf, rowsOf, namesOf, valuesCode}
 use Rattle.plan.specs.declared.Reading.{Reading}
 use Rattle.plan.specs.declared.ReadAnswer.the-variants.{Accepted}
 use Rattle.plan.specs.Acceptance.{refusal}
-use Rattle.plan.specs.Reading.{given, reading, refusedWith, told as readSaid}
+use Rattle.plan.specs.Reading.{given, reading, refusedWith, countValues, told as readSaid}
 use Rattle.plan_writing.specs.declared.WriteAnswer.{WriteAnswer}
 use Rattle.plan_writing.specs.declared.WriteAnswer.the-variants.{Written, Refused}
 use Rattle.plan_writing.specs.Encode.{fileLength, fileOf, writeCode, writing, written, told, writeTold}
@@ -38,7 +38,7 @@ module _ (c : Counts) (rows : Rows) (names : List ℕ) where
   unfolding writeCode
   code-values {k} room e d = rw (← e, ne-eqb k 0 d)
 
-  pub code-short : {k : ℕ} (room : ℕ) → k ≡ valuesCode c rows names → k ≡ 0 → room < fileLength c names → writeCode c rows names room ≡ 10
+  pub code-short : {k : ℕ} (room : ℕ) → k ≡ valuesCode c rows names → k ≡ 0 → room < fileLength c names → writeCode c rows names room ≡ noRoom
   unfolding writeCode
   code-short room e z l = rw (eq-eqb (valuesCode c rows names) 0 (sym e ∙ z), lt-leb (fileLength c names) room l)
 
@@ -50,7 +50,7 @@ module _ (c : Counts) (rows : Rows) (names : List ℕ) where
   pub code-clear : (room : ℕ) → writeCode c rows names room ≡ 0 → (valuesCode c rows names ≡ 0) × (fileLength c names ≤ room)
   unfolding writeCode
   code-clear room e =
-      by-eq (λ (b : Bool). cond b (cond (leb (fileLength c names) room) 0 10) (valuesCode c rows names) ≡ 0 → (valuesCode c rows names ≡ 0) × (fileLength c names ≤ room)) (valuesCode c rows names) 0
+      by-eq (λ (b : Bool). cond b (cond (leb (fileLength c names) room) 0 noRoom) (valuesCode c rows names) ≡ 0 → (valuesCode c rows names ≡ 0) × (fileLength c names ≤ room)) (valuesCode c rows names) 0
       (λ z h. (z, leb-true _ _ (code-zero (leb (fileLength c names) room) 0 9 h)))
       (λ d h. absurd (d h))
       e
@@ -115,7 +115,7 @@ module _ (c : Counts) (rows : Rows) (names : List ℕ) where
   unfolding readBack
   back-told room =
       by-eq
-      (λ (b : Bool). readSaid ((cond b (record { answer = Accepted c; rows = trimmed c rows }) (refusedWith (writeCode c rows names room))) .answer) ≡ record { number = writeCode c rows names room; values = cond b (c .processors ∷ c .tasks ∷ c .resources ∷ c .sections ∷ []) [] })
+      (λ (b : Bool). readSaid ((cond b (record { answer = Accepted c; rows = trimmed c rows }) (refusedWith (writeCode c rows names room))) .answer) ≡ record { number = writeCode c rows names room; values = cond b (countValues c) [] })
       (writeCode c rows names room) 0 (λ z. rw z) (λ d. refl)
 
 -- copying a file that is refused, and one that is read

@@ -1,26 +1,29 @@
 -- Laws of the writer: what stands at the front of a buffer after each part that is put, and the lengths of the parts.
 use Prim.Native.Nat.{ℕ, _+_, _-_, _*_, _<_, _≤_}
 use mathlib.Core.Bool.{true}
-use mathlib.Core.List.{List, [], _∷_, _++_}
+use mathlib.Core.List.{List, _++_}
 use mathlib.Core.Path.{_≡_, ap, _∙_}
 use native.Mathlib.Omega.{arith}
 use borrow.Author.Tests.{eqb-true, leb-true}
 use lib.Dec.{leb, eqb}
 use lib.ListN.{length, take, drop, length-append}
+use Rattle.sizes.specs.Sizes.{mostResources, mostNameBytes}
 use Rattle.folds.specs.Below.{sumBelow}
-use Rattle.folds.specs.Bytes.{bytesBelow, width}
+use Rattle.folds.specs.Bytes.{bytesBelow}
 use Rattle.folds.proofs.Tests.{and-parts, all-at}
 use Rattle.folds.proofs.Figures.{sum-bound}
 use Rattle.folds.proofs.Parts.{put-part, put-length, bytes-length, bytes-step}
 use Rattle.folds.proofs.RowLaws.{row-length}
-use Rattle.plan_rules.specs.Rules.{taskOf, sectionOf, lengthOf, startOf, tagsOk, lengthsOk, namesOk, valuesCode}
+use Rattle.plan_rules.specs.Rules.{taskOf, sectionOf, lengthOf, startOf, tagsOk, lengthsOk, namesOk}
 use Rattle.plan_rules.specs.declared.TaskRow.{TaskRow}
 use Rattle.plan_rules.specs.declared.SectionRow.{SectionRow}
 use Rattle.plan_rules.specs.declared.Counts.{Counts}
 use Rattle.plan_rules.specs.declared.Rows.{Rows}
 use Rattle.plan_rules.proofs.Laws.{InRange, counts-facts, length-facts}
-use Rattle.plan_layout.specs.Layout.{taskWidths, resourceWidths, sectionWidths}
-use Rattle.plan_writing.specs.Encode.{taskNumbers, taskBytes, resourceBytes, sectionNumbers, sectionBytes}
+use Rattle.plan_layout.specs.Editions.{edition1, formatOf}
+use Rattle.plan_layout.specs.Layout.{laid, resourceNumbers, sectionNumbers, valuesCode}
+use Rattle.plan_layout.specs.Inner.{taskRow, resourceRow, sectionRow}
+use Rattle.plan_writing.specs.Encode.{headerBytes, taskBytes, resourceBytes, sectionBytes, fileLength, fileOf}
 use Rattle.plan_writing.proofs.Same.{Kept, kept-facts}
 
 -- m is l with the o bytes of x at its front
@@ -50,39 +53,46 @@ pub rows-all : (w : ℕ) (f : ℕ → List ℕ) (n i : ℕ) {l m : List ℕ} →
 rows-all w f n i e p = rw (← e) (p .bytes)
 
 -- how long the rows are
-pub task-length : (tasks : List TaskRow) (i : ℕ) → length (taskBytes tasks i) ≡ 8
-unfolding taskBytes width
-task-length tasks i = row-length taskWidths (taskNumbers (taskOf tasks i))
+pub task-length : (tasks : List TaskRow) (i : ℕ) → length (taskBytes edition1 tasks i) ≡ taskRow
+unfolding taskBytes
+task-length tasks i = row-length (formatOf edition1 .task) (formatOf edition1 .taskNumbers (taskOf tasks i))
 
-pub resource-length : (lengths : List ℕ) (i : ℕ) → length (resourceBytes lengths i) ≡ 4
-unfolding resourceBytes width
-resource-length lengths i = row-length resourceWidths (startOf lengths i ∷ lengthOf lengths i ∷ 0 ∷ [])
+pub resource-length : (lengths : List ℕ) (i : ℕ) → length (resourceBytes edition1 lengths i) ≡ resourceRow
+unfolding resourceBytes
+resource-length lengths i = row-length (formatOf edition1 .resource) (resourceNumbers (startOf lengths i) (lengthOf lengths i))
 
-pub section-length : (sections : List SectionRow) (i : ℕ) → length (sectionBytes sections i) ≡ 4
-unfolding sectionBytes width
-section-length sections i = row-length sectionWidths (sectionNumbers (sectionOf sections i))
+pub section-length : (sections : List SectionRow) (i : ℕ) → length (sectionBytes edition1 sections i) ≡ sectionRow
+unfolding sectionBytes
+section-length sections i = row-length (formatOf edition1 .section) (sectionNumbers (sectionOf sections i))
 
--- the tag of a task has one byte
-pub tag-at : (n i : ℕ) (tasks : List TaskRow) → tagsOk n tasks ≡ true → i < n → taskOf tasks i .tag ≤ 255
+-- the parts of a file one after the other, by the numbers that were worked out
+pub file-same : {n r end : ℕ} (c : Counts) (rows : Rows) (names buf : List ℕ) → n ≡ c .tasks → r ≡ c .resources → end ≡ fileLength c names
+    → ((((headerBytes c end ++ bytesBelow n (taskBytes (laid c) (rows .tasks))) ++ bytesBelow r (resourceBytes (laid c) (rows .lengths))) ++ bytesBelow (c .sections) (sectionBytes (laid c) (rows .sections))) ++ names) ++ drop end buf
+    ≡ fileOf c rows names ++ drop (fileLength c names) buf
+unfolding fileOf
+file-same c rows names buf e d h = rw (e, d, h)
+
+-- a row has room for the tag of a task
+pub tag-at : (n most i : ℕ) (tasks : List TaskRow) → tagsOk n most tasks ≡ true → i < n → taskOf tasks i .tag ≤ most
 unfolding tagsOk
-tag-at n i tasks h l = leb-true _ _ (all-at n i (λ k. leb (taskOf tasks k .tag) 255) h l)
+tag-at n most i tasks h l = leb-true _ _ (all-at n i (λ k. leb (taskOf tasks k .tag) most) h l)
 
--- a name has at most 12 bytes
-names-length : (r : ℕ) (lengths names : List ℕ) → namesOk r lengths names ≡ true → length names ≤ r * 12
+-- how much the names are
+names-length : (r : ℕ) (lengths names : List ℕ) → namesOk r lengths names ≡ true → length names ≤ r * mostNameBytes
 unfolding namesOk
 names-length r lengths names e =
     let a = and-parts (eqb (sumBelow r (lengthOf lengths)) (length names)) _ e in
     let b = and-parts (lengthsOk r lengths) _ (a .1) in
-    omega (arith, eqb-true (sumBelow r (lengthOf lengths)) (length names) (a .0), sum-bound r 12 (lengthOf lengths) (λ k l. length-facts r k lengths (b .0) l .high))
+    omega (arith, eqb-true (sumBelow r (lengthOf lengths)) (length names) (a .0), sum-bound r mostNameBytes (lengthOf lengths) (λ k l. length-facts r k lengths (b .0) l .high))
 
 -- values that keep every rule, and how much they are
 pub record Sized (c : Counts) (rows : Rows) (names : List ℕ) : Type 0 where
   pub rules : Kept c rows names
   pub ranges : InRange c
-  pub short : length names ≤ 192
+  pub short : length names ≤ mostResources * mostNameBytes
 
 pub sized : (c : Counts) (rows : Rows) (names : List ℕ) → valuesCode c rows names ≡ 0 → Sized c rows names
 sized c rows names e =
     let k = kept-facts c rows names e in
     let g = counts-facts c (k .counts) in
-    record { rules = k; ranges = g; short = omega (arith, names-length (c .resources) (rows .lengths) names (k .named)) }
+    record { rules = k; ranges = g; short = omega (arith, names-length (c .resources) (rows .lengths) names (k .tests .names)) }

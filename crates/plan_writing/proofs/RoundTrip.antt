@@ -1,56 +1,57 @@
 -- Demand 2: a file and the values that it holds. Both round trips go by what the file has at each place.
 use Prim.Native.Nat.{ℕ, _+_, _<_}
 use mathlib.Core.Bool.{true}
-use mathlib.Core.List.{List, [], _∷_, _++_, append-assoc}
+use mathlib.Core.List.{List, _++_, append-assoc}
 use mathlib.Core.Path.{_≡_, refl, sym, ap, ap₂, subst, _∙_}
 use native.Mathlib.Omega.{arith}
 use borrow.Author.Tests.{lt-ltb, le-ltb, le-leb, eq-eqb, eqb-true}
 use lib.Dec.{eqb}
 use lib.ListN.{length, getD, take, drop, replicate, length-append, length-drop, take-append-drop}
 use lib.Seq.{drop-at, drop-drop}
+use Rattle.sizes.specs.Sizes.{mostTasks, mostResources, mostSections}
 use Rattle.folds.specs.Below.{sumBelow}
-use Rattle.folds.specs.Bytes.{number, width, fields, rowAt, rowBytes, bytesBelow}
+use Rattle.folds.specs.Bytes.{rowAt, rowBytes}
 use Rattle.folds.proofs.Tests.{all-at, and-parts}
 use Rattle.folds.proofs.Arrays.{placed-same}
 use Rattle.folds.proofs.RowLaws.{Bytes, solid, fields-back, fields-forth}
 use Rattle.plan_rules.specs.Rules.{noTask, noSection, lengthOf, startOf, taskOk, namesOk}
 use Rattle.plan_rules.specs.declared.Counts.{Counts}
 use Rattle.plan_rules.specs.declared.Rows.{Rows}
-use Rattle.plan_layout.specs.Layout.{countsOf, tasksAt, resourcesAt, sectionsAt, namesAt, taskWidths, resourceWidths, sectionWidths, taskAt, taskSpare, startAt, lengthAt, resourceSpare, sectionAt, taskRows, lengthRows, sectionRows, taskRowsOk, lengthRowsOk, sectionCode, restCode, partsCode, rowsOf, namesOf}
 use Rattle.plan_rules.proofs.Laws.{InRange, counts-facts}
-use Rattle.plan_layout.proofs.Laws.{task-read, length-read, section-read, start-read, tasks-kept, sections-kept}
-use Rattle.plan_reading.specs.Checks.{headerCode, checkCode}
+use Rattle.plan_layout.specs.Editions.{Edition, Format, formatOf}
+use Rattle.plan_layout.specs.Layout.{laid, editionIn, headerIn, countsIn, countsOf, lengthSaid, tasksAt, resourcesAt, sectionsAt, namesAt, offsetsOk, headerNumbers, sectionNumbers, resourceNumbers, taskAt, taskSpare, startAt, lengthAt, resourceSpare, sectionAt, taskRows, lengthRows, sectionRows, taskRowsOk, lengthRowsOk, partsCode, rowsOf, namesOf}
+use Rattle.plan_layout.proofs.Editions.{faithful}
+use Rattle.plan_layout.proofs.Laws.{header-parts, task-read, length-read, section-read, start-read, tasks-kept, sections-kept}
+use Rattle.plan_reading.specs.Checks.{countsCode, headerCode, checkCode}
 use Rattle.plan_reading.specs.Plan.{namePart}
+use Rattle.plan_reading.proofs.Laws.{Header, Whole, whole-facts}
 use Rattle.plan.specs.Acceptance.{refusal}
 use Rattle.plan.specs.Reading.{nameRefusal, nameOf}
-use Rattle.plan_reading.proofs.Laws.{Header, Whole, whole-facts}
 use Rattle.plan.proofs.Laws.{none-failed}
-use Rattle.plan_writing.specs.Encode.{headerWidths, headerNumbers, headerBytes, taskNumbers, taskBytes, resourceBytes, sectionNumbers, sectionBytes, fileLength, fileOf}
+use Rattle.plan_writing.specs.Encode.{headerBytes, taskBytes, resourceBytes, sectionBytes, fileLength, fileOf}
 use Rattle.plan_writing.specs.RoundTrip.{trimmed, nameIn, SameFile, WrittenThenRead, ReadThenWritten}
 use Rattle.plan_writing.proofs.Same.{Kept, kept-facts, kept-code, rows-joined}
-use Rattle.plan_writing.proofs.Values.{taskRow, resourceRow, sectionRow, at, RowsIn, headed, sections-end, rows-in, header-length, task-same, length-same, start-same, section-same, tasks-checked, unique-checked, starts-checked, names-checked, sections-checked, sums-checked}
+use Rattle.plan_writing.proofs.Values.{taskRow, resourceRow, sectionRow, at, RowsIn, taskPart, resourcePart, sectionPart, headed, sections-end, rows-in, header-length, task-same, length-same, start-same, section-same, tasks-checked, unique-checked, starts-checked, names-checked, sections-checked, sums-checked}
 
 -- the file f has the numbers of these values at their places, and ends with the names
 pub record Holds (f : List ℕ) (c : Counts) (rows : Rows) (names : List ℕ) : Type 0 where
   pub size : length f ≡ fileLength c names
-  pub header : fields headerWidths f 0 ≡ headerNumbers c (fileLength c names)
+  pub header : headerIn f ≡ headerNumbers c (fileLength c names)
   pub stand : RowsIn f c rows
   pub rest : drop (namesAt c) f ≡ names
 
 -- the file of values holds them
 pub file-holds : (c : Counts) (rows : Rows) (names : List ℕ) → Holds (fileOf c rows names) c rows names
-unfolding fileOf headerBytes solid
+unfolding fileOf headerBytes headerIn solid
 file-holds c rows names =
     let v : List ℕ = headerNumbers c (fileLength c names) in
     let h : List ℕ = headerBytes c (fileLength c names) in
-    let t : List ℕ = bytesBelow (c .tasks) (taskBytes (rows .tasks)) in
-    let r : List ℕ = bytesBelow (c .resources) (resourceBytes (rows .lengths)) in
-    let s : List ℕ = bytesBelow (c .sections) (sectionBytes (rows .sections)) in
-    let lh : length h ≡ 16 = header-length c (fileLength c names) in
-    let behind : headed h c rows ++ names ≡ h ++ (t ++ (r ++ (s ++ names))) = simp append-assoc in
+    let rest : List ℕ = taskPart c rows ++ (resourcePart c rows ++ (sectionPart c rows ++ names)) in
+    let lh : length h ≡ tasksAt c = header-length c (fileLength c names) in
+    let behind : headed h c rows ++ names ≡ h ++ rest = simp append-assoc in
     record {
       size = length-append (headed h c rows) names ∙ omega (arith, sections-end c rows h lh);
-      header = rw behind (fields-back headerWidths v (t ++ (r ++ (s ++ names))) refl refl);
+      header = rw behind (fields-back (formatOf (laid c) .header) v rest refl refl);
       stand = rows-in c rows h lh names;
       rest = drop-at (headed h c rows) names (namesAt c) (sections-end c rows h lh);
     }
@@ -60,9 +61,9 @@ module _ (f : List ℕ) (rows : Rows) (names : List ℕ) (h : Holds f (countsOf 
   rows-held : rowsOf f ≡ trimmed (countsOf f) rows
   unfolding trimmed taskRows lengthRows sectionRows
   rows-held =
-      let t = placed-same _ _ _ (replicate 64 noTask) (task-same f (countsOf f) rows (h .stand)) in
-      let l = placed-same _ _ _ (replicate 16 0) (length-same f (countsOf f) rows (h .stand)) in
-      let s = placed-same _ _ _ (replicate 255 noSection) (section-same f (countsOf f) rows (h .stand)) in
+      let t = placed-same _ _ _ (replicate mostTasks noTask) (task-same f (countsOf f) rows (h .stand)) in
+      let l = placed-same _ _ _ (replicate mostResources 0) (length-same f (countsOf f) rows (h .stand)) in
+      let s = placed-same _ _ _ (replicate mostSections noSection) (section-same f (countsOf f) rows (h .stand)) in
       λ i. record { tasks = t i; lengths = l i; sections = s i }
 
   -- the part of it that is a name is that name of theirs
@@ -75,13 +76,13 @@ module _ (f : List ℕ) (rows : Rows) (names : List ℕ) (h : Holds f (countsOf 
 
   -- and it passes every check where they keep their rules
   header-held : Kept (countsOf f) rows names → Header f
-  unfolding fields number
+  unfolding lengthSaid
   header-held k =
-      let field : (j : ℕ) → at j (fields headerWidths f 0) ≡ at j (headerNumbers (countsOf f) (fileLength (countsOf f) names)) = λ j. ap (at j) (h .header) in
+      let field : (j : ℕ) → at j (headerIn f) ≡ at j (headerNumbers (countsOf f) (fileLength (countsOf f) names)) = λ j. ap (at j) (h .header) in
       record {
         long = omega (arith, h .size);
         whole = field 9 ∙ sym (h .size);
-        edition = field 0;
+        edition = k .edition;
         counts = k .counts;
         ranges = counts-facts (countsOf f) (k .counts);
         tasks-at = field 5;
@@ -95,24 +96,25 @@ module _ (f : List ℕ) (rows : Rows) (names : List ℕ) (h : Holds f (countsOf 
   whole-held k =
       let c : Counts = countsOf f in
       let g : InRange c = counts-facts c (k .counts) in
+      let t = k .tests in
       record {
         header = header-held k;
-        tasks = tasks-checked f c rows (h .stand) ∙ k .tasks;
-        unique = unique-checked f c rows (h .stand) g ∙ k .unique;
+        tasks = tasks-checked f c rows (h .stand) ∙ t .tasks;
+        unique = unique-checked f c rows (h .stand) g ∙ t .unique;
         starts = starts-checked f c rows (h .stand);
-        names = names-checked f c rows (h .stand) g (namesOf f) ∙ ap (namesOk (c .resources) (rows .lengths)) (h .rest) ∙ k .named;
-        sections = sections-checked f c rows (h .stand) ∙ k .sections;
-        sums = sums-checked f c rows (h .stand) g ∙ k .sums;
+        names = names-checked f c rows (h .stand) g (namesOf f) ∙ ap (namesOk (c .resources) (rows .lengths)) (h .rest) ∙ t .names;
+        sections = sections-checked f c rows (h .stand) ∙ t .sections;
+        sums = sums-checked f c rows (h .stand) g ∙ t .sums;
       }
 
 -- a file that passes every check is not refused
 header-read : (f : List ℕ) → Header f → headerCode f ≡ 0
-unfolding headerCode
+unfolding headerCode countsCode offsetsOk
 header-read f h =
-    rw (le-ltb _ _ (h .long), eq-eqb _ _ (h .whole), eq-eqb _ _ (h .edition), h .counts, eq-eqb _ _ (h .tasks-at), eq-eqb _ _ (h .resources-at), eq-eqb _ _ (h .sections-at), eq-eqb _ _ (h .names-at), le-leb _ _ (h .ends))
+    rw (le-ltb _ _ (h .long), eq-eqb _ _ (h .whole), h .edition, h .counts, eq-eqb _ _ (h .tasks-at), eq-eqb _ _ (h .resources-at), eq-eqb _ _ (h .sections-at), eq-eqb _ _ (h .names-at), le-leb _ _ (h .ends))
 
 whole-read : (f : List ℕ) → Whole f → refusal f ≡ 0
-unfolding refusal checkCode partsCode restCode sectionCode
+unfolding refusal checkCode partsCode
 whole-read f w =
     rw (header-read f (w .header), w .tasks, w .unique, w .starts, w .names, w .sections, w .sums)
 
@@ -127,9 +129,8 @@ name-given f r e l = rw (name-clear f r e l)
 
 -- a file has the counts of the values that it holds
 counts-held : (f : List ℕ) (c : Counts) (rows : Rows) (names : List ℕ) → Holds f c rows names → countsOf f ≡ c
-unfolding fields number
-counts-held f c rows names h =
-    ap {B = Counts} (λ (v : List ℕ). record { processors = at 1 v; tasks = at 2 v; resources = at 3 v; sections = at 4 v }) (h .header)
+unfolding countsOf
+counts-held f c rows names h = ap countsIn (h .header)
 
 pub written-then-read : WrittenThenRead
 written-then-read c rows names e =
@@ -148,46 +149,43 @@ written-then-read c rows names e =
       name-read = λ r l. name-given f r none (below r l) ∙ name-held f rows names h r (below r l);
     }
 
--- the numbers of a row whose spare byte is 0
-task-row : (part : List ℕ) (i : ℕ) → taskSpare part i ≡ 0 → rowAt taskWidths part i ≡ taskNumbers (taskAt part i)
-unfolding taskSpare taskAt rowAt fields
-task-row part i e = rw e
+-- the numbers of a row that passed its check are those of what is read from it
+module _ (e : Edition) (part : List ℕ) (i : ℕ) where
+  task-row : taskSpare e part i ≡ 0 → rowAt (formatOf e .task) part i ≡ formatOf e .taskNumbers (taskAt e part i)
+  unfolding taskSpare taskAt
+  task-row z = faithful e .task-forth part i z
 
-resource-row : (part : List ℕ) (i : ℕ) → resourceSpare part i ≡ 0 → rowAt resourceWidths part i ≡ startAt part i ∷ lengthAt part i ∷ 0 ∷ []
-unfolding resourceSpare startAt lengthAt rowAt fields
-resource-row part i e = rw e
+  resource-row : resourceSpare e part i ≡ 0 → rowAt (formatOf e .resource) part i ≡ resourceNumbers (startAt e part i) (lengthAt e part i)
+  unfolding resourceSpare startAt lengthAt
+  resource-row z = faithful e .resource-forth part i z
 
-section-row : (part : List ℕ) (i : ℕ) → rowAt sectionWidths part i ≡ sectionNumbers (sectionAt part i)
-unfolding sectionAt rowAt fields
-section-row part i = refl
-
-one-byte : (s : List ℕ) (at : ℕ) → number 1 s at ≡ getD s at 0
-unfolding number
-one-byte s at = refl
+  section-row : rowAt (formatOf e .section) part i ≡ sectionNumbers (sectionAt e part i)
+  unfolding sectionAt
+  section-row = faithful e .section-forth part i
 
 -- a file that passes every check holds the values that are read from it
 read-holds : (f : List ℕ) → Whole f → Holds f (countsOf f) (rowsOf f) (namesOf f)
-unfolding fields taskRowsOk lengthRowsOk
+unfolding taskRowsOk lengthRowsOk
 read-holds f w =
     let h : Header f = w .header in
-    let g : InRange (countsOf f) = h .ranges in
-    let n : ℕ = countsOf f .tasks in
-    let r : ℕ = countsOf f .resources in
-    let s : ℕ = countsOf f .sections in
-    let tasks : List ℕ = drop tasksAt f in
-    let resources : List ℕ = drop (resourcesAt (countsOf f)) f in
-    let sections : List ℕ = drop (sectionsAt (countsOf f)) f in
-    let size : length f ≡ fileLength (countsOf f) (namesOf f) = omega (arith, length-drop (namesAt (countsOf f)) f, h .ends) in
-    let start : (i : ℕ) → i < r → (eqb (startAt resources i) (sumBelow i (lengthAt resources)) ≡ true) × (eqb (resourceSpare resources i) 0 ≡ true) = λ i l. and-parts (eqb (startAt resources i) (sumBelow i (lengthAt resources))) _ (all-at r i _ (w .starts) l) in
+    let c : Counts = countsOf f in
+    let e : Edition = editionIn f in
+    let g : InRange c = h .ranges in
+    let tasks : List ℕ = drop (tasksAt c) f in
+    let resources : List ℕ = drop (resourcesAt c) f in
+    let sections : List ℕ = drop (sectionsAt c) f in
+    let size : length f ≡ fileLength c (namesOf f) = omega (arith, length-drop (namesAt c) f, h .ends) in
+    let spare : (i : ℕ) → i < c .tasks → taskSpare e tasks i ≡ 0 = λ i l. eqb-true _ _ (and-parts (taskOk (formatOf e .mostTag) (c .processors) (taskAt e tasks i)) _ (all-at (c .tasks) i _ (w .tasks) l) .1) in
+    let start : (i : ℕ) → i < c .resources → (eqb (startAt e resources i) (sumBelow i (lengthAt e resources)) ≡ true) × (eqb (resourceSpare e resources i) 0 ≡ true) = λ i l. and-parts (eqb (startAt e resources i) (sumBelow i (lengthAt e resources))) _ (all-at (c .resources) i _ (w .starts) l) in
     record {
       size = size;
-      header = rw (one-byte f 0, h .edition, one-byte f 1, one-byte f 2, one-byte f 3, h .tasks-at, h .resources-at, h .sections-at, h .names-at, h .whole, size);
+      header = header-parts f ∙ rw (h .tasks-at, h .resources-at, h .sections-at, h .names-at, h .whole, size);
       stand = record {
-        task = λ i l. task-row tasks i (eqb-true _ _ (and-parts (taskOk (countsOf f .processors) (taskAt tasks i)) _ (all-at n i _ (w .tasks) l) .1)) ∙ ap taskNumbers (sym (task-read n tasks i l (g .tasks)));
+        task = λ i l. task-row e tasks i (spare i l) ∙ ap (formatOf e .taskNumbers) (sym (task-read e (c .tasks) tasks i l (g .tasks)));
         resource = λ i l.
-            resource-row resources i (eqb-true _ _ (start i l .1))
-            ∙ ap₂ (λ (a b : ℕ). a ∷ b ∷ 0 ∷ []) (eqb-true _ _ (start i l .0) ∙ sym (start-read r resources i (omega arith) (g .resources))) (sym (length-read r resources i l (g .resources)));
-        section = λ i l. section-row sections i ∙ ap sectionNumbers (sym (section-read s sections i l (g .sections)));
+            resource-row e resources i (eqb-true _ _ (start i l .1))
+            ∙ ap₂ resourceNumbers (eqb-true _ _ (start i l .0) ∙ sym (start-read e (c .resources) resources i (omega arith) (g .resources))) (sym (length-read e (c .resources) resources i l (g .resources)));
+        section = λ i l. section-row e sections i ∙ ap sectionNumbers (sym (section-read e (c .sections) sections i l (g .sections)));
       };
       rest = refl;
     }
@@ -198,22 +196,26 @@ read-kept f w =
     let c : Counts = countsOf f in
     let g : InRange c = w .header .ranges in
     record {
+      edition = w .header .edition;
       counts = w .header .counts;
-      tasks = tasks-kept (c .tasks) (drop tasksAt f) (c .processors) (g .tasks) (w .tasks);
-      unique = w .unique;
-      named = w .names;
-      sections = sections-kept (c .sections) (drop (sectionsAt c) f) (c .tasks) (c .resources) (g .sections) ∙ w .sections;
-      sums = w .sums;
+      tests = record {
+        tasks = tasks-kept (laid c) (c .tasks) (drop (tasksAt c) f) (c .processors) (g .tasks) (w .tasks);
+        unique = w .unique;
+        names = w .names;
+        sections = sections-kept (laid c) (c .sections) (drop (sectionsAt c) f) (c .tasks) (c .resources) (g .sections) ∙ w .sections;
+        sums = w .sums;
+      };
     }
 
 -- a file of bytes is the file of what it holds
 holds-file : (f : List ℕ) (c : Counts) (rows : Rows) (names : List ℕ) → Bytes f → Holds f c rows names → fileOf c rows names ≡ f
-unfolding fileOf headerBytes taskBytes resourceBytes sectionBytes width
+unfolding fileOf headerBytes headerIn taskBytes resourceBytes sectionBytes
 holds-file f c rows names b h =
-    let head : headerBytes c (fileLength c names) ≡ take 16 f = ap (rowBytes headerWidths) (sym (h .header)) ∙ fields-forth headerWidths f 0 b (omega (arith, h .size)) in
-    let tasks = rows-joined taskWidths (taskRow rows) (c .tasks) f 16 (resourcesAt c) b (h .stand .task) (omega arith) (omega (arith, h .size)) head in
-    let resources = rows-joined resourceWidths (resourceRow rows) (c .resources) f (resourcesAt c) (sectionsAt c) b (h .stand .resource) (omega arith) (omega (arith, h .size)) tasks in
-    let sections = rows-joined sectionWidths (sectionRow rows) (c .sections) f (sectionsAt c) (namesAt c) b (h .stand .section) (omega arith) (omega (arith, h .size)) resources in
+    let form : Format = formatOf (laid c) in
+    let head : headerBytes c (fileLength c names) ≡ take (tasksAt c) f = ap (rowBytes (form .header)) (sym (h .header)) ∙ fields-forth (form .header) f 0 b (omega (arith, h .size)) in
+    let tasks = rows-joined (form .task) (taskRow (laid c) rows) (c .tasks) f (tasksAt c) (resourcesAt c) b (h .stand .task) (omega arith) (omega (arith, h .size)) head in
+    let resources = rows-joined (form .resource) (resourceRow rows) (c .resources) f (resourcesAt c) (sectionsAt c) b (h .stand .resource) (omega arith) (omega (arith, h .size)) tasks in
+    let sections = rows-joined (form .section) (sectionRow rows) (c .sections) f (sectionsAt c) (namesAt c) b (h .stand .section) (omega arith) (omega (arith, h .size)) resources in
     ap₂ _++_ sections (sym (h .rest)) ∙ take-append-drop (namesAt c) f
 
 pub read-then-written : ReadThenWritten

@@ -7,48 +7,42 @@ use native.Mathlib.Omega.{arith}
 use lib.Dec.{leb, eqb}
 use lib.ListN.{length, take, drop, length-drop}
 use lib.Seq.{drop-at, take-add, getD-drop}
+use Rattle.sizes.specs.Sizes.{mostNameBytes}
 use Rattle.folds.specs.Below.{allBelow}
 use Rattle.folds.specs.Bytes.{width, rowAt, rowBytes, bytesBelow}
 use Rattle.folds.proofs.Tests.{all-same, code-zero, code-next}
 use Rattle.folds.proofs.Figures.{sum-same}
 use Rattle.folds.proofs.Parts.{bytes-length}
 use Rattle.folds.proofs.RowLaws.{Bytes, solid, row-length, rows-back, rows-forth}
-use Rattle.plan_rules.specs.Rules.{taskOf, sectionOf, lengthOf, startOf, countsOk, tasksOk, tagNew, priorityNew, uniqueOk, lengthsOk, bytesOk, differ, nameNew, namesDiffer, namesOk, sectionsOk, sectionSum, sumsOk, rowsCode, valuesCode}
+use Rattle.plan_rules.specs.Rules.{taskOf, sectionOf, lengthOf, startOf, countsOk, tagNew, priorityNew, uniqueOk, lengthsOk, bytesOk, differ, nameNew, namesDiffer, namesOk, sectionSum, sumsOk}
 use Rattle.plan_rules.specs.declared.TaskRow.{TaskRow}
 use Rattle.plan_rules.specs.declared.SectionRow.{SectionRow}
 use Rattle.plan_rules.specs.declared.Counts.{Counts}
 use Rattle.plan_rules.specs.declared.Rows.{Rows}
+use Rattle.plan_rules.proofs.Laws.{Passed, tests-facts, tests-pass}
+use Rattle.plan_layout.specs.Editions.{known}
+use Rattle.plan_layout.specs.Layout.{valuesTests, valuesCode}
 
 -- values that keep every rule
 pub record Kept (c : Counts) (rows : Rows) (names : List ℕ) : Type 0 where
+  pub edition : known (c .edition) ≡ true
   pub counts : countsOk c ≡ true
-  pub tasks : tasksOk (c .tasks) (c .processors) (rows .tasks) ≡ true
-  pub unique : uniqueOk (c .tasks) (rows .tasks) ≡ true
-  pub named : namesOk (c .resources) (rows .lengths) names ≡ true
-  pub sections : sectionsOk (c .sections) (c .tasks) (c .resources) (rows .sections) ≡ true
-  pub sums : sumsOk (c .tasks) (c .sections) (rows .tasks) (rows .sections) ≡ true
+  pub tests : Passed (valuesTests c rows names)
 
 module _ (c : Counts) (rows : Rows) (names : List ℕ) where
   pub kept-facts : valuesCode c rows names ≡ 0 → Kept c rows names
-  unfolding valuesCode rowsCode
+  unfolding valuesCode
   kept-facts e =
-      let e1 = code-next (countsOk c) _ 2 e in
-      let e2 = code-next (tasksOk (c .tasks) (c .processors) (rows .tasks)) _ 4 e1 in
-      let e3 = code-next (uniqueOk (c .tasks) (rows .tasks)) _ 5 e2 in
-      let e4 = code-next (namesOk (c .resources) (rows .lengths) names) _ 6 e3 in
-      let e5 = code-next (sectionsOk (c .sections) (c .tasks) (c .resources) (rows .sections)) _ 7 e4 in
+      let e1 = code-next (known (c .edition)) _ 1 e in
       record {
-        counts = code-zero (countsOk c) _ 2 e;
-        tasks = code-zero _ _ 4 e1;
-        unique = code-zero _ _ 5 e2;
-        named = code-zero _ _ 6 e3;
-        sections = code-zero _ _ 7 e4;
-        sums = code-zero _ _ 8 e5;
+        edition = code-zero (known (c .edition)) _ 1 e;
+        counts = code-zero (countsOk c) _ 2 e1;
+        tests = tests-facts (valuesTests c rows names) (code-next (countsOk c) _ 2 e1);
       }
 
   pub kept-code : Kept c rows names → valuesCode c rows names ≡ 0
-  unfolding valuesCode rowsCode
-  kept-code k = rw (k .counts, k .tasks, k .unique, k .named, k .sections, k .sums)
+  unfolding valuesCode
+  kept-code k = rw (k .edition, k .counts) (tests-pass (valuesTests c rows names) (k .tests))
 
 -- two lists of tasks
 module _ (n : ℕ) (x y : List TaskRow) (same : (i : ℕ) → i < n → taskOf x i ≡ taskOf y i) where
@@ -80,7 +74,7 @@ module _ (r : ℕ) (x y : List ℕ) (same : (i : ℕ) → i < r → lengthOf x i
   names-same names =
       ap₂ (λ (s : ℕ) (b : Bool). eqb s (length names) && b) (start-same r (omega arith))
       (ap₂ (λ (a b : Bool). a && (bytesOk names && b))
-      (all-same r _ _ (λ i l. ap (λ (k : ℕ). leb 1 k && leb k 12) (same i l)))
+      (all-same r _ _ (λ i l. ap (λ (k : ℕ). leb 1 k && leb k mostNameBytes) (same i l)))
       (all-same r _ _ (λ i l. all-same i _ _ (λ j m. rw (same i l, same j (omega arith), start-same i (omega arith), start-same j (omega arith))))))
 
 -- in f, from `at` on, stand rows of the widths ws whose numbers below n are g's

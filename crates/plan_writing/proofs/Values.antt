@@ -1,32 +1,34 @@
 -- The rows of values in a file: they stand at their places, and the checks of a file's parts say of them what the rules of values say.
 use Prim.Native.Nat.{ℕ, _<_}
 use mathlib.Core.Bool.{true, false, _&&_, and-true, true≢false}
-use mathlib.Core.List.{List, [], _∷_, _++_, append-assoc}
-use mathlib.Core.Path.{_≡_, refl, sym, ap, ap₂, _∙_}
+use mathlib.Core.List.{List, [], _++_, append-assoc}
+use mathlib.Core.Path.{_≡_, sym, ap, ap₂, _∙_}
 use native.Mathlib.Omega.{arith}
 use borrow.Author.Tests.{eq-eqb}
 use lib.ListN.{length, getD, drop, length-append}
-use Rattle.folds.specs.Bytes.{bytesBelow, width}
+use Rattle.folds.specs.Bytes.{bytesBelow}
 use Rattle.folds.proofs.Tests.{all-from, all-same, is-not-true}
 use Rattle.folds.proofs.Figures.{sum-same}
-use Rattle.folds.proofs.RowLaws.{solid, row-length}
-use Rattle.plan_rules.specs.Rules.{taskOf, sectionOf, lengthOf, startOf, countsOk, taskOk, sectionOk, tasksOk, tagsOk, uniqueOk, namesOk, sectionsOk, sumsOk, rowsCode, valuesCode}
+use Rattle.folds.proofs.RowLaws.{row-length}
+use Rattle.refusals.specs.Numbers.{wrongEdition, wrongCount, wrongTask}
+use Rattle.plan_rules.specs.Rules.{taskOf, sectionOf, lengthOf, startOf, countsOk, taskOk, sectionOk, tasksOk, tagsOk, uniqueOk, namesOk, sectionsOk, sumsOk, testsCode}
 use Rattle.plan_rules.specs.declared.TaskRow.{TaskRow}
 use Rattle.plan_rules.specs.declared.Counts.{Counts}
 use Rattle.plan_rules.specs.declared.Rows.{Rows}
 use Rattle.plan_rules.proofs.Laws.{InRange, counts-facts, tags-kept}
-use Rattle.plan_layout.specs.Layout.{tasksAt, resourcesAt, sectionsAt, namesAt, taskWidths, resourceWidths, sectionWidths, taskAt, taskSpare, startAt, lengthAt, resourceSpare, sectionAt, taskRows, lengthRows, sectionRows, taskRowsOk, lengthRowsOk, sectionRowsOk, sectionCode, restCode, partsCode}
-use Rattle.plan_layout.specs.Layout.{taskOf as taskIn, sectionOf as sectionIn}
+use Rattle.plan_layout.specs.Editions.{Edition, formatOf, known}
+use Rattle.plan_layout.specs.Layout.{laid, tasksAt, resourcesAt, sectionsAt, namesAt, headerNumbers, sectionIn, sectionNumbers, resourceNumbers, taskAt, taskSpare, startAt, lengthAt, resourceSpare, sectionAt, taskRows, lengthRows, sectionRows, taskRowsOk, lengthRowsOk, sectionRowsOk, partsCode, fileCode, valuesTests, valuesCode}
+use Rattle.plan_layout.proofs.Editions.{faithful}
 use Rattle.plan_layout.proofs.Laws.{task-read, length-read, section-read}
-use Rattle.plan_writing.specs.Encode.{headerWidths, headerNumbers, headerBytes, taskNumbers, taskBytes, resourceBytes, sectionNumbers, sectionBytes, fileLength, fileOf}
+use Rattle.plan_writing.specs.Encode.{headerBytes, taskBytes, resourceBytes, sectionBytes, fileLength, fileOf}
 use Rattle.plan_writing.proofs.Same.{unique-same, sums-same, names-same, Stand, rows-length, rows-stand}
 
 -- the numbers in row i of each group
-abbrev pub taskRow : Rows → ℕ → List ℕ
-taskRow rows i = taskNumbers (taskOf (rows .tasks) i)
+abbrev pub taskRow : Edition → Rows → ℕ → List ℕ
+taskRow e rows i = formatOf e .taskNumbers (taskOf (rows .tasks) i)
 
 abbrev pub resourceRow : Rows → ℕ → List ℕ
-resourceRow rows i = startOf (rows .lengths) i ∷ lengthOf (rows .lengths) i ∷ 0 ∷ []
+resourceRow rows i = resourceNumbers (startOf (rows .lengths) i) (lengthOf (rows .lengths) i)
 
 abbrev pub sectionRow : Rows → ℕ → List ℕ
 sectionRow rows i = sectionNumbers (sectionOf (rows .sections) i)
@@ -37,123 +39,146 @@ at j v = getD v j 0
 
 -- the rows of these values stand at their places in f
 pub record RowsIn (f : List ℕ) (c : Counts) (rows : Rows) : Type 0 where
-  pub task : Stand taskWidths (taskRow rows) (c .tasks) f tasksAt
-  pub resource : Stand resourceWidths (resourceRow rows) (c .resources) f (resourcesAt c)
-  pub section : Stand sectionWidths (sectionRow rows) (c .sections) f (sectionsAt c)
+  pub task : Stand (formatOf (laid c) .task) (taskRow (laid c) rows) (c .tasks) f (tasksAt c)
+  pub resource : Stand (formatOf (laid c) .resource) (resourceRow rows) (c .resources) f (resourcesAt c)
+  pub section : Stand (formatOf (laid c) .section) (sectionRow rows) (c .sections) f (sectionsAt c)
+
+-- the bytes of each group of rows
+abbrev pub taskPart : Counts → Rows → List ℕ
+taskPart c rows = bytesBelow (c .tasks) (taskBytes (laid c) (rows .tasks))
+
+abbrev pub resourcePart : Counts → Rows → List ℕ
+resourcePart c rows = bytesBelow (c .resources) (resourceBytes (laid c) (rows .lengths))
+
+abbrev pub sectionPart : Counts → Rows → List ℕ
+sectionPart c rows = bytesBelow (c .sections) (sectionBytes (laid c) (rows .sections))
 
 -- the header h, and the rows behind it
 abbrev pub headed : List ℕ → Counts → Rows → List ℕ
-headed h c rows =
-    ((h ++ bytesBelow (c .tasks) (taskBytes (rows .tasks)))
-    ++ bytesBelow (c .resources) (resourceBytes (rows .lengths)))
-    ++ bytesBelow (c .sections) (sectionBytes (rows .sections))
+headed h c rows = ((h ++ taskPart c rows) ++ resourcePart c rows) ++ sectionPart c rows
 
-module _ (c : Counts) (rows : Rows) (h : List ℕ) (lh : length h ≡ 16) where
-  tasks-end : length (h ++ bytesBelow (c .tasks) (taskBytes (rows .tasks))) ≡ resourcesAt c
-  unfolding taskBytes width
-  tasks-end = length-append h _ ∙ omega (arith, lh, rows-length taskWidths (taskRow rows) (c .tasks))
+module _ (c : Counts) (rows : Rows) (h : List ℕ) (lh : length h ≡ tasksAt c) where
+  tasks-end : length (h ++ taskPart c rows) ≡ resourcesAt c
+  unfolding taskBytes
+  tasks-end = length-append h _ ∙ omega (arith, lh, rows-length (formatOf (laid c) .task) (taskRow (laid c) rows) (c .tasks))
 
-  resources-end : length ((h ++ bytesBelow (c .tasks) (taskBytes (rows .tasks))) ++ bytesBelow (c .resources) (resourceBytes (rows .lengths))) ≡ sectionsAt c
-  unfolding resourceBytes width
-  resources-end = length-append (h ++ _) _ ∙ omega (arith, tasks-end, rows-length resourceWidths (resourceRow rows) (c .resources))
+  resources-end : length ((h ++ taskPart c rows) ++ resourcePart c rows) ≡ sectionsAt c
+  unfolding resourceBytes
+  resources-end = length-append (h ++ _) _ ∙ omega (arith, tasks-end, rows-length (formatOf (laid c) .resource) (resourceRow rows) (c .resources))
 
   pub sections-end : length (headed h c rows) ≡ namesAt c
-  unfolding sectionBytes width
-  sections-end = length-append ((h ++ _) ++ _) _ ∙ omega (arith, resources-end, rows-length sectionWidths (sectionRow rows) (c .sections))
+  unfolding sectionBytes
+  sections-end = length-append ((h ++ _) ++ _) _ ∙ omega (arith, resources-end, rows-length (formatOf (laid c) .section) (sectionRow rows) (c .sections))
 
   -- whatever comes after them
   pub rows-in : (x : List ℕ) → RowsIn (headed h c rows ++ x) c rows
-  unfolding taskBytes resourceBytes sectionBytes solid
+  unfolding taskBytes resourceBytes sectionBytes
   rows-in x =
-      let t : List ℕ = bytesBelow (c .tasks) (taskBytes (rows .tasks)) in
-      let r : List ℕ = bytesBelow (c .resources) (resourceBytes (rows .lengths)) in
-      let s : List ℕ = bytesBelow (c .sections) (sectionBytes (rows .sections)) in
+      let e = faithful (laid c) in
+      let t : List ℕ = taskPart c rows in
+      let r : List ℕ = resourcePart c rows in
+      let s : List ℕ = sectionPart c rows in
       let f : List ℕ = headed h c rows ++ x in
       record {
-        task = rows-stand taskWidths (taskRow rows) (c .tasks) f h (r ++ (s ++ x)) 16 refl (λ i. refl) (simp append-assoc) lh;
-        resource = rows-stand resourceWidths (resourceRow rows) (c .resources) f (h ++ t) (s ++ x) (resourcesAt c) refl (λ i. refl) (simp append-assoc) tasks-end;
-        section = rows-stand sectionWidths (sectionRow rows) (c .sections) f ((h ++ t) ++ r) x (sectionsAt c) refl (λ i. refl) (simp append-assoc) resources-end;
+        task = rows-stand (formatOf (laid c) .task) (taskRow (laid c) rows) (c .tasks) f h (r ++ (s ++ x)) (tasksAt c) (e .task-solid) (λ i. e .task-long (taskOf (rows .tasks) i)) (simp append-assoc) lh;
+        resource = rows-stand (formatOf (laid c) .resource) (resourceRow rows) (c .resources) f (h ++ t) (s ++ x) (resourcesAt c) (e .resource-solid) (λ i. e .resource-long) (simp append-assoc) tasks-end;
+        section = rows-stand (formatOf (laid c) .section) (sectionRow rows) (c .sections) f ((h ++ t) ++ r) x (sectionsAt c) (e .section-solid) (λ i. e .section-long) (simp append-assoc) resources-end;
       }
 
--- the header of a file has 16 bytes
-pub header-length : (c : Counts) (len : ℕ) → length (headerBytes c len) ≡ 16
-unfolding headerBytes width
-header-length c len = row-length headerWidths (headerNumbers c len)
+-- a header is as long as its edition says
+pub header-length : (c : Counts) (len : ℕ) → length (headerBytes c len) ≡ tasksAt c
+unfolding headerBytes
+header-length c len = row-length (formatOf (laid c) .header) (headerNumbers c len)
 
 -- a file in which the rows of values stand: its rows are theirs
 module _ (f : List ℕ) (c : Counts) (rows : Rows) (h : RowsIn f c rows) where
-  pub task-same : (i : ℕ) → i < c .tasks → taskAt (drop tasksAt f) i ≡ taskOf (rows .tasks) i
-  unfolding taskAt
-  task-same i l = ap taskIn (h .task i l)
+  abbrev tasks : List ℕ
+  tasks = drop (tasksAt c) f
 
-  pub length-same : (i : ℕ) → i < c .resources → lengthAt (drop (resourcesAt c) f) i ≡ lengthOf (rows .lengths) i
+  abbrev resources : List ℕ
+  resources = drop (resourcesAt c) f
+
+  abbrev sections : List ℕ
+  sections = drop (sectionsAt c) f
+
+  pub task-same : (i : ℕ) → i < c .tasks → taskAt (laid c) tasks i ≡ taskOf (rows .tasks) i
+  unfolding taskAt
+  task-same i l = ap (formatOf (laid c) .taskIn) (h .task i l) ∙ faithful (laid c) .task-back (taskOf (rows .tasks) i)
+
+  pub length-same : (i : ℕ) → i < c .resources → lengthAt (laid c) resources i ≡ lengthOf (rows .lengths) i
   unfolding lengthAt
   length-same i l = ap (at 1) (h .resource i l)
 
-  pub start-same : (i : ℕ) → i < c .resources → startAt (drop (resourcesAt c) f) i ≡ startOf (rows .lengths) i
+  pub start-same : (i : ℕ) → i < c .resources → startAt (laid c) resources i ≡ startOf (rows .lengths) i
   unfolding startAt
   start-same i l = ap (at 0) (h .resource i l)
 
-  pub section-same : (i : ℕ) → i < c .sections → sectionAt (drop (sectionsAt c) f) i ≡ sectionOf (rows .sections) i
+  pub section-same : (i : ℕ) → i < c .sections → sectionAt (laid c) sections i ≡ sectionOf (rows .sections) i
   unfolding sectionAt
   section-same i l = ap sectionIn (h .section i l)
 
   -- and each check of them says what the rule of the values says
-  pub tasks-checked : taskRowsOk (c .tasks) (c .processors) (drop tasksAt f) ≡ tasksOk (c .tasks) (c .processors) (rows .tasks)
+  pub tasks-checked : taskRowsOk (laid c) (c .tasks) (c .processors) tasks ≡ tasksOk (c .tasks) (formatOf (laid c) .mostTag) (c .processors) (rows .tasks)
   unfolding taskRowsOk tasksOk taskSpare
   tasks-checked =
-      all-same (c .tasks) _ _ (λ i l. ap₂ _&&_ (ap (taskOk (c .processors)) (task-same i l)) (eq-eqb _ _ (ap (at 3) (h .task i l))) ∙ and-true _)
+      all-same (c .tasks) _ _
+      (λ i l. ap₂ _&&_ (ap (taskOk (formatOf (laid c) .mostTag) (c .processors)) (task-same i l)) (eq-eqb _ _ (ap (formatOf (laid c) .spareIn) (h .task i l) ∙ faithful (laid c) .spare-back (taskOf (rows .tasks) i))) ∙ and-true _)
 
-  pub starts-checked : lengthRowsOk (c .resources) (drop (resourcesAt c) f) ≡ true
+  pub starts-checked : lengthRowsOk (laid c) (c .resources) resources ≡ true
   unfolding lengthRowsOk resourceSpare
   starts-checked =
       all-from (c .resources) _ (λ i l. ap₂ _&&_ (eq-eqb _ _ (start-same i l ∙ sym (sum-same i _ _ (λ j m. length-same j (omega arith))))) (eq-eqb _ _ (ap (at 2) (h .resource i l))))
 
-  pub sections-checked : sectionRowsOk (c .sections) (c .tasks) (c .resources) (drop (sectionsAt c) f) ≡ sectionsOk (c .sections) (c .tasks) (c .resources) (rows .sections)
+  pub sections-checked : sectionRowsOk (laid c) (c .sections) (c .tasks) (c .resources) sections ≡ sectionsOk (c .sections) (c .tasks) (c .resources) (rows .sections)
   unfolding sectionRowsOk sectionsOk
   sections-checked = all-same (c .sections) _ _ (λ i l. ap (sectionOk (c .tasks) (c .resources)) (section-same i l))
 
   module _ (g : InRange c) where
-    task-loaded : (i : ℕ) → i < c .tasks → taskOf (taskRows (c .tasks) (drop tasksAt f)) i ≡ taskOf (rows .tasks) i
-    task-loaded i l = task-read (c .tasks) (drop tasksAt f) i l (g .tasks) ∙ task-same i l
+    task-loaded : (i : ℕ) → i < c .tasks → taskOf (taskRows (laid c) (c .tasks) tasks) i ≡ taskOf (rows .tasks) i
+    task-loaded i l = task-read (laid c) (c .tasks) tasks i l (g .tasks) ∙ task-same i l
 
-    pub unique-checked : uniqueOk (c .tasks) (taskRows (c .tasks) (drop tasksAt f)) ≡ uniqueOk (c .tasks) (rows .tasks)
+    pub unique-checked : uniqueOk (c .tasks) (taskRows (laid c) (c .tasks) tasks) ≡ uniqueOk (c .tasks) (rows .tasks)
     unique-checked = unique-same (c .tasks) _ _ task-loaded
 
-    pub names-checked : (names : List ℕ) → namesOk (c .resources) (lengthRows (c .resources) (drop (resourcesAt c) f)) names ≡ namesOk (c .resources) (rows .lengths) names
+    pub names-checked : (names : List ℕ) → namesOk (c .resources) (lengthRows (laid c) (c .resources) resources) names ≡ namesOk (c .resources) (rows .lengths) names
     names-checked names =
-        names-same (c .resources) _ _ (λ i l. length-read (c .resources) (drop (resourcesAt c) f) i l (g .resources) ∙ length-same i l) names
+        names-same (c .resources) _ _ (λ i l. length-read (laid c) (c .resources) resources i l (g .resources) ∙ length-same i l) names
 
-    pub sums-checked : sumsOk (c .tasks) (c .sections) (taskRows (c .tasks) (drop tasksAt f)) (sectionRows (c .sections) (drop (sectionsAt c) f)) ≡ sumsOk (c .tasks) (c .sections) (rows .tasks) (rows .sections)
+    pub sums-checked : sumsOk (c .tasks) (c .sections) (taskRows (laid c) (c .tasks) tasks) (sectionRows (laid c) (c .sections) sections) ≡ sumsOk (c .tasks) (c .sections) (rows .tasks) (rows .sections)
     sums-checked =
-        sums-same (c .tasks) _ _ task-loaded (c .sections) _ _ (λ i l. section-read (c .sections) (drop (sectionsAt c) f) i l (g .sections) ∙ section-same i l)
+        sums-same (c .tasks) _ _ task-loaded (c .sections) _ _ (λ i l. section-read (laid c) (c .sections) sections i l (g .sections) ∙ section-same i l)
 
-    parts-checked : (names : List ℕ) → partsCode c (drop tasksAt f) (drop (resourcesAt c) f) (drop (sectionsAt c) f) names ≡ rowsCode c rows names
-    unfolding partsCode restCode sectionCode rowsCode
+    parts-checked : (names : List ℕ) → fileCode c f names ≡ testsCode (valuesTests c rows names)
+    unfolding partsCode
     parts-checked names =
         rw (tasks-checked, unique-checked, starts-checked, names-checked names, sections-checked, sums-checked)
 
 -- the rows in a file of their own, with no names and with anything behind it, are checked as the values are
-pub parts-values : (c : Counts) (rows : Rows) (names x : List ℕ) {f : List ℕ} → countsOk c ≡ true → f ≡ fileOf c rows [] ++ x → partsCode c (drop tasksAt f) (drop (resourcesAt c) f) (drop (sectionsAt c) f) names ≡ rowsCode c rows names
+pub parts-values : (c : Counts) (rows : Rows) (names x : List ℕ) {f : List ℕ} → countsOk c ≡ true → f ≡ fileOf c rows [] ++ x → fileCode c f names ≡ testsCode (valuesTests c rows names)
 unfolding fileOf
 parts-values c rows names x {f} ok e =
     let h : List ℕ = headerBytes c (fileLength c []) in
     let whole : f ≡ headed h c rows ++ x = e ∙ append-assoc (headed h c rows) [] x in
     rw whole (parts-checked (headed h c rows ++ x) c rows (rows-in c rows h (header-length c (fileLength c [])) x) (counts-facts c ok) names)
 
--- a tag of more than one byte breaks 5
-pub tags-fail : (n p : ℕ) (tasks : List TaskRow) → tagsOk n tasks ≡ false → tasksOk n p tasks ≡ false
-tags-fail n p tasks e = is-not-true _ (λ k. true≢false (sym (tags-kept n p tasks k) ∙ e))
+-- a tag that a row has no room for breaks 5
+pub tags-fail : (n most p : ℕ) (tasks : List TaskRow) → tagsOk n most tasks ≡ false → tasksOk n most p tasks ≡ false
+tags-fail n most p tasks e = is-not-true _ (λ k. true≢false (sym (tags-kept n most p tasks k) ∙ e))
 
 module _ (c : Counts) (rows : Rows) (names : List ℕ) where
-  pub values-counts : countsOk c ≡ false → valuesCode c rows names ≡ 3
+  pub values-edition : known (c .edition) ≡ false → valuesCode c rows names ≡ wrongEdition
   unfolding valuesCode
-  values-counts e = rw e
+  values-edition e = rw e
 
-  pub values-tags : countsOk c ≡ true → tagsOk (c .tasks) (rows .tasks) ≡ false → valuesCode c rows names ≡ 5
-  unfolding valuesCode rowsCode
-  values-tags ok e = rw (ok, tags-fail (c .tasks) (c .processors) (rows .tasks) e)
+  module _ (edition : known (c .edition) ≡ true) where
+    pub values-counts : countsOk c ≡ false → valuesCode c rows names ≡ wrongCount
+    unfolding valuesCode
+    values-counts e = rw (edition, e)
 
-  pub values-rows : countsOk c ≡ true → valuesCode c rows names ≡ rowsCode c rows names
-  unfolding valuesCode
-  values-rows ok = rw ok
+    pub values-tags : countsOk c ≡ true → tagsOk (c .tasks) (formatOf (laid c) .mostTag) (rows .tasks) ≡ false → valuesCode c rows names ≡ wrongTask
+    unfolding valuesCode
+    values-tags ok e = rw (edition, ok, tags-fail (c .tasks) (formatOf (laid c) .mostTag) (c .processors) (rows .tasks) e)
+
+    pub values-rows : countsOk c ≡ true → valuesCode c rows names ≡ testsCode (valuesTests c rows names)
+    unfolding valuesCode
+    values-rows ok = rw (edition, ok)

@@ -4,49 +4,36 @@ use mathlib.Core.Bool.{cond}
 use mathlib.Core.List.{List, [], _∷_, _++_}
 use lib.Dec.{leb, eqb}
 use lib.ListN.{length, drop}
+use Rattle.refusals.specs.Numbers.{noRoom}
+use Rattle.refusals.specs.Outcomes.{Outcome, outcome}
 use Rattle.folds.specs.Bytes.{rowBytes, bytesBelow}
-use Rattle.plan_rules.specs.Rules.{taskOf, sectionOf, lengthOf, startOf, valuesCode}
+use Rattle.plan_rules.specs.Rules.{taskOf, sectionOf, lengthOf, startOf}
 use Rattle.plan_rules.specs.declared.TaskRow.{TaskRow}
 use Rattle.plan_rules.specs.declared.SectionRow.{SectionRow}
 use Rattle.plan_rules.specs.declared.Counts.{Counts}
 use Rattle.plan_rules.specs.declared.Rows.{Rows}
-use Rattle.plan_layout.specs.Layout.{tasksAt, resourcesAt, sectionsAt, namesAt, taskWidths, resourceWidths, sectionWidths}
-use Rattle.refusals.specs.Outcomes.{Outcome, outcome}
+use Rattle.plan_layout.specs.Editions.{Edition, formatOf}
+use Rattle.plan_layout.specs.Layout.{laid, namesAt, headerNumbers, resourceNumbers, sectionNumbers, valuesCode}
 use Rattle.plan_writing.specs.declared.WriteAnswer.{WriteAnswer}
 use Rattle.plan_writing.specs.declared.WriteAnswer.the-variants.{Written, Refused}
 
--- Header, 16 bytes: edition, P, N, R, then in 2 bytes each S, the four offsets and the length of the file
-abbrev pub headerWidths : List ℕ
-headerWidths = 1 ∷ 1 ∷ 1 ∷ 1 ∷ 2 ∷ 2 ∷ 2 ∷ 2 ∷ 2 ∷ 2 ∷ []
-
--- the numbers in the header of a file of len bytes
-abbrev pub headerNumbers : Counts → ℕ → List ℕ
-headerNumbers c len =
-    1 ∷ c .processors ∷ c .tasks ∷ c .resources ∷ c .sections ∷ tasksAt ∷ resourcesAt c ∷ sectionsAt c ∷ namesAt c ∷ len ∷ []
-
 -- the header's bytes
 unfoldable pub headerBytes : Counts → ℕ → List ℕ
-headerBytes c len = rowBytes headerWidths (headerNumbers c len)
+headerBytes c len = rowBytes (formatOf (laid c) .header) (headerNumbers c len)
 
--- the numbers in a task's row: processor, tag, priority, a zero, T, C
-abbrev pub taskNumbers : TaskRow → List ℕ
-taskNumbers t = t .processor ∷ t .tag ∷ t .priority ∷ 0 ∷ t .period ∷ t .execution ∷ []
+-- in a file of an edition
+module _ (e : Edition) where
+  -- the bytes of task i's row
+  unfoldable pub taskBytes : List TaskRow → ℕ → List ℕ
+  taskBytes tasks i = rowBytes (formatOf e .task) (formatOf e .taskNumbers (taskOf tasks i))
 
--- the bytes of task i's row
-unfoldable pub taskBytes : List TaskRow → ℕ → List ℕ
-taskBytes tasks i = rowBytes taskWidths (taskNumbers (taskOf tasks i))
+  -- the bytes of resource i's row
+  unfoldable pub resourceBytes : List ℕ → ℕ → List ℕ
+  resourceBytes lengths i = rowBytes (formatOf e .resource) (resourceNumbers (startOf lengths i) (lengthOf lengths i))
 
--- the bytes of resource i's row: where its name starts, how long it is, a zero
-unfoldable pub resourceBytes : List ℕ → ℕ → List ℕ
-resourceBytes lengths i = rowBytes resourceWidths (startOf lengths i ∷ lengthOf lengths i ∷ 0 ∷ [])
-
--- the numbers in a section's row: task, resource, length
-abbrev pub sectionNumbers : SectionRow → List ℕ
-sectionNumbers s = s .task ∷ s .resource ∷ s .length ∷ []
-
--- the bytes of section i's row
-unfoldable pub sectionBytes : List SectionRow → ℕ → List ℕ
-sectionBytes sections i = rowBytes sectionWidths (sectionNumbers (sectionOf sections i))
+  -- the bytes of section i's row
+  unfoldable pub sectionBytes : List SectionRow → ℕ → List ℕ
+  sectionBytes sections i = rowBytes (formatOf e .section) (sectionNumbers (sectionOf sections i))
 
 -- the length of the file
 abbrev pub fileLength : Counts → List ℕ → ℕ
@@ -55,15 +42,15 @@ fileLength c names = namesAt c + length names
 -- the file: header, task rows, resource rows, section rows, names
 unfoldable pub fileOf : Counts → Rows → List ℕ → List ℕ
 fileOf c rows names =
-    (((headerBytes c (fileLength c names) ++ bytesBelow (c .tasks) (taskBytes (rows .tasks)))
-    ++ bytesBelow (c .resources) (resourceBytes (rows .lengths)))
-    ++ bytesBelow (c .sections) (sectionBytes (rows .sections)))
+    (((headerBytes c (fileLength c names) ++ bytesBelow (c .tasks) (taskBytes (laid c) (rows .tasks)))
+    ++ bytesBelow (c .resources) (resourceBytes (laid c) (rows .lengths)))
+    ++ bytesBelow (c .sections) (sectionBytes (laid c) (rows .sections)))
     ++ names
 
--- Writing a plan: 3, 5, 6, 7, 8, 9, then 10, buffer too short
+-- Writing a plan: 2, 3, 5, 6, 7, 8, 9, then 10, buffer too short
 unfoldable pub writeCode : Counts → Rows → List ℕ → ℕ → ℕ
 writeCode c rows names room =
-    cond (eqb (valuesCode c rows names) 0) (cond (leb (fileLength c names) room) 0 10) (valuesCode c rows names)
+    cond (eqb (valuesCode c rows names) 0) (cond (leb (fileLength c names) room) 0 noRoom) (valuesCode c rows names)
 
 -- the length of the file that was written, or the refusal
 unfoldable pub writing : Counts → Rows → List ℕ → ℕ → WriteAnswer
@@ -78,7 +65,7 @@ written c rows names buf =
 -- document 01's number and values for each case of the answer
 abbrev pub told : WriteAnswer → Outcome
 told (Written len) = record { number = 0; values = len ∷ [] }
-told (Refused k) = record { number = k; values = [] }
+told (Refused code) = record { number = code; values = [] }
 
 -- what writing tells
 abbrev pub writeTold : Counts → Rows → List ℕ → ℕ → Outcome

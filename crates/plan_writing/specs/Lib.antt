@@ -1,2 +1,3 @@
 pub mod Encode
 pub mod RoundTrip
+pub mod Inner

@@ -5,16 +5,18 @@ use mathlib.Core.List.{List, [], _∷_, _++_}
 use mathlib.Core.Path.{_≡_}
 use lib.Dec.{leb, eqb}
 use lib.ListN.{length, getD, take, drop, replicate}
+use Rattle.refusals.specs.Numbers.{noRoom}
+use Rattle.sizes.specs.Sizes.{mostTasks, mostResources, mostSections}
 use Rattle.folds.specs.Bytes.{placedBelow}
-use Rattle.plan_rules.specs.Rules.{noTask, noSection, taskOf, sectionOf, lengthOf, startOf, valuesCode}
+use Rattle.plan_rules.specs.Rules.{noTask, noSection, taskOf, sectionOf, lengthOf, startOf}
 use Rattle.plan_rules.specs.declared.Counts.{Counts}
 use Rattle.plan_rules.specs.declared.Rows.{Rows}
-use Rattle.plan_layout.specs.Layout.{countsOf, rowsOf, namesOf}
+use Rattle.plan_layout.specs.Layout.{countsOf, rowsOf, namesOf, valuesCode}
 use Rattle.plan.specs.declared.Reading.{Reading}
 use Rattle.plan.specs.declared.ReadAnswer.the-variants.{Accepted}
 use Rattle.refusals.specs.Outcomes.{Outcome, outcome}
 use Rattle.plan.specs.Acceptance.{refusal}
-use Rattle.plan.specs.Reading.{refusedWith, nameRefusal, nameOf}
+use Rattle.plan.specs.Reading.{refusedWith, countValues, nameRefusal, nameOf}
 use Rattle.plan_writing.specs.declared.WriteAnswer.{WriteAnswer}
 use Rattle.plan_writing.specs.declared.WriteAnswer.the-variants.{Written, Refused}
 use Rattle.plan_writing.specs.Encode.{fileOf, writeCode}
@@ -23,9 +25,9 @@ use Rattle.plan_writing.specs.Encode.{fileOf, writeCode}
 unfoldable pub trimmed : Counts → Rows → Rows
 trimmed c rows =
     record {
-      tasks = placedBelow (c .tasks) (taskOf (rows .tasks)) (replicate 64 noTask);
-      lengths = placedBelow (c .resources) (lengthOf (rows .lengths)) (replicate 16 0);
-      sections = placedBelow (c .sections) (sectionOf (rows .sections)) (replicate 255 noSection);
+      tasks = placedBelow (c .tasks) (taskOf (rows .tasks)) (replicate mostTasks noTask);
+      lengths = placedBelow (c .resources) (lengthOf (rows .lengths)) (replicate mostResources 0);
+      sections = placedBelow (c .sections) (sectionOf (rows .sections)) (replicate mostSections noSection);
     }
 
 -- name r of values: of the names' bytes, as many as its length says, behind those of the names before it
@@ -62,11 +64,11 @@ readBack c rows names room =
 -- what that tells
 abbrev pub readBackTold : Counts → Rows → List ℕ → ℕ → Outcome
 readBackTold c rows names room =
-    outcome (writeCode c rows names room) (c .processors ∷ c .tasks ∷ c .resources ∷ c .sections ∷ [])
+    outcome (writeCode c rows names room) (countValues c)
 
 -- copying a file by reading and writing it: 1 to 9 as reading does, then 10
 unfoldable pub copyCode : List ℕ → ℕ → ℕ
-copyCode f room = cond (eqb (refusal f) 0) (cond (leb (length f) room) 0 10) (refusal f)
+copyCode f room = cond (eqb (refusal f) 0) (cond (leb (length f) room) 0 noRoom) (refusal f)
 
 -- the answer of it
 unfoldable pub copying : List ℕ → ℕ → WriteAnswer

@@ -6,16 +6,26 @@ use plan_rules::Rows;
 use plan_rules::SectionRow;
 use plan_rules::TaskRow;
 ghost use mathlib.Core.Path.{_≡_};
-ghost use mathlib.Core.Bool.{true};
-ghost use mathlib.Core.List.{[], _∷_, _++_};
+ghost use mathlib.Core.List.{_++_};
 ghost use Prim.Native.Nat.{_+_, _*_, _/_, _%_, _≤_, _<_};
 ghost use lib.ListN.{length, drop};
+ghost use Rattle.sizes.specs.Sizes.{mostTasks, mostResources, mostSections};
 ghost use Rattle.folds.specs.Bytes.{rowBytes, bytesBelow};
-ghost use Rattle.plan_rules.specs.Rules.{countsOk, tagsOk, valuesCode};
-ghost use Rattle.plan_layout.specs.Layout.{taskWidths, resourceWidths, sectionWidths};
-ghost use Rattle.plan_writing.specs.Encode.{headerBytes, taskNumbers, taskBytes, resourceBytes, sectionNumbers, sectionBytes, fileLength, fileOf, writing, written, told, writeTold};
+ghost use Rattle.plan_rules.specs.Rules.{tagsOk};
+ghost use Rattle.plan_layout.specs.Editions.{edition1, formatOf};
+ghost use Rattle.plan_layout.specs.Layout.{tasksAt, resourceNumbers, sectionNumbers, valuesCode};
+ghost use Rattle.plan_layout.specs.Inner.{taskRow, resourceRow, sectionRow};
+ghost use Rattle.plan_writing.specs.Encode.{headerBytes, taskBytes, resourceBytes, sectionBytes, fileLength, fileOf};
+ghost use Rattle.plan_writing.specs.Encode.{writing, written, told, writeTold};
+ghost use Rattle.plan_writing.specs.Inner.{HeaderRoom, TasksRoom, FileRoom};
 ghost use Rattle.plan_writing.specs.RoundTrip.{readBack, readBackTold, copying, copied, copyTold};
 ghost use Rattle.plan.specs.Reading.{told as readSaid};
+
+// The most bytes before the names.
+const ROWS_END: usize = plan_layout::HEADER
+    + plan_layout::TASK_ROW * sizes::TASKS
+    + plan_layout::RESOURCE_ROW * sizes::RESOURCES
+    + plan_layout::SECTION_ROW * sizes::SECTIONS;
 
 // The length of the file that was written, or the refusal.
 pub enum WriteAnswer {
@@ -38,74 +48,92 @@ fn high(v: usize) -> u8
     (v / 256) as u8
 }
 
+// Bytes at the front of the buffer.
+fn put_bytes(buf: &mut [u8], bytes: &[u8])
+    requires { ⌜ length (now bytes) ≤ length (now buf) ⌝ }
+    ensures { λ r. ⌜ now (buf .exit) ≡ now (bytes .entry) ++ drop (length (now (bytes .entry))) (now (buf .entry)) ⌝ }
+{
+    let mut k = 0;
+    while k < bytes.len() {
+        buf[k] = bytes[k];
+        k += 1;
+    }
+}
+
 // The header of a file of len bytes, at the front of the buffer.
 fn put_header(buf: &mut [u8], c: Counts, len: usize)
-    requires { ⌜ (16 ≤ length (now buf)) × (len < 65536) × (countsOk c ≡ true) ⌝ }
-    ensures { λ r. ⌜ now (buf .exit) ≡ headerBytes c len ++ drop 16 (now (buf .entry)) ⌝ }
+    requires { ⌜ HeaderRoom c len (now buf) ⌝ }
+    ensures { λ r. ⌜ now (buf .exit) ≡ headerBytes c len ++ drop (tasksAt c) (now (buf .entry)) ⌝ }
 {
     let sections = c.sections as usize;
     let resources_at = plan_layout::resources_at(c);
     let sections_at = plan_layout::sections_at(c);
     let names_at = plan_layout::names_at(c);
-    buf[0] = 1;
-    buf[1] = c.processors;
-    buf[2] = c.tasks;
-    buf[3] = c.resources;
-    buf[4] = low(sections);
-    buf[5] = high(sections);
-    buf[6] = 16;
-    buf[7] = 0;
-    buf[8] = low(resources_at);
-    buf[9] = high(resources_at);
-    buf[10] = low(sections_at);
-    buf[11] = high(sections_at);
-    buf[12] = low(names_at);
-    buf[13] = high(names_at);
-    buf[14] = low(len);
-    buf[15] = high(len);
+    let row = [
+        c.edition,
+        c.processors,
+        c.tasks,
+        c.resources,
+        low(sections),
+        high(sections),
+        plan_layout::HEADER as u8,
+        0,
+        low(resources_at),
+        high(resources_at),
+        low(sections_at),
+        high(sections_at),
+        low(names_at),
+        high(names_at),
+        low(len),
+        high(len),
+    ];
+    put_bytes(buf, &row);
 }
 
 // One task row at the front of the buffer.
 fn put_task(buf: &mut [u8], t: TaskRow)
-    requires { ⌜ (8 ≤ length (now buf)) × (t .tag < 256) ⌝ }
-    ensures { λ r. ⌜ now (buf .exit) ≡ rowBytes taskWidths (taskNumbers t) ++ drop 8 (now (buf .entry)) ⌝ }
+    requires { ⌜ (taskRow ≤ length (now buf)) × (t .tag ≤ formatOf edition1 .mostTag) ⌝ }
+    ensures { λ r. ⌜ now (buf .exit) ≡ rowBytes (formatOf edition1 .task) (formatOf edition1 .taskNumbers t) ++ drop taskRow (now (buf .entry)) ⌝ }
 {
     let period = t.period as usize;
     let execution = t.execution as usize;
-    buf[0] = t.processor;
-    buf[1] = t.tag as u8;
-    buf[2] = t.priority;
-    buf[3] = 0;
-    buf[4] = low(period);
-    buf[5] = high(period);
-    buf[6] = low(execution);
-    buf[7] = high(execution);
+    let row = [
+        t.processor,
+        t.tag as u8,
+        t.priority,
+        0,
+        low(period),
+        high(period),
+        low(execution),
+        high(execution),
+    ];
+    put_bytes(buf, &row);
 }
 
-// Whether the tag of each of the first n tasks has one byte.
-fn tags_ok(tasks: [TaskRow; 64], n: usize) -> bool
-    requires { ⌜ n ≤ 64 ⌝ }
-    ensures { λ r. ⌜ r ≡ tagsOk n tasks ⌝ }
+// Whether a row has room for the tag of each of the first n tasks.
+fn tags_ok(tasks: [TaskRow; sizes::TASKS], n: usize) -> bool
+    requires { ⌜ n ≤ mostTasks ⌝ }
+    ensures { λ r. ⌜ r ≡ tagsOk n (formatOf edition1 .mostTag) tasks ⌝ }
 {
     let mut ok = true;
     let mut i = 0;
     while i < n {
         let task = tasks[i];
-        ok = ok & (task.tag <= 255);
+        ok = ok & (task.tag <= plan_layout::MOST_TAG);
         i += 1;
     }
     ok
 }
 
 // The first n task rows at the front of the buffer.
-fn put_tasks(buf: &mut [u8], tasks: [TaskRow; 64], n: usize)
-    requires { ⌜ (n ≤ 64) × (n * 8 ≤ length (now buf)) × (tagsOk n tasks ≡ true) ⌝ }
-    ensures { λ r. ⌜ now (buf .exit) ≡ bytesBelow n (taskBytes tasks) ++ drop (n * 8) (now (buf .entry)) ⌝ }
+fn put_tasks(buf: &mut [u8], tasks: [TaskRow; sizes::TASKS], n: usize)
+    requires { ⌜ TasksRoom n tasks (now buf) ⌝ }
+    ensures { λ r. ⌜ now (buf .exit) ≡ bytesBelow n (taskBytes edition1 tasks) ++ drop (n * taskRow) (now (buf .entry)) ⌝ }
 {
     let mut i = 0;
     while i < n {
         let task = tasks[i];
-        let at = i * 8;
+        let at = i * plan_layout::TASK_ROW;
         put_task(&mut buf[at..], task);
         i += 1;
     }
@@ -113,25 +141,23 @@ fn put_tasks(buf: &mut [u8], tasks: [TaskRow; 64], n: usize)
 
 // One resource row at the front of the buffer.
 fn put_resource(buf: &mut [u8], start: usize, len: u8)
-    requires { ⌜ (4 ≤ length (now buf)) × (start < 65536) ⌝ }
-    ensures { λ r. ⌜ now (buf .exit) ≡ rowBytes resourceWidths (start ∷ len ∷ 0 ∷ []) ++ drop 4 (now (buf .entry)) ⌝ }
+    requires { ⌜ (resourceRow ≤ length (now buf)) × (start < 65536) ⌝ }
+    ensures { λ r. ⌜ now (buf .exit) ≡ rowBytes (formatOf edition1 .resource) (resourceNumbers start len) ++ drop resourceRow (now (buf .entry)) ⌝ }
 {
-    buf[0] = low(start);
-    buf[1] = high(start);
-    buf[2] = len;
-    buf[3] = 0;
+    let row = [low(start), high(start), len, 0];
+    put_bytes(buf, &row);
 }
 
 // The first r resource rows at the front of the buffer: each name starts where the last ended.
-fn put_resources(buf: &mut [u8], lengths: [u8; 16], r: usize)
-    requires { ⌜ (r ≤ 16) × (r * 4 ≤ length (now buf)) ⌝ }
-    ensures { λ u. ⌜ now (buf .exit) ≡ bytesBelow r (resourceBytes lengths) ++ drop (r * 4) (now (buf .entry)) ⌝ }
+fn put_resources(buf: &mut [u8], lengths: [u8; sizes::RESOURCES], r: usize)
+    requires { ⌜ (r ≤ mostResources) × (r * resourceRow ≤ length (now buf)) ⌝ }
+    ensures { λ u. ⌜ now (buf .exit) ≡ bytesBelow r (resourceBytes edition1 lengths) ++ drop (r * resourceRow) (now (buf .entry)) ⌝ }
 {
     let mut start = 0;
     let mut i = 0;
     while i < r {
         let len = lengths[i];
-        let at = i * 4;
+        let at = i * plan_layout::RESOURCE_ROW;
         put_resource(&mut buf[at..], start, len);
         start += folds::wide(len);
         i += 1;
@@ -140,45 +166,31 @@ fn put_resources(buf: &mut [u8], lengths: [u8; 16], r: usize)
 
 // One section row at the front of the buffer.
 fn put_section(buf: &mut [u8], s: SectionRow)
-    requires { ⌜ 4 ≤ length (now buf) ⌝ }
-    ensures { λ r. ⌜ now (buf .exit) ≡ rowBytes sectionWidths (sectionNumbers s) ++ drop 4 (now (buf .entry)) ⌝ }
+    requires { ⌜ sectionRow ≤ length (now buf) ⌝ }
+    ensures { λ r. ⌜ now (buf .exit) ≡ rowBytes (formatOf edition1 .section) (sectionNumbers s) ++ drop sectionRow (now (buf .entry)) ⌝ }
 {
     let ticks = s.length as usize;
-    buf[0] = s.task;
-    buf[1] = s.resource;
-    buf[2] = low(ticks);
-    buf[3] = high(ticks);
+    let row = [s.task, s.resource, low(ticks), high(ticks)];
+    put_bytes(buf, &row);
 }
 
 // The first s section rows at the front of the buffer.
-fn put_sections(buf: &mut [u8], sections: [SectionRow; 255], s: usize)
-    requires { ⌜ (s ≤ 255) × (s * 4 ≤ length (now buf)) ⌝ }
-    ensures { λ r. ⌜ now (buf .exit) ≡ bytesBelow s (sectionBytes sections) ++ drop (s * 4) (now (buf .entry)) ⌝ }
+fn put_sections(buf: &mut [u8], sections: [SectionRow; sizes::SECTIONS], s: usize)
+    requires { ⌜ (s ≤ mostSections) × (s * sectionRow ≤ length (now buf)) ⌝ }
+    ensures { λ r. ⌜ now (buf .exit) ≡ bytesBelow s (sectionBytes edition1 sections) ++ drop (s * sectionRow) (now (buf .entry)) ⌝ }
 {
     let mut i = 0;
     while i < s {
         let section = sections[i];
-        let at = i * 4;
+        let at = i * plan_layout::SECTION_ROW;
         put_section(&mut buf[at..], section);
         i += 1;
     }
 }
 
-// The names at the front of the buffer.
-fn put_names(buf: &mut [u8], names: &[u8])
-    requires { ⌜ length (now names) ≤ length (now buf) ⌝ }
-    ensures { λ r. ⌜ now (buf .exit) ≡ now (names .entry) ++ drop (length (now (names .entry))) (now (buf .entry)) ⌝ }
-{
-    let mut k = 0;
-    while k < names.len() {
-        buf[k] = names[k];
-        k += 1;
-    }
-}
-
 // The file at the front of the buffer.
 fn put_file(c: Counts, rows: Rows, names: &[u8], buf: &mut [u8])
-    requires { ⌜ (countsOk c ≡ true) × (tagsOk (c .tasks) (rows .tasks) ≡ true) × (fileLength c (now names) ≤ length (now buf)) × (length (now names) ≤ 192) ⌝ }
+    requires { ⌜ FileRoom c rows (now names) (now buf) ⌝ }
     ensures { λ r. ⌜ now (buf .exit) ≡ fileOf c rows (now (names .entry)) ++ drop (fileLength c (now (names .entry))) (now (buf .entry)) ⌝ }
 {
     let resources_at = plan_layout::resources_at(c);
@@ -189,25 +201,28 @@ fn put_file(c: Counts, rows: Rows, names: &[u8], buf: &mut [u8])
     let sections = rows.sections;
     let s = c.sections as usize;
     put_header(buf, c, names_at + names.len());
-    put_tasks(&mut buf[16..], tasks, folds::wide(c.tasks));
+    put_tasks(&mut buf[plan_layout::HEADER..], tasks, folds::wide(c.tasks));
     put_resources(&mut buf[resources_at..], lengths, folds::wide(c.resources));
     put_sections(&mut buf[sections_at..], sections, s);
-    put_names(&mut buf[names_at..], names);
+    put_bytes(&mut buf[names_at..], names);
 }
 
-// The first of 3 and 5 to 9 that values break, 0 for none. The rows are put into a file of their own, with no names, and
-// checked there as the parts of any file are; a tag that has no room in a row breaks 5, which comes before all but 3.
+// The first of 2, 3 and 5 to 9 that values break, 0 for none. The rows are put into a file of their own, with no names, and
+// checked there as the parts of any file are; a tag that has no room in a row breaks 5, which comes before all but 2 and 3.
 pub fn values_code(c: Counts, rows: Rows, names: &[u8]) -> u8
-    ensures { λ k. ⌜ k ≡ valuesCode c rows (now (names .entry)) ⌝ }
+    ensures { λ code. ⌜ code ≡ valuesCode c rows (now (names .entry)) ⌝ }
 {
+    if !plan_layout::known(c.edition) {
+        return refusals::WRONG_EDITION;
+    }
     if !plan_rules::counts_ok(c) {
-        return 3;
+        return refusals::WRONG_COUNT;
     }
     let tasks = rows.tasks;
     if !tags_ok(tasks, folds::wide(c.tasks)) {
-        return 5;
+        return refusals::WRONG_TASK;
     }
-    let mut file = [0u8; 1612];
+    let mut file = [0u8; ROWS_END];
     put_file(c, rows, &names[0..0], &mut file);
     plan_layout::file_code(&file, names, c)
 }
@@ -224,7 +239,7 @@ pub fn write(c: Counts, rows: Rows, names: &[u8], buf: &mut [u8]) -> WriteAnswer
     }
     let len = plan_layout::names_at(c) + names.len();
     if buf.len() < len {
-        return WriteAnswer::Refused(10);
+        return WriteAnswer::Refused(refusals::NO_ROOM);
     }
     put_file(c, rows, names, buf);
     WriteAnswer::Written(len as u16)
@@ -242,7 +257,7 @@ pub fn read_back(c: Counts, rows: Rows, names: &[u8], buf: &mut [u8]) -> Reading
             let end = len as usize;
             plan::read(&buf[0..end])
         }
-        WriteAnswer::Refused(k) => plan::refused(k),
+        WriteAnswer::Refused(code) => plan::refused(code),
     }
 }
 
@@ -260,6 +275,6 @@ pub fn copy(file: &[u8], buf: &mut [u8]) -> WriteAnswer
             let names_at = plan_layout::names_at(counts);
             write(counts, rows, &file[names_at..], buf)
         }
-        ReadAnswer::Refused(k) => WriteAnswer::Refused(k),
+        ReadAnswer::Refused(code) => WriteAnswer::Refused(code),
     }
 }

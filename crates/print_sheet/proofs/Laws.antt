@@ -49,11 +49,11 @@ module _ (f : List ℕ) where
   passes i = not (asks (planOf f) i) || met (planOf f) i
 
 -- the counts that were read are those of the plan
-pub plan-counts : {l m : List ℕ} {at e : ℕ} (f : List ℕ) {c : Counts} → (c .processors ≡ planOf f .processors) × (c .tasks ≡ planOf f .tasks) × (c .resources ≡ planOf f .resources) × (c .sections ≡ planOf f .sections)
+pub plan-counts : {l m : List ℕ} {at e : ℕ} (f : List ℕ) (c : Counts) → (c .processors ≡ planOf f .processors) × (c .tasks ≡ planOf f .tasks) × (c .resources ≡ planOf f .resources) × (c .sections ≡ planOf f .sections)
     → Put l m at (planLine c) e
     → Put l m at (planLine (countsOf f)) e
 unfolding planOf
-plan-counts f h p = rw (h .0, h .1, h .2, h .3) at p
+plan-counts f c h p = rw (h .0, h .1, h .2, h .3) at p
 
 -- a resource is shared as its table says
 pub resource-turn : {l m : List ℕ} {at e : ℕ} (f : List ℕ) (q : ℕ) {shared : Bool} → shared ≡ global (planOf f) q → Put l m at (resourceLine f q shared) e → Put l m at (resourceAt f q) e

@@ -8,7 +8,8 @@ use Rattle.input.proofs.read_plan.Tie as tie
 returns : tie.Need-returns
 returns c =
     let p = c .before .before in
-    let w = p .before .before .before .before .before in
+    let o = p .before .before .before in
+    let w = o .before .before in
     came _ (w .read-whole .ensures .0) (omega arith) (omega arith) (p .put .ensures)
 
 pub read-plan-spec : {M : Type 1} → statement M

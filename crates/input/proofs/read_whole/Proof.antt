@@ -15,7 +15,8 @@ returns-2 c =
 
 returns-3 : tie.Need-returns-3
 returns-3 c =
-    let n = c .before .before .before .before .before .plan-length in
+    let r = c .before .before .before in
+    let n = r .before .before .plan-length in
     (all-plan _ _ (omega arith) (λ l. told-still _ _ (n .ensures .0) (omega arith) (omega arith)), omega arith)
 
 pub read-whole-spec : {M : Type 1} → statement M

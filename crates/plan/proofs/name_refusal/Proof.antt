@@ -12,9 +12,6 @@ use Rattle.plan.proofs.Laws.{none-failed}
 use Rattle.plan.proofs.name_refusal.Statement.{statement}
 use Rattle.plan.proofs.name_refusal.Tie as tie
 
-check-requires : tie.Need-check-requires
-check-requires c κs = search needs
-
 returns : tie.Need-returns
 unfolding nameRefusal
 returns c = rw (← c .before .check .ensures, ne-eqb _ _ (c .if1 .taken))
@@ -40,4 +37,4 @@ returns-3 c =
 
 pub name-refusal-spec : {M : Type 1} → statement M
 name-refusal-spec =
-    tie.close (tie.spec check-requires returns counts-at-requires returns-2 returns-3)
+    tie.close (tie.spec (λ c κs. search needs) returns counts-at-requires returns-2 returns-3)

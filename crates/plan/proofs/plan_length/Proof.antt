@@ -10,16 +10,13 @@ returns : tie.Need-returns
 unfolding planLength
 returns c = (simp (lt-ltb _ _ (c .if1 .taken)), omega arith)
 
-word-at-requires : tie.Need-word-at-requires
-word-at-requires c κs = search needs
-
 returns-2 : tie.Need-returns-2
 unfolding planLength
-returns-2 c = (simp (le-ltb _ _ (c .before .before .if1 .left), ← c .before .word-at .ensures .0) (omega arith), omega arith)
+returns-2 c = (simp (le-ltb _ _ (c .before .before .if1 .left), ← c .before .length-said .ensures) (omega arith), omega arith)
 
 returns-3 : tie.Need-returns-3
 unfolding planLength
-returns-3 c = (simp (le-ltb _ _ (c .before .before .if1 .left), ← c .before .word-at .ensures .0) (omega arith), omega arith)
+returns-3 c = (simp (le-ltb _ _ (c .before .before .if1 .left), ← c .before .length-said .ensures) (omega arith), omega arith)
 
 pub plan-length-spec : {M : Type 1} → statement M
-plan-length-spec = tie.close (tie.spec returns word-at-requires returns-2 returns-3)
+plan-length-spec = tie.close (tie.spec returns (λ c κs. search needs) returns-2 returns-3)

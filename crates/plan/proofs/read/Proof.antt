@@ -9,12 +9,6 @@ use Rattle.plan.proofs.Laws.{none-failed, read-refused, read-accepted, 
 use Rattle.plan.proofs.read.Statement.{statement}
 use Rattle.plan.proofs.read.Tie as tie
 
-check-requires : tie.Need-check-requires
-check-requires c κs = search needs
-
-refused-requires : tie.Need-refused-requires
-refused-requires c κs = search needs
-
 returns : tie.Need-returns
 returns c =
     let e = c .refused .ensures ∙ sym (read-refused _ (c .before .before .check .ensures) (c .before .if1 .taken)) in
@@ -36,4 +30,4 @@ returns-2 c =
 pub read-spec : {M : Type 1} → statement M
 read-spec =
     tie.close
-    (tie.spec check-requires refused-requires returns counts-at-requires load-requires returns-2)
+    (tie.spec (λ c κs. search needs) (λ c κs. search needs) returns counts-at-requires load-requires returns-2)

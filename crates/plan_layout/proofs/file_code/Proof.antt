@@ -6,12 +6,13 @@ use Rattle.plan_layout.proofs.file_code.Tie as tie
 
 returns : tie.Need-returns
 returns c =
-    rw (part-rest, part-rest, part-rest, c .before .before .before .before .sections-at .ensures, c .before .before .before .before .before .resources-at .ensures) at (c .parts-code .ensures)
+    let at = c .before .before .before .before in
+    rw (part-rest, part-rest, part-rest, at .sections-at .ensures, at .before .resources-at .ensures) at (c .parts-code .ensures)
 
 pub file-code-spec : {M : Type 1} → statement M
 file-code-spec =
     tie.close
     (tie.spec
     (λ c κs. search needs) (λ c κs. search needs) (λ c. search needs) (λ c. search needs) (λ c. search needs) (λ c. search needs)
-    (λ c. search needs) (λ c. search needs) (λ c. search needs) (λ c. search needs) (λ c. search needs) (λ c κs. search needs)
-    returns)
+    (λ c. search needs) (λ c. search needs) (λ c. search needs) (λ c. search needs) (λ c. search needs)
+    (λ c κs. record { counts = search needs; tasks = search needs; resources = search needs; sections = search needs }) returns)

@@ -1,39 +1,59 @@
 -- The lengths passed are loaded, the test is that of all of them, and the last name passed ends at their sum.
-use Prim.Native.Nat.{_≤_, _-_, _*_}
-use mathlib.Core.Path.{_≡_, refl, sym}
+use Prim.Native.Nat.{ℕ, _≤_, _-_, _*_}
+use mathlib.Core.Bool.{Bool}
+use mathlib.Core.List.{List}
+use mathlib.Core.Path.{_≡_, refl, _∙_}
 use native.Mathlib.Omega.{arith}
 use Rattle.folds.specs.Below.{allBelow, sumBelow}
 use Rattle.folds.specs.Bytes.{placedBelow}
 use Rattle.folds.proofs.Tests.{all-step, all-done}
 use Rattle.folds.proofs.Figures.{sum-step}
 use Rattle.folds.proofs.Arrays.{placed-step, placed-done}
+use Rattle.plan_layout.specs.Editions.{edition1}
 use Rattle.plan_layout.specs.Layout.{lengthAt, lengthRows, lengthRowsOk}
-use Rattle.plan_layout.proofs.Laws.{length-field}
 use Rattle.plan_layout.proofs.load_lengths.Statement.{statement}
 use Rattle.plan_layout.proofs.load_lengths.Tie as tie
 
+record Passed (part : List ℕ) (r : ℕ) (loaded : List ℕ) (test : Bool) (last i : ℕ) : Type 0 where
+  below : i ≤ r
+  ok : test ≡ lengthRowsOk edition1 i part
+  lengths : loaded ≡ lengthRows edition1 i part
+  end : last ≡ sumBelow i (lengthAt edition1 part)
+  small : last ≤ 255 * i
+
 abbrev Inv-loop : tie.InvT-loop
-Inv-loop part r lengths₀ ok₀ end₀ i₀ lengths ok end i =
-    (i ≤ r) × (ok ≡ lengthRowsOk i part) × (lengths ≡ lengthRows i part) × (end ≡ sumBelow i (lengthAt part)) × (end ≤ 255 * i)
+Inv-loop part r lengths₀ ok₀ end₀ i₀ lengths ok end i = Passed part r lengths ok end i
 
 abbrev μ-loop : tie.MeasureT-loop
 μ-loop part r lengths₀ ok₀ end₀ i₀ lengths ok end i = r - i
 
 loop-holds : tie.Need-loop-holds Inv-loop μ-loop
 unfolding lengthRowsOk lengthRows allBelow placedBelow sumBelow
-loop-holds c = (omega arith, refl, refl, refl, omega arith)
+loop-holds c = record { below = omega arith; ok = refl; lengths = refl; end = refl; small = omega arith }
 
 loop-again : tie.Need-loop-again Inv-loop μ-loop
 unfolding lengthRowsOk lengthRows
-loop-again c = (omega arith, all-step _ _ (c .before .before .before .before .before .before .loop .inv .1) (rw (c .before .before .before .before .resource-at .ensures .0, c .before .before .before .before .resource-at .ensures .4, c .before .before .before .before .before .before .loop .inv .3)), placed-step _ _ _ (c .before .before .before .before .before .before .loop .inv .2) (sym (length-field _ _)), sum-step _ _ (c .before .before .before .before .before .before .loop .inv .3) (c .before .before .before .before .resource-at .ensures .2), omega arith)
+loop-again c =
+    let r = c .before .before .before in
+    let row = r .resource-at .ensures in
+    let l = r .before .before .loop .inv in
+    record {
+      below = omega arith;
+      ok = all-step _ _ (l .ok) (rw (row .start, row .spare, l .end));
+      lengths = placed-step _ _ _ (l .lengths) (row .length);
+      end = sum-step _ _ (l .end) (c .wide .ensures .0 ∙ row .length);
+      small = omega (arith, c .wide .ensures .1);
+    }
 
 returns : tie.Need-returns Inv-loop μ-loop
 unfolding lengthRowsOk lengthRows
-returns c = (all-done _ (c .before .loop .i) _ (omega arith) (c .before .loop .inv .1), placed-done _ (c .before .loop .i) _ _ (omega arith) (c .before .loop .inv .2))
+returns c =
+    let l = c .before .loop in
+    (all-done _ (l .i) _ (omega arith) (l .inv .ok), placed-done _ (l .i) _ _ (omega arith) (l .inv .lengths))
 
 pub load-lengths-spec : {M : Type 1} → statement M
 load-lengths-spec =
     tie.close
     (tie.spec
-    Inv-loop μ-loop loop-holds (λ c κs. omega arith) (λ c. omega arith) (λ c. omega arith) (λ c. omega arith) (λ c. omega arith)
-    (λ c. omega arith) (λ c. omega arith) (λ c. omega arith) loop-again returns)
+    Inv-loop μ-loop loop-holds (λ c κs. omega arith) (λ c. omega arith) (λ c κs. omega arith) (λ c. omega arith) (λ c. omega arith)
+    (λ c. omega arith) loop-again returns)

@@ -5,12 +5,13 @@ use borrow.Author.Needs.{needs}
 use native.Mathlib.Omega.{arith}
 use Rattle.folds.specs.Bytes.{placedBelow}
 use Rattle.folds.proofs.Arrays.{placed-step, placed-done}
+use Rattle.plan_layout.specs.Editions.{edition1}
 use Rattle.plan_layout.specs.Layout.{sectionRows}
 use Rattle.plan_layout.proofs.load_sections.Statement.{statement}
 use Rattle.plan_layout.proofs.load_sections.Tie as tie
 
 abbrev Inv-loop : tie.InvT-loop
-Inv-loop part s rows₀ i₀ rows i = (i ≤ s) × (rows ≡ sectionRows i part)
+Inv-loop part s rows₀ i₀ rows i = (i ≤ s) × (rows ≡ sectionRows edition1 i part)
 
 abbrev μ-loop : tie.MeasureT-loop
 μ-loop part s rows₀ i₀ rows i = s - i

@@ -5,12 +5,13 @@ use borrow.Author.Needs.{needs}
 use native.Mathlib.Omega.{arith}
 use Rattle.folds.specs.Bytes.{placedBelow}
 use Rattle.folds.proofs.Arrays.{placed-step, placed-done}
+use Rattle.plan_layout.specs.Editions.{edition1}
 use Rattle.plan_layout.specs.Layout.{taskRows}
 use Rattle.plan_layout.proofs.load_tasks.Statement.{statement}
 use Rattle.plan_layout.proofs.load_tasks.Tie as tie
 
 abbrev Inv-loop : tie.InvT-loop
-Inv-loop part n rows₀ i₀ rows i = (i ≤ n) × (rows ≡ taskRows i part)
+Inv-loop part n rows₀ i₀ rows i = (i ≤ n) × (rows ≡ taskRows edition1 i part)
 
 abbrev μ-loop : tie.MeasureT-loop
 μ-loop part n rows₀ i₀ rows i = n - i
@@ -21,7 +22,7 @@ loop-holds c = (omega arith, rw (c .no-task .ensures))
 
 loop-again : tie.Need-loop-again Inv-loop μ-loop
 unfolding taskRows
-loop-again c = (omega arith, placed-step _ _ _ (c .before .before .loop .inv .1) (c .task-at .ensures))
+loop-again c = (omega arith, placed-step _ _ _ (c .before .before .loop .inv .1) (c .task-at .ensures .0))
 
 returns : tie.Need-returns Inv-loop μ-loop
 unfolding taskRows

@@ -5,7 +5,6 @@ use mathlib.Core.Path.{_≡_, refl}
 use native.Mathlib.Omega.{arith}
 use borrow.Author.Tests.{not-true, not-false}
 use Rattle.folds.proofs.Arrays.{gatheredBelow, gathered-step}
-use Rattle.plan_layout.proofs.Laws.{section-fields}
 use Rattle.plan_layout.proofs.Sums.{sumsBelow, sums-small, code-rows, code-sums}
 use Rattle.plan_layout.proofs.section_code.Statement.{statement}
 use Rattle.plan_layout.proofs.section_code.Tie as tie
@@ -28,29 +27,28 @@ array-read-sums c = omega arith
 
 add-sums : tie.Need-add-sums Inv-loop μ-loop
 add-sums c =
-    omega (arith, sums-small _ _ _ (λ k. c .before .before .before .before .before .before .before .before .shared-slice-known2 .given k .fits) (c .before .before .before .before .before .loop .inv .1) (array-read-sums c))
+    let l = c .before .before .before .before in
+    omega (arith, sums-small _ _ _ (λ k. l .before .before .before .shared-slice-known2 .given k .fits) (l .loop .inv .1) (array-read-sums c))
 
 loop-again : tie.Need-loop-again Inv-loop μ-loop
 loop-again c =
-    let row = c .before .before .before .section-at .ensures in (
-      omega arith,
-      gathered-step _ _ _ _ (c .before .before .before .before .before .loop .inv .1) (rw (section-fields, c .before .wide .ensures .0)) (rw row),
-    )
+    let row = c .before .before .section-at .ensures in
+    (omega arith, gathered-step _ _ _ _ (c .before .before .before .before .loop .inv .1) (rw (c .before .wide .ensures .0, row)) (rw row))
 
 returns-2 : tie.Need-returns-2 Inv-loop μ-loop
 returns-2 c =
-    let l = c .before .before .before .before .loop in
-    code-sums _ _ _ _ (l .i) _ _ false (omega arith) (omega arith) (omega arith) (c .before .before .before .before .before .before .section-rows-ok .ensures) (c .before .before .before .before .before .if1 .left) (l .inv .1) (c .before .before .wide2 .ensures .0) (c .before .sums-fit .ensures) (not-true _ (c .if2 .taken))
+    let l = c .before .before .before .before in
+    code-sums _ _ _ _ (l .loop .i) _ _ false (omega arith) (omega arith) (omega arith) (l .before .before .section-rows-ok .ensures) (l .before .if1 .left) (l .loop .inv .1) (c .before .before .wide2 .ensures .0) (c .before .sums-fit .ensures) (not-true _ (c .if2 .taken))
 
 returns-3 : tie.Need-returns-3 Inv-loop μ-loop
 returns-3 c =
-    let l = c .before .before .before .before .loop in
-    code-sums _ _ _ _ (l .i) _ _ true (omega arith) (omega arith) (omega arith) (c .before .before .before .before .before .before .section-rows-ok .ensures) (c .before .before .before .before .before .if1 .left) (l .inv .1) (c .before .before .wide2 .ensures .0) (c .before .sums-fit .ensures) (not-false _ (c .if2 .left))
+    let l = c .before .before .before .before in
+    code-sums _ _ _ _ (l .loop .i) _ _ true (omega arith) (omega arith) (omega arith) (l .before .before .section-rows-ok .ensures) (l .before .if1 .left) (l .loop .inv .1) (c .before .before .wide2 .ensures .0) (c .before .sums-fit .ensures) (not-false _ (c .if2 .left))
 
 pub section-code-spec : {M : Type 1} → statement M
 section-code-spec =
     tie.close
     (tie.spec
-    Inv-loop μ-loop (λ c κs. omega arith) returns loop-holds (λ c κs. omega arith) (λ c. omega arith) (λ c. omega arith)
-    (λ c κs. omega arith) (λ c. omega arith) (λ c. omega arith) array-read-sums add-sums (λ c. omega arith) (λ c. omega arith)
+    Inv-loop μ-loop (λ c κs. omega arith) returns loop-holds (λ c κs. omega arith) (λ c κs. omega arith) (λ c. omega arith)
+    (λ c. omega arith) array-read-sums add-sums (λ c. omega arith) (λ c. omega arith)
     (λ c. omega arith) loop-again (λ c κs. omega arith) (λ c κs. omega arith) returns-2 returns-3)

@@ -4,12 +4,13 @@ use mathlib.Core.Path.{_≡_, refl}
 use native.Mathlib.Omega.{arith}
 use Rattle.folds.specs.Below.{allBelow}
 use Rattle.folds.proofs.Tests.{all-step, all-done}
+use Rattle.plan_layout.specs.Editions.{edition1}
 use Rattle.plan_layout.specs.Layout.{sectionRowsOk}
 use Rattle.plan_layout.proofs.section_rows_ok.Statement.{statement}
 use Rattle.plan_layout.proofs.section_rows_ok.Tie as tie
 
 abbrev Inv-loop : tie.InvT-loop
-Inv-loop part s n r ok₀ i₀ ok i = (i ≤ s) × (ok ≡ sectionRowsOk i n r part)
+Inv-loop part s n r ok₀ i₀ ok i = (i ≤ s) × (ok ≡ sectionRowsOk edition1 i n r part)
 
 abbrev μ-loop : tie.MeasureT-loop
 μ-loop part s n r ok₀ i₀ ok i = s - i

@@ -4,12 +4,13 @@ use mathlib.Core.Path.{_≡_, refl}
 use native.Mathlib.Omega.{arith}
 use Rattle.folds.specs.Below.{allBelow}
 use Rattle.folds.proofs.Tests.{all-step, all-done}
-use Rattle.plan_layout.specs.Layout.{sumsFit}
+use Rattle.plan_layout.specs.Editions.{edition1}
+use Rattle.plan_layout.specs.Inner.{sumsFit}
 use Rattle.plan_layout.proofs.sums_fit.Statement.{statement}
 use Rattle.plan_layout.proofs.sums_fit.Tie as tie
 
 abbrev Inv-loop : tie.InvT-loop
-Inv-loop tasks n sums ok₀ i₀ ok i = (i ≤ n) × (ok ≡ sumsFit i sums tasks)
+Inv-loop tasks n sums ok₀ i₀ ok i = (i ≤ n) × (ok ≡ sumsFit edition1 i sums tasks)
 
 abbrev μ-loop : tie.MeasureT-loop
 μ-loop tasks n sums ok₀ i₀ ok i = n - i
@@ -20,7 +21,7 @@ loop-holds c = (omega arith, refl)
 
 loop-again : tie.Need-loop-again Inv-loop μ-loop
 unfolding sumsFit
-loop-again c = (omega arith, all-step _ _ (c .before .before .before .loop .inv .1) (rw (c .before .task-at .ensures)))
+loop-again c = (omega arith, all-step _ _ (c .before .before .before .loop .inv .1) (rw (c .before .task-at .ensures .0)))
 
 returns : tie.Need-returns Inv-loop μ-loop
 unfolding sumsFit

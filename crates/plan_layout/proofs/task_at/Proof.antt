@@ -11,7 +11,11 @@ cast-t9 : tie.Need-cast-t9
 cast-t9 c = omega (arith, c .shared-slice-known3 .given (c .before .before .before .args .i * 8 + 1))
 
 returns : tie.Need-returns
-returns c = rw (c .half-at2 .ensures, c .before .half-at .ensures) (sym (task-fields _ _))
+returns c =
+    let read = c .before .before .before in (
+      rw (c .half-at2 .ensures, c .before .half-at .ensures) (sym (task-fields _ _)),
+      omega (arith, read .shared-slice-known3 .given (read .before .before .before .args .i * 8 + 1)),
+    )
 
 pub task-at-spec : {M : Type 1} → statement M
 task-at-spec =

@@ -1,80 +1,92 @@
 -- Each group is loaded from the part that begins at its offset.
-use mathlib.Core.Path.{ap, _∙_}
+use Prim.Native.Nat.{ℕ}
+use mathlib.Core.Path.{_≡_, ap, ap₂, _∙_}
 use native.Mathlib.Omega.{arith}
 use borrow.Author.Needs.{needs}
-use lib.ListN.{length-drop}
+use lib.ListN.{drop, length-drop}
 use Rattle.folds.proofs.Parts.{part-rest}
 use Rattle.plan_rules.specs.declared.Counts.{Counts}
-use Rattle.plan_layout.specs.Layout.{resourcesAt, sectionsAt}
-use Rattle.plan_reading.proofs.Laws.{header-facts}
+use Rattle.plan_layout.specs.Editions.{edition1, headerLength}
+use Rattle.plan_layout.specs.Layout.{countsOf, resourcesAt, sectionsAt, taskRows, lengthRows, sectionRows, tasksOf, lengthsOf, sectionsOf}
+use Rattle.plan_reading.proofs.Laws.{Header, header-facts}
 use Rattle.plan_reading.proofs.load.Statement.{statement}
 use Rattle.plan_reading.proofs.load.Tie as tie
 
-sub-load-lengths : tie.Need-sub-load-lengths
-sub-load-lengths c =
-    let a = c .before .before .before .before .before .before in
-    let h = header-facts _ (a .pre .0) in
-    let e = c .before .resources-at .ensures ∙ ap resourcesAt (a .pre .1) in
-    omega (arith, h .ends)
+-- the numbers of rows, before the offsets are worked out, and the beginning
+abbrev numbers : tie.After-sections-at → tie.After-wide2
+numbers c = c .before .before .before
 
-part-load-lengths-start : tie.Need-part-load-lengths-start
-part-load-lengths-start c =
-    let a = c .before .before .before .before .before .before in
-    let h = header-facts _ (a .pre .0) in
-    let e = c .before .resources-at .ensures ∙ ap resourcesAt (a .pre .1) in
-    omega (arith, h .ends)
+abbrev start : tie.After-sections-at → tie.Start
+start c = numbers c .before .before .before
+
+-- where the offsets were worked out, seen from each group
+abbrev from-lengths : tie.After-load-lengths → tie.After-sections-at
+from-lengths c = c .before .before
+
+abbrev from-tasks : tie.After-load-tasks → tie.After-sections-at
+from-tasks c = from-lengths (c .before .before .before)
+
+abbrev from-sections : tie.After-load-sections → tie.After-sections-at
+from-sections c = from-tasks (c .before .before)
+
+-- the header, and what was worked out from its counts
+header : (c : tie.After-sections-at) → Header (start c .args .file .now)
+header c = header-facts _ (start c .pre .0)
+
+tasks-said : (c : tie.After-sections-at) → numbers c .before .wide .result ≡ countsOf (start c .args .file .now) .tasks
+tasks-said c = numbers c .before .wide .ensures .0 ∙ ap (λ (k : Counts). k .tasks) (start c .pre .1)
+
+resources-said : (c : tie.After-sections-at) → numbers c .wide2 .result ≡ countsOf (start c .args .file .now) .resources
+resources-said c = numbers c .wide2 .ensures .0 ∙ ap (λ (k : Counts). k .resources) (start c .pre .1)
+
+resources-begin : (c : tie.After-sections-at) → c .before .resources-at .result ≡ resourcesAt (countsOf (start c .args .file .now))
+resources-begin c = c .before .resources-at .ensures ∙ ap resourcesAt (start c .pre .1)
+
+sections-begin : (c : tie.After-sections-at) → c .sections-at .result ≡ sectionsAt (countsOf (start c .args .file .now))
+sections-begin c = c .sections-at .ensures ∙ ap sectionsAt (start c .pre .1)
 
 load-lengths-requires : tie.Need-load-lengths-requires
 load-lengths-requires c κs =
-    let a = c .before .before .before .before .before .before .before in
-    let h = header-facts _ (a .pre .0) in
-    let n = c .before .before .before .before .wide2 .ensures .0 ∙ ap (λ (k : Counts). k .resources) (a .pre .1) in
-    let e = c .before .before .resources-at .ensures ∙ ap resourcesAt (a .pre .1) in
-    simp (part-rest, length-drop) (omega (arith, h .ranges .resources, h .ends))
-
-sub-load-tasks : tie.Need-sub-load-tasks
-sub-load-tasks c = omega (arith, header-facts _ (c .before .before .before .before .before .before .before .before .before .pre .0) .long)
-
-part-load-tasks-start : tie.Need-part-load-tasks-start
-part-load-tasks-start c = omega (arith, header-facts _ (c .before .before .before .before .before .before .before .before .before .pre .0) .long)
+    let s = c .before in
+    simp (part-rest, length-drop) (omega (arith, header s .ranges .resources, header s .ends, resources-said s, resources-begin s))
 
 load-tasks-requires : tie.Need-load-tasks-requires
 load-tasks-requires c κs =
-    let a = c .before .before .before .before .before .before .before .before .before .before in
-    let h = header-facts _ (a .pre .0) in
-    let n = c .before .before .before .before .before .before .before .before .wide .ensures .0 ∙ ap (λ (k : Counts). k .tasks) (a .pre .1) in
-    simp (part-rest, length-drop) (omega (arith, h .ranges .tasks, h .ends))
-
-sub-load-sections : tie.Need-sub-load-sections
-sub-load-sections c =
-    let a = c .before .before .before .before .before .before .before .before .before .before .before in
-    let h = header-facts _ (a .pre .0) in
-    let e = c .before .before .before .before .before .sections-at .ensures ∙ ap sectionsAt (a .pre .1) in
-    omega (arith, h .ends)
-
-part-load-sections-start : tie.Need-part-load-sections-start
-part-load-sections-start c =
-    let a = c .before .before .before .before .before .before .before .before .before .before .before in
-    let h = header-facts _ (a .pre .0) in
-    let e = c .before .before .before .before .before .sections-at .ensures ∙ ap sectionsAt (a .pre .1) in
-    omega (arith, h .ends)
+    let s = c .before .before .before .before in
+    simp (part-rest, length-drop) (omega (arith, header s .ranges .tasks, header s .ends, tasks-said s))
 
 load-sections-requires : tie.Need-load-sections-requires
 load-sections-requires c κs =
-    let a = c .before .before .before .before .before .before .before .before .before .before .before .before in
-    let h = header-facts _ (a .pre .0) in
-    let n = ap (λ (k : Counts). k .sections) (a .pre .1) in
-    let e = c .before .before .before .before .before .before .sections-at .ensures ∙ ap sectionsAt (a .pre .1) in
-    simp (part-rest, length-drop) (omega (arith, h .ranges .sections, h .ends))
+    let s = from-tasks (c .before) in
+    let n = ap (λ (k : Counts). k .sections) (start s .pre .1) in
+    simp (part-rest, length-drop) (omega (arith, header s .ranges .sections, header s .ends, sections-begin s))
+
+-- each group is the file's
+lengths-loaded : (c : tie.After-load-lengths) → c .load-lengths .result .lengths ≡ lengthsOf (start (from-lengths c) .args .file .now)
+lengths-loaded c =
+    let s = from-lengths c in
+    c .load-lengths .ensures .1 ∙ ap₂ (lengthRows edition1) (resources-said s) (part-rest (s .before .resources-at .result) (start s .args .file .now) ∙ ap (λ (n : ℕ). drop n (start s .args .file .now)) (resources-begin s))
+
+tasks-loaded : (c : tie.After-load-tasks) → c .load-tasks .result ≡ tasksOf (start (from-tasks c) .args .file .now)
+tasks-loaded c = c .load-tasks .ensures ∙ ap₂ (taskRows edition1) (tasks-said (from-tasks c)) (part-rest headerLength (start (from-tasks c) .args .file .now))
+
+sections-loaded : (c : tie.After-load-sections) → c .load-sections .result ≡ sectionsOf (start (from-sections c) .args .file .now)
+sections-loaded c =
+    let s = from-sections c in
+    c .load-sections .ensures ∙ ap₂ (sectionRows edition1) (ap (λ (k : Counts). k .sections) (start s .pre .1)) (part-rest (s .sections-at .result) (start s .args .file .now) ∙ ap (λ (n : ℕ). drop n (start s .args .file .now)) (sections-begin s))
 
 returns : tie.Need-returns
-returns c = rw (c .load-sections .ensures, c .before .before .load-tasks .ensures, c .before .before .before .before .before .load-lengths .ensures .1, part-rest, part-rest, part-rest, c .before .before .before .before .before .before .before .sections-at .ensures, c .before .before .before .before .before .before .before .before .resources-at .ensures, c .before .before .before .before .before .before .before .before .before .before .wide2 .ensures .0, c .before .before .before .before .before .before .before .before .before .before .before .wide .ensures .0, c .before .before .before .before .before .before .before .before .before .before .before .before .before .pre .1)
+returns c =
+    let t = c .before .before in
+    λ i. record { tasks = tasks-loaded t i; lengths = lengths-loaded (t .before .before .before) i; sections = sections-loaded c i }
 
 pub load-spec : {M : Type 1} → statement M
 load-spec =
     tie.close
     (tie.spec
     (λ c κs. search needs) (λ c κs. search needs) (λ c. search needs) (λ c κs. search needs) (λ c κs. search needs)
-    sub-load-lengths part-load-lengths-start (λ c. search needs) load-lengths-requires sub-load-tasks part-load-tasks-start
-    (λ c. search needs) load-tasks-requires sub-load-sections part-load-sections-start (λ c. search needs) load-sections-requires
+    (λ c. omega (arith, header c .ends, resources-begin c)) (λ c. omega (arith, header c .ends, resources-begin c)) (λ c. search needs)
+    load-lengths-requires (λ c. omega (arith, header (c .before .before .before) .long)) (λ c. omega (arith, header (c .before .before .before) .long))
+    (λ c. search needs) load-tasks-requires (λ c. omega (arith, header (from-tasks c) .ends, sections-begin (from-tasks c)))
+    (λ c. omega (arith, header (from-tasks c) .ends, sections-begin (from-tasks c))) (λ c. search needs) load-sections-requires
     returns)

@@ -1,24 +1,20 @@
 -- The names begin where the counts say, and the header's checks gave that this lies in the file.
+use Prim.Native.Nat.{_≤_}
 use mathlib.Core.Path.{ap, _∙_}
 use native.Mathlib.Omega.{arith}
 use borrow.Author.Needs.{needs}
+use lib.ListN.{length}
 use Rattle.folds.proofs.Parts.{part-rest}
 use Rattle.plan_layout.specs.Layout.{namesAt}
 use Rattle.plan_reading.proofs.Laws.{header-facts}
 use Rattle.plan_reading.proofs.rows_code.Statement.{statement}
 use Rattle.plan_reading.proofs.rows_code.Tie as tie
 
-sub-file-code : tie.Need-sub-file-code
-sub-file-code c =
-    let h = header-facts _ (c .before .before .pre .0) in
+-- they begin in the file
+names-inside : (c : tie.After-names-at) → c .names-at .result ≤ length (c .before .before .args .file .now)
+names-inside c =
     let e = c .names-at .ensures ∙ ap namesAt (c .before .before .pre .1) in
-    omega (arith, h .ends)
-
-part-file-code-start : tie.Need-part-file-code-start
-part-file-code-start c =
-    let h = header-facts _ (c .before .before .pre .0) in
-    let e = c .names-at .ensures ∙ ap namesAt (c .before .before .pre .1) in
-    omega (arith, h .ends)
+    omega (arith, header-facts _ (c .before .before .pre .0) .ends)
 
 file-code-requires : tie.Need-file-code-requires
 file-code-requires c κs =
@@ -33,4 +29,4 @@ pub rows-code-spec : {M : Type 1} → statement M
 rows-code-spec =
     tie.close
     (tie.spec
-    (λ c κs. search needs) sub-file-code part-file-code-start (λ c. search needs) file-code-requires returns)
+    (λ c κs. search needs) (λ c. omega (arith, names-inside c)) (λ c. omega (arith, names-inside c)) (λ c. search needs) file-code-requires returns)

@@ -15,17 +15,20 @@ use Rattle.plan_writing.proofs.Outcome.{copy-buffer, copy-answer, copy-
 use Rattle.plan_writing.proofs.copy.Statement.{statement}
 use Rattle.plan_writing.proofs.copy.Tie as tie
 
+-- where the file was read
+abbrev read-at : tie.After-names-at → tie.After-read
+read-at c = let m = c .before .before .before in m .before .before
+
 -- the lent file
 abbrev file : tie.After-names-at → List ℕ
-file c = c .before .before .before .before .before .before .before .before .args .file .now
+file c = read-at c .before .before .before .args .file .now
 
 -- the plan that was read, said of the file
 got : (c : tie.After-names-at) → Got (file c) (c .before .before .before .answer .given .0 .0)
-got c =
-    got-plan _ _ (sym (ap (λ (x : Reading). x .answer) (c .before .before .before .before .before .read .ensures .0)) ∙ c .before .before .before .answer .given .1)
+got c = got-plan _ _ (sym (ap (λ (x : Reading). x .answer) (read-at c .read .ensures .0)) ∙ c .before .before .before .answer .given .1)
 
-rows-got : (c : tie.After-names-at) → c .before .before .before .before .before .read .result .rows ≡ rowsOf (file c)
-rows-got c = ap (λ (x : Reading). x .rows) (c .before .before .before .before .before .read .ensures .0) ∙ got c .rows
+rows-got : (c : tie.After-names-at) → read-at c .read .result .rows ≡ rowsOf (file c)
+rows-got c = ap (λ (x : Reading). x .rows) (read-at c .read .ensures .0) ∙ got c .rows
 
 at-names : (c : tie.After-names-at) → c .names-at .result ≡ namesAt (countsOf (file c))
 at-names c = c .names-at .ensures ∙ ap namesAt (got c .counts)
@@ -35,9 +38,10 @@ names-got c = part-rest (c .names-at .result) (file c) ∙ ap (λ (n : ℕ). dro
 
 returns : tie.Need-returns
 returns c =
-    let q = c .before .before .before .before .before in
-    let w = c .before .before .write in
-    let bytes : (i : ℕ) → getD (file q) i 0 < 256 = λ i. q .before .before .before .before .before .before .before .shared-slice-known .given i .fits in
+    let p = c .before .before in
+    let w = p .write in
+    let q = p .before .before .before in
+    let bytes : (i : ℕ) → getD (file q) i 0 < 256 = λ i. read-at q .before .before .shared-slice-known .given i .fits in
     let buffer = copy-buffer (file q) bytes (got q .none) _ _ _ _ (w .ensures .1 .0) (got q .counts) (rows-got q) (names-got q) in
     let answer = copy-answer (file q) bytes (got q .none) _ _ _ _ (w .ensures .0) (got q .counts) (rows-got q) (names-got q) in
     (answer, (buffer, ap told answer ∙ copy-told _ _))

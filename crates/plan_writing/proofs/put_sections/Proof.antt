@@ -4,13 +4,15 @@ use mathlib.Core.Path.{refl}
 use native.Mathlib.Omega.{arith}
 use lib.ListN.{length-take, length-drop}
 use Rattle.folds.specs.Bytes.{bytesBelow}
+use Rattle.plan_layout.specs.Editions.{edition1}
+use Rattle.plan_layout.specs.Inner.{sectionRow}
 use Rattle.plan_writing.specs.Encode.{sectionBytes}
 use Rattle.plan_writing.proofs.Put.{Front, put-front, rows-more, rows-all, section-length}
 use Rattle.plan_writing.proofs.put_sections.Statement.{statement}
 use Rattle.plan_writing.proofs.put_sections.Tie as tie
 
 abbrev Inv-loop : tie.InvT-loop
-Inv-loop buf₀ s sections i₀ buf i = (i ≤ s) × Front (bytesBelow i (sectionBytes sections)) (i * 4) buf₀ buf
+Inv-loop buf₀ s sections i₀ buf i = (i ≤ s) × Front (bytesBelow i (sectionBytes edition1 sections)) (i * sectionRow) buf₀ buf
 
 abbrev μ-loop : tie.MeasureT-loop
 μ-loop buf₀ s sections i₀ buf i = s - i
@@ -25,9 +27,9 @@ put-section-requires c κs = simp (length-take, length-drop) (omega arith)
 loop-again : tie.Need-loop-again Inv-loop μ-loop
 unfolding sectionBytes
 loop-again c =
-    let a = c .before .before .before .before .before .before .before .before in
-    let l = c .before .before .before .before .before .before .loop in
-    (omega arith, rows-more _ _ (section-length (a .args .t2)) _ (l .inv .1) (c .before .before .put-section .ensures) (omega arith))
+    let p = c .before .before in
+    let l = p .before .before .before .before in
+    (omega arith, rows-more _ _ (section-length (l .before .before .args .t2)) _ (l .loop .inv .1) (p .put-section .ensures) (omega arith))
 
 same-length : tie.Need-same-length Inv-loop μ-loop
 same-length c = c .before .loop .inv .1 .kept

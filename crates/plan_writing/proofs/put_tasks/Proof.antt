@@ -4,13 +4,15 @@ use mathlib.Core.Path.{refl}
 use native.Mathlib.Omega.{arith}
 use lib.ListN.{length-take, length-drop}
 use Rattle.folds.specs.Bytes.{bytesBelow}
+use Rattle.plan_layout.specs.Editions.{edition1}
+use Rattle.plan_layout.specs.Inner.{taskRow}
 use Rattle.plan_writing.specs.Encode.{taskBytes}
 use Rattle.plan_writing.proofs.Put.{Front, put-front, rows-more, rows-all, task-length, tag-at}
 use Rattle.plan_writing.proofs.put_tasks.Statement.{statement}
 use Rattle.plan_writing.proofs.put_tasks.Tie as tie
 
 abbrev Inv-loop : tie.InvT-loop
-Inv-loop buf₀ n tasks i₀ buf i = (i ≤ n) × Front (bytesBelow i (taskBytes tasks)) (i * 8) buf₀ buf
+Inv-loop buf₀ n tasks i₀ buf i = (i ≤ n) × Front (bytesBelow i (taskBytes edition1 tasks)) (i * taskRow) buf₀ buf
 
 abbrev μ-loop : tie.MeasureT-loop
 μ-loop buf₀ n tasks i₀ buf i = n - i
@@ -21,15 +23,15 @@ loop-holds c = (omega arith, put-front refl refl (omega arith))
 
 put-task-requires : tie.Need-put-task-requires Inv-loop μ-loop
 put-task-requires c κs =
-    let a = c .before .before .before .before .before in
-    (simp (length-take, length-drop) (omega arith), omega (arith, tag-at _ _ _ (a .pre .2) (c .before .before .loop-test .taken)))
+    let t = c .before .before in
+    (simp (length-take, length-drop) (omega arith), tag-at _ _ _ _ (t .before .before .before .pre .tags) (t .loop-test .taken))
 
 loop-again : tie.Need-loop-again Inv-loop μ-loop
 unfolding taskBytes
 loop-again c =
-    let a = c .before .before .before .before .before .before .before .before in
-    let l = c .before .before .before .before .before .before .loop in
-    (omega arith, rows-more _ _ (task-length (a .args .t2)) _ (l .inv .1) (c .before .before .put-task .ensures) (omega arith))
+    let p = c .before .before in
+    let l = p .before .before .before .before in
+    (omega arith, rows-more _ _ (task-length (l .before .before .args .t2)) _ (l .loop .inv .1) (p .put-task .ensures) (omega arith))
 
 same-length : tie.Need-same-length Inv-loop μ-loop
 same-length c = c .before .loop .inv .1 .kept

@@ -14,23 +14,27 @@ use Rattle.plan_writing.proofs.read_back.Tie as tie
 
 part-read-end : tie.Need-part-read-end
 part-read-end c =
-    let w = c .before .before .before .before .before .before .write in
-    let k = was-written _ _ _ _ (sym (w .ensures .0) ∙ c .before .before .answer .given .1) in
+    let a = c .before .before in
+    let w = a .before .before .before .before .write in
+    let k = was-written _ _ _ _ (sym (w .ensures .0) ∙ a .answer .given .1) in
     omega (arith, k .1, code-clear _ _ _ _ (k .0) .1, w .kept .1 .1 .1 .0)
 
 returns : tie.Need-returns
 returns c =
-    let w = c .before .before .before .before .before .before .before .before .write in
-    let a = c .before .before .before .before .before .before .before .before .before .before .before .before .args in
-    let k = was-written _ _ _ _ (sym (w .ensures .0) ∙ c .before .before .before .before .answer .given .1) in
-    let front : take (c .before .before .before .before .answer .given .0 .0 - 0) (w .last .1 .1 .1 .0) ≡ fileOf (a .c) (a .rows) (a .names .now) = rw (sub-zero, k .1, w .ensures .1 .0, wrote _ _ _ _ (k .0) .1) (file-front _ _ _ _) in
+    let d = c .before .before .before .before in
+    let e = d .before .before .before .before in
+    let w = e .write in
+    let a = e .before .before .before .before .args in
+    let k = was-written _ _ _ _ (sym (w .ensures .0) ∙ d .answer .given .1) in
+    let front : take (d .answer .given .0 .0 - 0) (w .last .1 .1 .1 .0) ≡ fileOf (a .c) (a .rows) (a .names .now) = rw (sub-zero, k .1, w .ensures .1 .0, wrote _ _ _ _ (k .0) .1) (file-front _ _ _ _) in
     let r = back-same _ _ _ _ _ (c .read .ensures .0) front (k .0) in
     (r, (w .ensures .1 .0, ap (λ (x : Reading). readSaid (x .answer)) r ∙ back-told _ _ _ _))
 
 returns-2 : tie.Need-returns-2
 returns-2 c =
-    let w = c .before .before .before .before .before .before .write in
-    let k = was-refused _ _ _ _ (sym (w .ensures .0) ∙ c .before .before .answer2 .given .1) in
+    let a = c .before .before in
+    let w = a .before .before .before .before .write in
+    let k = was-refused _ _ _ _ (sym (w .ensures .0) ∙ a .answer2 .given .1) in
     let r = c .refused .ensures ∙ sym (back-refused _ _ _ _ (k .0) (k .1)) in
     (r, (w .ensures .1 .0, ap (λ (x : Reading). readSaid (x .answer)) r ∙ back-told _ _ _ _))
 

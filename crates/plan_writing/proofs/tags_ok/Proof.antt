@@ -5,11 +5,12 @@ use native.Mathlib.Omega.{arith}
 use Rattle.folds.specs.Below.{allBelow}
 use Rattle.folds.proofs.Tests.{all-step, all-done}
 use Rattle.plan_rules.specs.Rules.{tagsOk}
+use Rattle.plan_layout.specs.Editions.{edition1, formatOf}
 use Rattle.plan_writing.proofs.tags_ok.Statement.{statement}
 use Rattle.plan_writing.proofs.tags_ok.Tie as tie
 
 abbrev Inv-loop : tie.InvT-loop
-Inv-loop n tasks ok₀ i₀ ok i = (i ≤ n) × (ok ≡ tagsOk i tasks)
+Inv-loop n tasks ok₀ i₀ ok i = (i ≤ n) × (ok ≡ tagsOk i (formatOf edition1 .mostTag) tasks)
 
 abbrev μ-loop : tie.MeasureT-loop
 μ-loop n tasks ok₀ i₀ ok i = n - i

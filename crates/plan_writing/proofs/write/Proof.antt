@@ -20,31 +20,36 @@ returns c =
 
 returns-2 : tie.Need-returns-2
 returns-2 c =
-    let a = c .before .before .before .before .before .before .args in
+    let v = c .before .before .before in
+    let a = v .before .before .before .args in
     let short : length (a .buf .now) < fileLength (a .c) (a .names .now) = omega (arith, c .before .names-at .ensures, c .if2 .taken) in
-    let e = code-short _ _ _ _ (c .before .before .before .values-code .ensures) (c .before .before .if1 .left) short in
+    let e = code-short _ _ _ _ (v .values-code .ensures) (c .before .before .if1 .left) short in
     let o = kept-back _ _ _ _ e (λ z. omega arith) in
     (sym (o .0), (sym (o .1), ap told (sym (o .0)) ∙ writing-told _ _ _ _))
 
 put-file-requires : tie.Need-put-file-requires
 put-file-requires c κs =
     let z = sized _ _ _ (sym (c .before .before .before .before .values-code .ensures) ∙ c .before .before .before .if1 .left) in
-    (z .rules .counts, tags-kept _ _ _ (z .rules .tasks), omega arith, z .short)
+    record { counts = z .rules .counts; tags = tags-kept _ _ _ _ (z .rules .tests .tasks); short = z .short; room = omega arith }
 
 cast-t13 : tie.Need-cast-t13
 cast-t13 c =
-    let v = c .before .before .before .before .before .before .before in
-    let z = sized _ _ _ (sym (v .values-code .ensures) ∙ c .before .before .before .before .before .before .if1 .left) in
-    omega (arith, c .before .before .before .before .before .names-at .ensures, z .short, z .ranges .tasks, z .ranges .resources, z .ranges .sections)
+    let i = c .before .before .before .before in
+    let n = i .before in
+    let v = n .before .before in
+    let z = sized _ _ _ (sym (v .values-code .ensures) ∙ n .before .if1 .left) in
+    omega (arith, n .names-at .ensures, z .short, z .ranges .tasks, z .ranges .resources, z .ranges .sections)
 
 returns-3 : tie.Need-returns-3
 returns-3 c =
-    let v = c .before .before .before .before .before .before .before in
+    let i = c .before .before .before .before in
+    let n = i .before in
+    let v = n .before .before in
     let a = v .before .before .before .args in
-    let fits : fileLength (a .c) (a .names .now) ≤ length (a .buf .now) = omega (arith, c .before .before .before .before .before .names-at .ensures, c .before .before .before .before .if2 .left) in
-    let e = code-fits _ _ _ _ (v .values-code .ensures) (c .before .before .before .before .before .before .if1 .left) fits in
+    let fits : fileLength (a .c) (a .names .now) ≤ length (a .buf .now) = omega (arith, n .names-at .ensures, i .if2 .left) in
+    let e = code-fits _ _ _ _ (v .values-code .ensures) (n .before .if1 .left) fits in
     let o = wrote _ _ _ _ e in
-    let r = ap (λ (n : ℕ). Written (n + length (a .names .now))) (c .before .before .before .before .before .names-at .ensures) ∙ sym (o .0) in
+    let r = ap (λ (k : ℕ). Written (k + length (a .names .now))) (n .names-at .ensures) ∙ sym (o .0) in
     (r, (c .before .before .put-file .ensures ∙ sym (o .1), ap told r ∙ writing-told _ _ _ _))
 
 pub write-spec : {M : Type 1} → statement M

@@ -23,11 +23,12 @@ returns : tie.Need-returns
 unfolding planSheet
 returns c =
     let a = c .before .before .before .before .before .before .before .before .before .before .before .before .before .before .before .before .before .before .before .before .before .before .before .put-plan .ensures in
+    let n = c .before .before .before .before .before .before .before .before .before .before .before .before .before .before .before .before .before .before .before .before .before .before .before .before .counts in
     let r = c .before .before .before .before .before .before .before .before .before .before .before .before .before .before .before .before .before .before .before .put-resources .ensures in
     let b = c .before .before .before .before .before .before .before .before .before .before .before .before .before .before .put-budgets .ensures in
     let h = c .before .before .before .before .before .before .before .before .put-holds .ensures in
     let v = c .before .before .put-verdict .ensures in (
-      put-then (put-then (put-then (put-then (plan-counts _ (c .before .before .before .before .before .before .before .before .before .before .before .before .before .before .before .before .before .before .before .before .before .before .before .before .counts .ensures) (a .0)) (r .0)) (b .0)) (h .0)) (v .0),
+      put-then (put-then (put-then (put-then (plan-counts _ (n .result) (n .ensures) (a .0)) (r .0)) (b .0)) (h .0)) (v .0),
       omega (arith, a .1, r .1, b .1, h .1, v .1),
     )
 

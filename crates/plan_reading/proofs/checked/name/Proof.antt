@@ -1,13 +1,15 @@
 -- The part from the name's start to its end lies in the file, as the checks of the resource rows gave.
-use Prim.Native.Nat.{_+_}
-use mathlib.Core.Path.{_≡_, ap, _∙_}
+use Prim.Native.Nat.{ℕ, _+_, _≤_}
+use mathlib.Core.List.{List}
+use mathlib.Core.Path.{_≡_, ap, ap₂, _∙_}
 use native.Mathlib.Omega.{arith}
 use borrow.Author.Needs.{needs}
-use lib.ListN.{drop, length-drop}
+use lib.ListN.{length, take, drop, length-drop}
 use Rattle.folds.proofs.Parts.{part-rest, part-span}
+use Rattle.plan_layout.specs.Editions.{edition1}
 use Rattle.plan_layout.specs.Layout.{countsOf, resourcesAt, namesAt, startAt, lengthAt}
 use Rattle.plan_reading.specs.Plan.{namePart}
-use Rattle.plan_reading.proofs.Laws.{Named, name-facts, name-said, plan-resources}
+use Rattle.plan_reading.proofs.Laws.{Named, startIn, lengthIn, name-facts, name-said, plan-resources}
 use Rattle.plan_reading.proofs.checked.name.Statement.{statement}
 use Rattle.plan_reading.proofs.checked.name.Tie as tie
 
@@ -15,54 +17,60 @@ use Rattle.plan_reading.proofs.checked.name.Tie as tie
 asked : (c : tie.Start) → Named (c .args .file .now) (c .args .resource)
 asked c = name-facts _ _ (c .pre .0 .none) (rw (← plan-resources) (c .pre .1))
 
+-- where the resource rows begin, and that they lie in the file
+begin : (c : tie.After-resources-at) → c .resources-at .result ≡ resourcesAt (countsOf (c .before .before .before .args .file .now))
+begin c = c .resources-at .ensures ∙ ap resourcesAt (c .before .counts-at .ensures)
+
+inside : (c : tie.After-resources-at) → c .resources-at .result ≤ length (c .before .before .before .args .file .now)
+inside c = omega (arith, asked (c .before .before .before) .whole .header .ends, begin c)
+
+-- the beginning, seen from the row
+abbrev rows : tie.After-resource-at → tie.After-resources-at
+rows c = c .before .before .before
+
+abbrev start : tie.After-resource-at → tie.Start
+start c = rows c .before .before .before
+
 -- the row's start and length, said of the file
-start-said : (c : tie.After-resource-at) → c .resource-at .result .start ≡ startAt (drop (resourcesAt (countsOf (c .before .before .before .before .before .before .args .file .now))) (c .before .before .before .before .before .before .args .file .now)) (c .before .before .before .before .before .before .args .resource)
+start-said : (c : tie.After-resource-at) → c .resource-at .result .start ≡ startIn (start c .args .file .now) (start c .args .resource)
 start-said c =
-    rw (part-rest, c .before .before .before .resources-at .ensures, c .before .before .before .before .counts-at .ensures, c .before .wide .ensures .0) at (c .resource-at .ensures .0)
+    c .resource-at .ensures .start ∙ ap₂ (startAt edition1) (part-rest (rows c .resources-at .result) (start c .args .file .now) ∙ ap (λ (n : ℕ). drop n (start c .args .file .now)) (begin (rows c))) (c .before .wide .ensures .0)
 
-length-said : (c : tie.After-resource-at) → c .resource-at .result .length ≡ lengthAt (drop (resourcesAt (countsOf (c .before .before .before .before .before .before .args .file .now))) (c .before .before .before .before .before .before .args .file .now)) (c .before .before .before .before .before .before .args .resource)
+length-said : (c : tie.After-resource-at) → c .resource-at .result .length ≡ lengthIn (start c .args .file .now) (start c .args .resource)
 length-said c =
-    rw (part-rest, c .before .before .before .resources-at .ensures, c .before .before .before .before .counts-at .ensures, c .before .wide .ensures .0) at (c .resource-at .ensures .2)
+    c .resource-at .ensures .length ∙ ap₂ (lengthAt edition1) (part-rest (rows c .resources-at .result) (start c .args .file .now) ∙ ap (λ (n : ℕ). drop n (start c .args .file .now)) (begin (rows c))) (c .before .wide .ensures .0)
 
-counts-at-requires : tie.Need-counts-at-requires
-counts-at-requires c κs = asked (c .before) .whole .header .long
-
-sub-resource-at : tie.Need-sub-resource-at
-sub-resource-at c =
-    let e = c .resources-at .ensures ∙ ap resourcesAt (c .before .counts-at .ensures) in
-    omega (arith, asked (c .before .before .before) .whole .header .ends)
-
-part-resource-at-start : tie.Need-part-resource-at-start
-part-resource-at-start c =
-    let e = c .resources-at .ensures ∙ ap resourcesAt (c .before .counts-at .ensures) in
-    omega (arith, asked (c .before .before .before) .whole .header .ends)
+names-begin : (c : tie.After-names-at) → c .names-at .result ≡ namesAt (countsOf (start (c .before) .args .file .now))
+names-begin c = c .names-at .ensures ∙ ap namesAt (rows (c .before) .before .counts-at .ensures)
 
 resource-at-requires : tie.Need-resource-at-requires
 resource-at-requires c κs =
-    let n = asked (c .before .before .before .before .before) in
-    let e = c .before .before .resources-at .ensures ∙ ap resourcesAt (c .before .before .before .counts-at .ensures) in
-    simp (part-rest, length-drop) (omega (arith, n .whole .header .ends, n .below, c .wide .ensures .0, c .wide .ensures .1))
+    let s = c .before .before in
+    let n = asked (s .before .before .before) in
+    simp (part-rest, length-drop) (omega (arith, n .whole .header .ranges .resources, n .whole .header .ends, n .below, begin s, c .wide .ensures .0))
 
 part-result-end : tie.Need-part-result-end
 part-result-end c =
-    let r = c .before .before .before in
-    let n = asked (r .before .before .before .before .before .before) in
-    let e = c .before .before .names-at .ensures ∙ ap namesAt (r .before .before .before .before .counts-at .ensures) in
-    omega (arith, n .fits, start-said r, length-said r)
+    let n = c .before .before in
+    let r = n .before in
+    omega (arith, asked (start r) .fits, names-begin n, start-said r, length-said r, c .wide2 .ensures .0)
 
 returns : tie.Need-returns
 unfolding namePart
 returns c =
-    let r = c .before .before .before .before in
-    let a = r .before .before .before .before .before .before in
-    let n = asked a in
-    let e = c .before .before .before .names-at .ensures ∙ ap namesAt (r .before .before .before .before .counts-at .ensures) in
-    name-said _ _ _ n (part-span (c .before .before .before .names-at .result + r .resource-at .result .start) (r .resource-at .result .length) (a .args .file .now) ∙ rw (e, start-said r, length-said r))
+    let w = c .before in
+    let n = w .before .before in
+    let r = n .before in
+    let f : List ℕ = start r .args .file .now in
+    let from : ℕ = n .names-at .result + r .resource-at .result .start in
+    name-said _ _ _ (asked (start r))
+    (part-span from (w .wide2 .result) f
+    ∙ ap₂ (λ (k : ℕ) (l : List ℕ). take k l) (w .wide2 .ensures .0 ∙ length-said r) (ap₂ (λ (a b : ℕ). drop (a + b) f) (names-begin n) (start-said r)))
 
 pub name-spec : {M : Type 1} → statement M
 name-spec =
     tie.close
     (tie.spec
-    counts-at-requires (λ c κs. search needs) sub-resource-at part-resource-at-start (λ c. search needs) (λ c κs. search needs)
-    resource-at-requires (λ c κs. search needs) (λ c. search needs) (λ c. search needs) (λ c. search needs) (λ c. search needs)
-    part-result-end returns)
+    (λ c κs. asked (c .before) .whole .header .long) (λ c κs. search needs) (λ c. omega (arith, inside c)) (λ c. omega (arith, inside c))
+    (λ c. search needs) (λ c κs. search needs) resource-at-requires (λ c κs. search needs) (λ c. search needs) (λ c κs. search needs)
+    (λ c. search needs) (λ c. search needs) (λ c. search needs) part-result-end returns)

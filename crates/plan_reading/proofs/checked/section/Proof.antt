@@ -1,10 +1,11 @@
 -- A row of the plan lies in the part of a checked file that begins at the section rows.
-use mathlib.Core.Path.{ap, _∙_}
+use Prim.Native.Nat.{_≤_}
+use mathlib.Core.Path.{_≡_, ap, _∙_}
 use native.Mathlib.Omega.{arith}
 use borrow.Author.Needs.{needs}
-use lib.ListN.{length-drop}
+use lib.ListN.{length, length-drop}
 use Rattle.folds.proofs.Parts.{part-rest}
-use Rattle.plan_layout.specs.Layout.{sectionsAt}
+use Rattle.plan_layout.specs.Layout.{countsOf, sectionsAt}
 use Rattle.plan_reading.specs.Plan.{planOf}
 use Rattle.plan_reading.proofs.Laws.{whole-facts, plan-sections}
 use Rattle.plan_reading.proofs.checked.section.Statement.{statement}
@@ -13,24 +14,18 @@ use Rattle.plan_reading.proofs.checked.section.Tie as tie
 counts-at-requires : tie.Need-counts-at-requires
 counts-at-requires c κs = whole-facts _ (c .before .pre .0 .none) .header .long
 
-sub-section-at : tie.Need-sub-section-at
-sub-section-at c =
-    let h = whole-facts _ (c .before .before .before .pre .0 .none) .header in
-    let e = c .sections-at .ensures ∙ ap sectionsAt (c .before .counts-at .ensures) in
-    omega (arith, h .ends)
+-- where the section rows begin, and that they lie in the file
+begin : (c : tie.After-sections-at) → c .sections-at .result ≡ sectionsAt (countsOf (c .before .before .before .args .file .now))
+begin c = c .sections-at .ensures ∙ ap sectionsAt (c .before .counts-at .ensures)
 
-part-section-at-start : tie.Need-part-section-at-start
-part-section-at-start c =
-    let h = whole-facts _ (c .before .before .before .pre .0 .none) .header in
-    let e = c .sections-at .ensures ∙ ap sectionsAt (c .before .counts-at .ensures) in
-    omega (arith, h .ends)
+inside : (c : tie.After-sections-at) → c .sections-at .result ≤ length (c .before .before .before .args .file .now)
+inside c = omega (arith, whole-facts _ (c .before .before .before .pre .0 .none) .header .ends, begin c)
 
 section-at-requires : tie.Need-section-at-requires
 section-at-requires c κs =
     let a = c .before .before .before .before in
     let h = whole-facts _ (a .pre .0 .none) .header in
-    let e = c .before .sections-at .ensures ∙ ap sectionsAt (c .before .before .counts-at .ensures) in
-    simp (part-rest, length-drop) (omega (arith, a .pre .1, plan-sections (a .args .file .now), h .ranges .sections, h .ends))
+    simp (part-rest, length-drop) (omega (arith, begin (c .before), a .pre .1, plan-sections (a .args .file .now), h .ranges .sections, h .ends))
 
 returns : tie.Need-returns
 unfolding planOf
@@ -40,5 +35,5 @@ pub section-spec : {M : Type 1} → statement M
 section-spec =
     tie.close
     (tie.spec
-    counts-at-requires (λ c κs. search needs) sub-section-at part-section-at-start (λ c. search needs) section-at-requires
+    counts-at-requires (λ c κs. search needs) (λ c. omega (arith, inside c)) (λ c. omega (arith, inside c)) (λ c. search needs) section-at-requires
     returns)

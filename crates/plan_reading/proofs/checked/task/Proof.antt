@@ -8,15 +8,6 @@ use Rattle.plan_reading.proofs.Laws.{whole-facts, plan-tasks}
 use Rattle.plan_reading.proofs.checked.task.Statement.{statement}
 use Rattle.plan_reading.proofs.checked.task.Tie as tie
 
-sub-task-at : tie.Need-sub-task-at
-sub-task-at c = omega (arith, whole-facts _ (c .before .pre .0 .none) .header .long)
-
-part-task-at-start : tie.Need-part-task-at-start
-part-task-at-start c = omega (arith, whole-facts _ (c .before .pre .0 .none) .header .long)
-
-part-task-at-end : tie.Need-part-task-at-end
-part-task-at-end c = search needs
-
 task-at-requires : tie.Need-task-at-requires
 task-at-requires c κs =
     let a = c .before .before in
@@ -25,8 +16,11 @@ task-at-requires c κs =
 
 returns : tie.Need-returns
 unfolding planOf
-returns c = rw (c .task-at .ensures, part-rest)
+returns c = rw (c .task-at .ensures .0, part-rest)
 
 pub task-spec : {M : Type 1} → statement M
 task-spec =
-    tie.close (tie.spec sub-task-at part-task-at-start part-task-at-end task-at-requires returns)
+    tie.close
+    (tie.spec
+    (λ c. omega (arith, whole-facts _ (c .before .pre .0 .none) .header .long))
+    (λ c. omega (arith, whole-facts _ (c .before .pre .0 .none) .header .long)) (λ c. search needs) task-at-requires returns)

@@ -7,12 +7,12 @@ use lib.Dec.{leb}
 use lib.ListN.{length, getD}
 use Rattle.folds.specs.Below.{allBelow}
 use Rattle.folds.proofs.Tests.{all-step, all-done}
-use Rattle.plan_rules.specs.Rules.{bytesOk}
+use Rattle.plan_rules.specs.Rules.{firstByte, lastByte, bytesOk}
 use Rattle.plan_rules.proofs.names.bytes_ok.Statement.{statement}
 use Rattle.plan_rules.proofs.names.bytes_ok.Tie as tie
 
 abbrev Inv-loop : tie.InvT-loop
-Inv-loop names ok₀ k₀ ok k = (k ≤ length names) × (ok ≡ allBelow k (λ j. leb 33 (getD names j 0) && leb (getD names j 0) 126))
+Inv-loop names ok₀ k₀ ok k = (k ≤ length names) × (ok ≡ allBelow k (λ j. leb firstByte (getD names j 0) && leb (getD names j 0) lastByte))
 
 abbrev μ-loop : tie.MeasureT-loop
 μ-loop names ok₀ k₀ ok k = length names - k
@@ -20,15 +20,6 @@ abbrev μ-loop : tie.MeasureT-loop
 loop-holds : tie.Need-loop-holds Inv-loop μ-loop
 unfolding allBelow
 loop-holds c = (omega arith, refl)
-
-shared-slice-read-b : tie.Need-shared-slice-read-b Inv-loop μ-loop
-shared-slice-read-b c = omega arith
-
-add-k : tie.Need-add-k Inv-loop μ-loop
-add-k c = omega arith
-
-loop-less : tie.Need-loop-less Inv-loop μ-loop
-loop-less c = omega arith
 
 loop-again : tie.Need-loop-again Inv-loop μ-loop
 loop-again c = (omega arith, all-step _ _ (c .before .before .loop .inv .1) refl)
@@ -40,4 +31,4 @@ returns c = all-done _ (c .before .loop .k) _ (omega arith) (c .before .loop .in
 pub bytes-ok-spec : {M : Type 1} → statement M
 bytes-ok-spec =
     tie.close
-    (tie.spec Inv-loop μ-loop loop-holds shared-slice-read-b add-k loop-less loop-again returns)
+    (tie.spec Inv-loop μ-loop loop-holds (λ c. omega arith) (λ c. omega arith) (λ c. omega arith) loop-again returns)

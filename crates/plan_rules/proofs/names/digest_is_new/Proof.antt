@@ -7,7 +7,7 @@ use lib.Dec.{eqb}
 use lib.ListN.{getD}
 use Rattle.folds.specs.Below.{allBelow}
 use Rattle.folds.proofs.Tests.{all-step, all-done}
-use Rattle.plan_rules.specs.Digests.{numberNew}
+use Rattle.plan_rules.specs.Inner.{numberNew}
 use Rattle.plan_rules.proofs.names.digest_is_new.Statement.{statement}
 use Rattle.plan_rules.proofs.names.digest_is_new.Tie as tie
 

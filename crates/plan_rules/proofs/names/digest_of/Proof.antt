@@ -1,13 +1,15 @@
 -- Each return is the branch of the definition.
 use borrow.Author.Tests.{lt-ltb, le-ltb}
-use Rattle.plan_rules.specs.Digests.{digestOf}
+use Rattle.plan_rules.specs.Inner.{digestOf}
 use borrow.Author.Needs.{needs}
 use Rattle.plan_rules.proofs.names.digest_of.Statement.{statement}
 use Rattle.plan_rules.proofs.names.digest_of.Tie as tie
 
 returns : tie.Need-returns
 unfolding digestOf
-returns c = rw (lt-ltb _ _ (c .before .before .before .before .before .before .if1 .taken), c .wide3 .ensures .0, c .before .before .wide2 .ensures .0, c .before .before .before .before .wide .ensures .0)
+returns c =
+    let first = c .before .before .before .before in
+    rw (lt-ltb _ _ (first .before .before .if1 .taken), c .wide3 .ensures .0, c .before .before .wide2 .ensures .0, first .wide .ensures .0)
 
 returns-2 : tie.Need-returns-2
 unfolding digestOf

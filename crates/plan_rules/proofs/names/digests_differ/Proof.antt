@@ -4,7 +4,7 @@ use mathlib.Core.Path.{_≡_, refl}
 use native.Mathlib.Omega.{arith}
 use Rattle.folds.specs.Below.{allBelow}
 use Rattle.folds.proofs.Tests.{all-step, all-done}
-use Rattle.plan_rules.specs.Digests.{numberNew, numbersDiffer}
+use Rattle.plan_rules.specs.Inner.{numberNew, numbersDiffer}
 use Rattle.plan_rules.proofs.names.digests_differ.Statement.{statement}
 use Rattle.plan_rules.proofs.names.digests_differ.Tie as tie
 
@@ -18,15 +18,6 @@ loop-holds : tie.Need-loop-holds Inv-loop μ-loop
 unfolding allBelow
 loop-holds c = (omega arith, refl)
 
-digest-is-new-requires : tie.Need-digest-is-new-requires Inv-loop μ-loop
-digest-is-new-requires c κs = omega arith
-
-add-i : tie.Need-add-i Inv-loop μ-loop
-add-i c = omega arith
-
-loop-less : tie.Need-loop-less Inv-loop μ-loop
-loop-less c = omega arith
-
 loop-again : tie.Need-loop-again Inv-loop μ-loop
 loop-again c = (omega arith, all-step _ _ (c .before .before .loop .inv .1) (c .digest-is-new .ensures))
 
@@ -37,4 +28,4 @@ returns c = all-done _ (c .before .loop .i) _ (omega arith) (c .before .loop .in
 pub digests-differ-spec : {M : Type 1} → statement M
 digests-differ-spec =
     tie.close
-    (tie.spec Inv-loop μ-loop loop-holds digest-is-new-requires add-i loop-less loop-again returns)
+    (tie.spec Inv-loop μ-loop loop-holds (λ c κs. omega arith) (λ c. omega arith) (λ c. omega arith) loop-again returns)

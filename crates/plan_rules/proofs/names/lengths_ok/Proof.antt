@@ -4,6 +4,7 @@ use mathlib.Core.Bool.{_&&_}
 use mathlib.Core.Path.{_≡_, refl}
 use native.Mathlib.Omega.{arith}
 use lib.Dec.{leb}
+use Rattle.sizes.specs.Sizes.{mostNameBytes}
 use Rattle.folds.specs.Below.{allBelow}
 use Rattle.folds.proofs.Tests.{all-step, all-done}
 use Rattle.plan_rules.specs.Rules.{lengthOf, lengthsOk}
@@ -11,7 +12,7 @@ use Rattle.plan_rules.proofs.names.lengths_ok.Statement.{statement}
 use Rattle.plan_rules.proofs.names.lengths_ok.Tie as tie
 
 abbrev Inv-loop : tie.InvT-loop
-Inv-loop r lengths ok₀ i₀ ok i = (i ≤ r) × (ok ≡ allBelow i (λ k. leb 1 (lengthOf lengths k) && leb (lengthOf lengths k) 12))
+Inv-loop r lengths ok₀ i₀ ok i = (i ≤ r) × (ok ≡ allBelow i (λ k. leb 1 (lengthOf lengths k) && leb (lengthOf lengths k) mostNameBytes))
 
 abbrev μ-loop : tie.MeasureT-loop
 μ-loop r lengths ok₀ i₀ ok i = r - i
@@ -19,15 +20,6 @@ abbrev μ-loop : tie.MeasureT-loop
 loop-holds : tie.Need-loop-holds Inv-loop μ-loop
 unfolding allBelow
 loop-holds c = (omega arith, refl)
-
-array-read-len : tie.Need-array-read-len Inv-loop μ-loop
-array-read-len c = omega arith
-
-add-i : tie.Need-add-i Inv-loop μ-loop
-add-i c = omega arith
-
-loop-less : tie.Need-loop-less Inv-loop μ-loop
-loop-less c = omega arith
 
 loop-again : tie.Need-loop-again Inv-loop μ-loop
 loop-again c = (omega arith, all-step _ _ (c .before .loop .inv .1) refl)
@@ -39,4 +31,5 @@ returns c = all-done _ (c .before .loop .i) _ (omega arith) (c .before .loop .in
 pub lengths-ok-spec : {M : Type 1} → statement M
 lengths-ok-spec =
     tie.close
-    (tie.spec Inv-loop μ-loop loop-holds array-read-len add-i loop-less loop-again returns)
+    (tie.spec
+    Inv-loop μ-loop loop-holds (λ c. omega arith) (λ c. omega arith) (λ c. omega arith) (λ c. omega arith) loop-again returns)

@@ -1,43 +1,44 @@
 -- The loop's invariant: `other` is where the name of resource `j` begins, and `ok` says whether the name differs from those below `j`.
-use Prim.Native.Nat.{_≤_, _-_}
+use Prim.Native.Nat.{_-_}
 use mathlib.Core.Path.{_≡_, refl}
 use native.Mathlib.Omega.{arith}
 use Rattle.folds.specs.Below.{allBelow, sumBelow}
 use Rattle.folds.proofs.Tests.{all-step, all-done}
 use Rattle.folds.proofs.Figures.{sum-step, sum-at}
 use Rattle.plan_rules.specs.Rules.{lengthOf, startOf, differ, nameNew}
+use Rattle.plan_rules.proofs.Laws.{Walked}
 use Rattle.plan_rules.proofs.names.name_is_new.Statement.{statement}
 use Rattle.plan_rules.proofs.names.name_is_new.Tie as tie
 
 abbrev Inv-loop : tie.InvT-loop
 Inv-loop names i at lengths ok₀ other₀ j₀ ok other j =
-    (j ≤ i)
-    × (other ≡ startOf lengths j)
-    × (ok ≡ allBelow j (λ k. differ lengths names i k (startOf lengths i) (startOf lengths k)))
+    Walked i lengths other j (ok ≡ allBelow j (λ k. differ lengths names i k (startOf lengths i) (startOf lengths k)))
 
 abbrev μ-loop : tie.MeasureT-loop
 μ-loop names i at lengths ok₀ other₀ j₀ ok other j = i - j
 
 loop-holds : tie.Need-loop-holds Inv-loop μ-loop
 unfolding allBelow sumBelow
-loop-holds c = (omega arith, refl, refl)
+loop-holds c = record { below = omega arith; start = refl; found = refl }
 
 differs-requires : tie.Need-differs-requires Inv-loop μ-loop
-differs-requires c κs = omega (arith, sum-at _ _ (lengthOf (c .before .before .before .args .t1)) (c .loop-test .taken))
+differs-requires c κs =
+    let at = sum-at _ _ (lengthOf (c .before .before .before .args .t1)) (c .loop-test .taken) in
+    record { one = omega arith; other = omega arith; one-inside = omega arith; other-inside = omega (arith, at) }
 
 add-other : tie.Need-add-other Inv-loop μ-loop
-add-other c = omega (arith, sum-at _ _ (lengthOf (c .before .before .before .before .before .args .t1)) (c .before .before .loop-test .taken))
+add-other c =
+    let t = c .before .before in
+    omega (arith, sum-at _ _ (lengthOf (t .before .before .before .args .t1)) (t .loop-test .taken))
 
 loop-again : tie.Need-loop-again Inv-loop μ-loop
-loop-again c = (
-  omega arith,
-  sum-step _ _ (c .before .before .before .loop .inv .1) (c .wide .ensures .0),
-  all-step _ _ (c .before .before .before .loop .inv .2) (cc),
-)
+loop-again c =
+    let l = c .before .before .before .loop .inv in
+    record { below = omega arith; start = sum-step _ _ (l .start) (c .wide .ensures .0); found = all-step _ _ (l .found) cc }
 
 returns : tie.Need-returns Inv-loop μ-loop
 unfolding nameNew
-returns c = all-done _ (c .before .loop .j) _ (omega arith) (c .before .loop .inv .2)
+returns c = all-done _ (c .before .loop .j) _ (omega arith) (c .before .loop .inv .found)
 
 pub name-is-new-spec : {M : Type 1} → statement M
 name-is-new-spec =

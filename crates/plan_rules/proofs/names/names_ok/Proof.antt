@@ -18,12 +18,14 @@ returns-2 c =
 
 names-differ-requires : tie.Need-names-differ-requires
 names-differ-requires c κs =
-    (c .before .before .before .before .before .before .pre, held (c .before .before .lengths-ok .ensures) (c .before .if2 .left), sym (c .before .before .before .before .total-length .ensures .0) ∙ c .before .before .before .if1 .left)
+    let total = c .before .before .before .before in
+    record { few = total .before .before .pre; ranges = held (c .before .before .lengths-ok .ensures) (c .before .if2 .left); total = sym (total .total-length .ensures .0) ∙ c .before .before .before .if1 .left }
 
 returns-3 : tie.Need-returns-3
 unfolding namesOk
 returns-3 c =
-    simp (← c .before .before .before .before .before .total-length .ensures .0, eq-eqb _ _ (c .before .before .before .before .if1 .left), held (c .before .before .before .lengths-ok .ensures) (c .before .before .if2 .left), ← c .before .bytes-ok .ensures, ← c .names-differ .ensures)
+    let i = c .before .before .before .before in
+    simp (← i .before .total-length .ensures .0, eq-eqb _ _ (i .if1 .left), held (c .before .before .before .lengths-ok .ensures) (c .before .before .if2 .left), ← c .before .bytes-ok .ensures, ← c .names-differ .ensures)
 
 pub names-ok-spec : {M : Type 1} → statement M
 names-ok-spec =

@@ -11,10 +11,12 @@ use Rattle.plan_rules.proofs.names.quad.Tie as tie
 returns : tie.Need-returns
 unfolding number
 returns c =
-    let a = c .before .before .before .before .before .before .before .before .before .args in
+    let third = c .before .before .before .before in
+    let second = third .before .before in
+    let a = second .before .before .before .args in
     let two : getD (a .s .now) (a .at + 1 + 1) 0 ≡ getD (a .s .now) (a .at + 2) 0 = ap (λ (k : ℕ). getD (a .s .now) k 0) (omega arith) in
     let three : getD (a .s .now) (a .at + 1 + 1 + 1) 0 ≡ getD (a .s .now) (a .at + 3) 0 = ap (λ (k : ℕ). getD (a .s .now) k 0) (omega arith) in
-    omega (arith, c .wide4 .ensures, c .before .before .wide3 .ensures, c .before .before .before .before .wide2 .ensures, c .before .before .before .before .before .before .wide .ensures)
+    omega (arith, c .wide4 .ensures, c .before .before .wide3 .ensures, third .wide2 .ensures, second .wide .ensures)
 
 pub quad-spec : {M : Type 1} → statement M
 quad-spec =

@@ -1,5 +1,6 @@
 -- The loop's invariant: `sum` is the sum of the lengths below `i`, and at most 255 for each.
-use Prim.Native.Nat.{_≤_, _-_, _*_}
+use Prim.Native.Nat.{ℕ, _≤_, _-_, _*_}
+use mathlib.Core.List.{List}
 use mathlib.Core.Path.{_≡_, refl}
 use native.Mathlib.Omega.{arith}
 use Rattle.folds.specs.Below.{sumBelow}
@@ -8,21 +9,27 @@ use Rattle.plan_rules.specs.Rules.{lengthOf}
 use Rattle.plan_rules.proofs.names.total_length.Statement.{statement}
 use Rattle.plan_rules.proofs.names.total_length.Tie as tie
 
+record Summed (r : ℕ) (lengths : List ℕ) (total i : ℕ) : Type 0 where
+  below : i ≤ r
+  small : total ≤ i * 255
+  sum : total ≡ sumBelow i (lengthOf lengths)
+
 abbrev Inv-loop : tie.InvT-loop
-Inv-loop r lengths sum₀ i₀ sum i = (i ≤ r) × (sum ≤ i * 255) × (sum ≡ sumBelow i (lengthOf lengths))
+Inv-loop r lengths sum₀ i₀ sum i = Summed r lengths sum i
 
 abbrev μ-loop : tie.MeasureT-loop
 μ-loop r lengths sum₀ i₀ sum i = r - i
 
 loop-holds : tie.Need-loop-holds Inv-loop μ-loop
 unfolding sumBelow
-loop-holds c = (omega arith, omega arith, refl)
+loop-holds c = record { below = omega arith; small = omega arith; sum = refl }
 
 loop-again : tie.Need-loop-again Inv-loop μ-loop
-loop-again c = (omega arith, omega arith, sum-step _ _ (c .before .before .loop .inv .2) (c .wide .ensures .0))
+loop-again c =
+    record { below = omega arith; small = omega (arith, c .wide .ensures .1); sum = sum-step _ _ (c .before .before .loop .inv .sum) (c .wide .ensures .0) }
 
 returns : tie.Need-returns Inv-loop μ-loop
-returns c = (sum-done _ (c .before .loop .i) _ (omega arith) (c .before .loop .inv .2), omega arith)
+returns c = (sum-done _ (c .before .loop .i) _ (omega arith) (c .before .loop .inv .sum), omega arith)
 
 pub total-length-spec : {M : Type 1} → statement M
 total-length-spec =

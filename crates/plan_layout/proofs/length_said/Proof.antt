@@ -1,0 +1,12 @@
+-- The last number of the header.
+use mathlib.Core.Path.{sym, _∙_}
+use borrow.Author.Needs.{needs}
+use Rattle.plan_layout.proofs.Laws.{length-field-said}
+use Rattle.plan_layout.proofs.length_said.Statement.{statement}
+use Rattle.plan_layout.proofs.length_said.Tie as tie
+
+returns : tie.Need-returns
+returns c = c .word-at .ensures .0 ∙ sym (length-field-said _)
+
+pub length-said-spec : {M : Type 1} → statement M
+length-said-spec = tie.close (tie.spec (λ c κs. search needs) returns)
