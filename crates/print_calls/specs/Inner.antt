@@ -1,14 +1,13 @@
 -- What the private functions of this crate give. None of this is a rule of document 01.
-use Prim.Native.Nat.{ℕ, _≤_, _+_}
+use Prim.Native.Nat.{ℕ}
 use mathlib.Core.List.{List}
 use Rattle.machine_state.specs.declared.State.{State}
-use Rattle.print_text.specs.Text.{Put}
+use Rattle.print_text.specs.Text.{PutIn}
 use Rattle.machine.specs.Promise.{callOf, AfterBytes}
 use Rattle.print_calls.specs.declared.Step.{Step}
 use Rattle.print_calls.specs.Calls.{callLine}
 
 -- three bytes put their line at `at`, and were made on the state
 pub record Stepped (f : List ℕ) (s : State) (letter tag q : ℕ) (before now : List ℕ) (at : ℕ) (r : Step) : Type 0 where
-  pub put : Put before now at (callLine f s letter tag q) (r .end)
-  pub room : r .end ≤ at + 96
+  pub line : PutIn before now at 96 (callLine f s letter tag q) (r .end)
   pub after : AfterBytes f s (callOf letter tag q) (r .state)

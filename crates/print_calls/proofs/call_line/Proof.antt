@@ -22,7 +22,7 @@ returns-2 c =
     let i = h .before .before .before .before .before .before .before .before .before in
     let a = i .before .before .before .before .before .before .before .before .before .before .before .args in
     let text = callLine (a .file .now) (a .state) (a .letter) (a .tag) (a .resource) in
-    let e = none-before (i .before .state-code .ensures) text (a .out .now) (i .if1 .left) (rw (front-part (p .put)) at (h .hand-over .ensures)) in
+    let e = none-before (i .before .state-code .ensures) text (a .out .now) (i .if1 .left) (rw (front-part (p .line .put)) at (h .hand-over .ensures)) in
     (e .0, (e .1, (λ z. absurd (c .if2 .taken z), λ d. refl)))
 
 returns-3 : tie.Need-returns-3
@@ -32,7 +32,7 @@ returns-3 c =
     let i = h .before .before .before .before .before .before .before .before .before in
     let a = i .before .before .before .before .before .before .before .before .before .before .before .args in
     let text = callLine (a .file .now) (a .state) (a .letter) (a .tag) (a .resource) in
-    let e = none-before (i .before .state-code .ensures) text (a .out .now) (i .if1 .left) (rw (front-part (p .put)) at (h .hand-over .ensures)) in
+    let e = none-before (i .before .state-code .ensures) text (a .out .now) (i .if1 .left) (rw (front-part (p .line .put)) at (h .hand-over .ensures)) in
     (e .0, (e .1, (λ z. p .after, λ d. absurd (d (c .if2 .left)))))
 
 pub call-line-spec : {M : Type 1} → statement M
