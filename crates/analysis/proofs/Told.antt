@@ -18,7 +18,7 @@ use Rattle.plan.proofs.Laws.{accepted-checked}
 use Rattle.analysis_equations.specs.HoldTimes.{holdAt}
 use Rattle.analysis_equations.specs.Blocking.{globalCount}
 use Rattle.analysis_equations.specs.Requirement.{asks, met, admitted}
-use Rattle.analysis_equations.specs.Questions.{taskNumber, sharingCode, useCode, processorCode, requirementCode}
+use Rattle.analysis_equations.specs.Questions.{taskNumber, processorCode, requirementCode}
 use Rattle.analysis_equations.proofs.Laws.{asks-not, asks-some}
 use Rattle.analysis_hold_times.specs.Figures.{Figures}
 use Rattle.analysis_requirements.specs.declared.Requirement.{Requirement}
@@ -29,7 +29,7 @@ use Rattle.analysis.specs.declared.RequirementAnswer.{RequirementAnswer}
 use Rattle.analysis.specs.declared.RequirementAnswer.the-variants as requirements
 use Rattle.analysis.specs.declared.AdmissionAnswer.{AdmissionAnswer}
 use Rattle.analysis.specs.declared.AdmissionAnswer.the-variants as admissions
-use Rattle.analysis.specs.Answers.{afterReading, figure, figureTold, shareCode, requirementGiven, requirementValues, requirementTold, signedAnswered, admissionAnswer, admissionTold, holdTimes}
+use Rattle.analysis.specs.Answers.{afterReading, figure, figureTold, shareRefusal, requirementGiven, requirementValues, requirementTold, signedAnswered, admissionAnswer, admissionTold, holdTimes}
 
 -- a file of bytes whose plan is not refused
 pub checked-file : (f : List ℕ) → refusal f ≡ 0 → ((i : ℕ) → getD f i 0 < 256) → Checked f
@@ -96,22 +96,9 @@ module _ (p : Plan) where
     ltb-true q (p .resources) (code-zero (ltb q (p .resources)) 0 11 (code-next (ltb k (p .processors)) _ 17 e)),
   )
 
-  -- the same for the task of a tag and a resource
-  pub no-task : (tag q : ℕ) → p .tasks ≤ taskNumber p tag → 11 ≡ useCode p tag q
-  unfolding useCode
-  no-task tag q h = rw (le-ltb (taskNumber p tag) (p .tasks) h)
-
-  pub no-resource-used : (tag q : ℕ) → taskNumber p tag < p .tasks → p .resources ≤ q → 12 ≡ useCode p tag q
-  unfolding useCode
-  no-resource-used tag q l h = rw (lt-ltb (taskNumber p tag) (p .tasks) l, le-ltb q (p .resources) h)
-
-  pub use-asked : (tag q : ℕ) → taskNumber p tag < p .tasks → q < p .resources → useCode p tag q ≡ sharingCode p (taskNumber p tag) q
-  unfolding useCode
-  use-asked tag q l h = rw (lt-ltb (taskNumber p tag) (p .tasks) l, lt-ltb q (p .resources) h)
-
 -- what a question about shares that is not refused tells
-pub share-clear : (f : List ℕ) (k q : ℕ) → shareCode f k q ≡ 0 → ((i : ℕ) → getD f i 0 < 256) → (Checked f) × (k < planOf f .processors) × (q < planOf f .resources)
-unfolding shareCode
+pub share-clear : (f : List ℕ) (k q : ℕ) → shareRefusal f k q ≡ 0 → ((i : ℕ) → getD f i 0 < 256) → (Checked f) × (k < planOf f .processors) × (q < planOf f .resources)
+unfolding shareRefusal
 share-clear f k q e b =
     let r = reading-clear f (processorCode (planOf f) k q) e in
     let there = processor-clear (planOf f) k q (r .1) in

@@ -23,22 +23,22 @@ use Rattle.analysis.specs.declared.AdmissionAnswer.{AdmissionAnswer}
 use Rattle.analysis.specs.declared.AdmissionAnswer.the-variants as admissions
 use Rattle.analysis.specs.declared.HoldTimes.{HoldTimes}
 
--- "Each operation given a plan file first gives 1 to 9 as reading does"; then the number k of its own
+-- "Each operation given a plan file first gives 1 to 9 as reading does"; then the number of its own
 unfoldable pub afterReading : List ℕ → ℕ → ℕ
-afterReading f k = cond (eqb (refusal f) 0) k (refusal f)
+afterReading f code = cond (eqb (refusal f) 0) code (refusal f)
 
--- a figure, or the refusal k where that is not 0: "No figure is given."
+-- a figure, or the refusal where that is not 0: "No figure is given."
 unfoldable pub figure : ℕ → ℕ → Figure
-figure k v = cond (eqb k 0) (figures.Given v) (figures.Refused k)
+figure code v = cond (eqb code 0) (figures.Given v) (figures.Refused code)
 
 -- what a figure's answer tells
 abbrev pub figureTold : Figure → Outcome
 figureTold (figures.Given v) = record { number = 0; values = v ∷ [] }
-figureTold (figures.Refused k) = record { number = k; values = [] }
+figureTold (figures.Refused code) = record { number = code; values = [] }
 
 -- the hold time of a resource by the task with a tag
-unfoldable pub holdCode : List ℕ → ℕ → ℕ → ℕ
-holdCode f tag q = afterReading f (useCode (planOf f) tag q)
+unfoldable pub holdRefusal : List ℕ → ℕ → ℕ → ℕ
+holdRefusal f tag q = afterReading f (useCode (planOf f) tag q)
 
 -- and the figure where none is refused
 abbrev pub holdFigure : List ℕ → ℕ → ℕ → ℕ
@@ -49,20 +49,20 @@ abbrev pub longestFigure : List ℕ → ℕ → ℕ → ℕ
 longestFigure f tag q = longestWait (planOf f) (taskNumber (planOf f) tag) q
 
 -- the budget and the wait time of a processor on a resource
-unfoldable pub shareCode : List ℕ → ℕ → ℕ → ℕ
-shareCode f k q = afterReading f (processorCode (planOf f) k q)
+unfoldable pub shareRefusal : List ℕ → ℕ → ℕ → ℕ
+shareRefusal f k q = afterReading f (processorCode (planOf f) k q)
 
 -- the requirement of the task with a tag
-unfoldable pub requirementNumber : List ℕ → ℕ → ℕ
-requirementNumber f tag = afterReading f (requirementCode (planOf f) tag)
+unfoldable pub requirementRefusal : List ℕ → ℕ → ℕ
+requirementRefusal f tag = afterReading f (requirementCode (planOf f) tag)
 
 -- and its figures where none is refused
 abbrev pub requirementFigures : List ℕ → ℕ → Requirement
 requirementFigures f tag = requirementOf (planOf f) (taskNumber (planOf f) tag)
 
--- a requirement, or the refusal k where that is not 0
+-- a requirement, or the refusal where that is not 0
 unfoldable pub requirementGiven : ℕ → Requirement → RequirementAnswer
-requirementGiven k r = cond (eqb k 0) (requirements.Found r) (requirements.Refused k)
+requirementGiven code r = cond (eqb code 0) (requirements.Found r) (requirements.Refused code)
 
 -- a number and values, some of which may be negative
 pub record SignedTold : Type 0 where
@@ -77,11 +77,11 @@ requirementValues r =
 -- what a requirement's answer tells
 abbrev pub requirementTold : RequirementAnswer → SignedTold
 requirementTold (requirements.Found r) = record { number = 0; values = requirementValues r }
-requirementTold (requirements.Refused k) = record { number = k; values = [] }
+requirementTold (requirements.Refused code) = record { number = code; values = [] }
 
--- the refusal k with no values, or the values where k is 0
+-- the refusal with no values, or the values where it is 0
 abbrev pub signedAnswered : ℕ → List ℤ → SignedTold
-signedAnswered k values = record { number = k; values = cond (eqb k 0) values [] }
+signedAnswered code values = record { number = code; values = cond (eqb code 0) values [] }
 
 -- "the question of admission refuse[s] nothing further"
 unfoldable pub admissionAnswer : List ℕ → AdmissionAnswer
@@ -90,7 +90,7 @@ admissionAnswer f = cond (eqb (refusal f) 0) (admissions.Decided (admitted (plan
 -- 1 for admitted
 abbrev pub admissionTold : AdmissionAnswer → Outcome
 admissionTold (admissions.Decided b) = record { number = 0; values = cond b 1 0 ∷ [] }
-admissionTold (admissions.Refused k) = record { number = k; values = [] }
+admissionTold (admissions.Refused code) = record { number = code; values = [] }
 
 -- all hold times of a plan at once: that of resource q by task i stands at i × 16 + q, 0 where the question for it would be
 -- refused, or there is no such task; all are 0 where the plan is refused

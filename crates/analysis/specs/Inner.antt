@@ -7,7 +7,8 @@ use Rattle.plan_reading.specs.Plan.{planOf}
 use Rattle.analysis_equations.specs.Sharing.{uses, global}
 use Rattle.analysis_equations.specs.Questions.{taskNumber}
 use Rattle.analysis_hold_times.specs.Figures.{Known}
-use Rattle.analysis.specs.declared.User.{User}
+use Rattle.analysis_hold_times.specs.declared.User.{User}
+use Rattle.analysis.specs.Answers.{holdRefusal}
 
 -- task i of a checked plan uses q, which is global; the table is that of the plan
 pub record Uses (f : List ℕ) (tag q : ℕ) (figures : List ℕ) (i : ℕ) : Type 0 where
@@ -18,7 +19,7 @@ pub record Uses (f : List ℕ) (tag q : ℕ) (figures : List ℕ) (i : ℕ) : Ty
   pub used : uses (planOf f) i q ≡ true
   pub shared : global (planOf f) q ≡ true
 
--- the number of a question about a task and a resource; where that is 0, who is asked about
-pub record Found (f : List ℕ) (tag q number : ℕ) (figures : List ℕ) (r : User) : Type 0 where
-  pub code : r .code ≡ number
+-- the refusal of a question about a task and a resource; where that is 0, who is asked about
+pub record Found (f : List ℕ) (tag q : ℕ) (figures : List ℕ) (r : User) : Type 0 where
+  pub code : r .code ≡ holdRefusal f tag q
   pub user : r .code ≡ 0 → Uses f tag q figures (r .task)

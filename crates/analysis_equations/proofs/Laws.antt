@@ -4,20 +4,21 @@ use mathlib.Core.Bool.{Bool, true, false, cond, _&&_, not, true≢false}
 use mathlib.Core.Path.{_≡_, refl, sym, _∙_}
 use native.Mathlib.Omega.{arith}
 use native.Mathlib.Nat.{mul-le-mul, suc-mul, mul-suc, div-zero, div-lt-iff-lt-mul, le-of-suc-le-suc, le-antisymm}
-use borrow.Author.Tests.{ltb-true, lt-ltb, le-ltb, leb-true, eqb-true, eq-eqb, ne-eqb}
+use borrow.Author.Tests.{ltb-true, lt-ltb, le-ltb, leb-true, eqb-true, eq-eqb, ne-eqb, not-false}
 use lib.Dec.{eqb, ltb}
 use lib.Signed.{mag}
 use Rattle.folds.specs.Below.{anyBelow, sumBelow, maxBelow}
-use Rattle.folds.proofs.Tests.{cond-both, and-parts, is-not-true, same-test, any-at, any-out}
+use Rattle.folds.proofs.Tests.{cond-both, and-parts, is-not-true, same-test, any-at, any-out, code-zero, code-next}
 use Rattle.folds.proofs.Figures.{sum-bound, count-bound, sum-at, sum-same, max-same}
 use Rattle.folds.proofs.SignedLaws.{sub-mag, less-mag, greatest-mag}
 use Rattle.folds.proofs.Ranges.{cond-bound, max-where-bound, sum-where-bound, max-where-at, any-count, any-max, count-other}
 use Rattle.plan_reading.specs.Plan.{Plan, TaskFits, Valid}
 use Rattle.analysis_equations.specs.Sharing.{processorOf, priorityOf, sectionOn, uses, usedOn, global, globalBy, higher, lower}
-use Rattle.analysis_equations.specs.HoldTimes.{longestOn, longestOff, interference, holdTime, holdAt, userOn, budget, waitTime}
+use Rattle.analysis_equations.specs.HoldTimes.{longestOn, longestOff, interference, holdTime, holdAt, userOn, fellow, budget, waitTime}
 use Rattle.analysis_equations.specs.Blocking.{ceilDiv, globalCount, countOn, ceiling, blocks, longestLocal, blocking1, longestGlobal, blocking2, fellowHolds, waitingOn, waitingSide}
 use Rattle.analysis_equations.specs.Requirement.{demand, left, tolerance, slack, asks}
-use Rattle.analysis_equations.specs.Questions.{sharingCode}
+use Rattle.analysis_equations.specs.Questions.{taskNumber, sharingCode, useCode}
+use Rattle.analysis_equations.specs.Bounds.{mostInterference, mostHold, mostBudget, mostWait, mostFellowHolds, mostTurns, mostWaiting, mostSide, mostBlocking1, mostBlocking2, mostPeriod, mostDemandOfOne, mostDemand}
 
 -- a quotient rounded up is at most the number divided
 pub ceil-bound : (a b : ℕ) → ceilDiv a b ≤ a
@@ -106,6 +107,68 @@ module _ (p : Plan) where
       uses-out i q _ u
       (λ s l t r. sym (any-count (p .sections) (globalBy p i)) ∙ any-at (p .sections) s (globalBy p i) l (rw (eq-eqb (p .section s .task) i t, r) g))
 
+  -- 11, 12, or whether the task with a tag shares the resource
+  pub unknown-tag : (tag q : ℕ) → p .tasks ≤ taskNumber p tag → 11 ≡ useCode p tag q
+  unfolding useCode
+  unknown-tag tag q h = rw (le-ltb (taskNumber p tag) (p .tasks) h)
+
+  pub unknown-resource : (tag q : ℕ) → taskNumber p tag < p .tasks → p .resources ≤ q → 12 ≡ useCode p tag q
+  unfolding useCode
+  unknown-resource tag q l h = rw (lt-ltb (taskNumber p tag) (p .tasks) l, le-ltb q (p .resources) h)
+
+  pub use-asked : (tag q : ℕ) → taskNumber p tag < p .tasks → q < p .resources → useCode p tag q ≡ sharingCode p (taskNumber p tag) q
+  unfolding useCode
+  use-asked tag q l h = rw (lt-ltb (taskNumber p tag) (p .tasks) l, lt-ltb q (p .resources) h)
+
+  pub use-told : (tag q : ℕ) {i code : ℕ} → i ≡ taskNumber p tag → i < p .tasks → q < p .resources → code ≡ sharingCode p i q → code ≡ useCode p tag q
+  use-told tag q e l m s = s ∙ rw e (sym (use-asked tag q (rw e at l) m))
+
+  -- task i uses q, and q is global
+  pub record Sharing (i q : ℕ) : Type 0 where
+    pub task : i < p .tasks
+    pub resource : q < p .resources
+    pub used : uses p i q ≡ true
+    pub shared : global p q ≡ true
+
+  -- a question of which 11 to 14 are not told is about one of whom this holds
+  pub use-clear : (tag q : ℕ) → useCode p tag q ≡ 0 → Sharing (taskNumber p tag) q
+  unfolding useCode sharingCode
+  use-clear tag q e =
+      let i : ℕ = taskNumber p tag in
+      let known = code-next (ltb i (p .tasks)) _ _ e in
+      let there = code-next (ltb q (p .resources)) _ _ known in
+      record {
+        task = ltb-true i (p .tasks) (code-zero (ltb i (p .tasks)) _ _ e);
+        resource = ltb-true q (p .resources) (code-zero (ltb q (p .resources)) _ _ known);
+        used = code-zero (uses p i q) _ _ there;
+        shared = code-zero (global p q) _ _ (code-next (uses p i q) _ _ there);
+      }
+
+  -- the hold time of a user of a global resource, and so of a fellow
+  pub hold-shared : (i q : ℕ) → global p q ≡ true → uses p i q ≡ true → holdAt p i q ≡ holdTime p i q
+  unfolding holdAt
+  hold-shared i q g u = rw (g, u)
+
+  pub fellow-hold : (i q j : ℕ) → global p q ≡ true → cond (fellow p i q j) (holdAt p j q) 0 ≡ cond (fellow p i q j) (holdTime p j q) 0
+  unfolding holdAt
+  fellow-hold i q j g = go (eqb (processorOf p j) (processorOf p i)) (uses p j q) (not (eqb j i))
+    where
+      go : (a u c : Bool) → cond ((a && u) && c) (cond (global p q && u) (holdTime p j q) 0) 0 ≡ cond ((a && u) && c) (holdTime p j q) 0
+      go true true c = rw g
+      go true false c = refl
+      go false u c = refl
+
+  -- a hold time is at most the budget of its processor
+  pub hold-within : (i q : ℕ) → i < p .tasks → holdAt p i q ≤ budget p (processorOf p i) q
+  unfolding holdAt
+  hold-within i q l = cond-bound (global p q && uses p i q) (holdTime p i q) _ (λ b. let a = and-parts (global p q) (uses p i q) b in hold-budget i q l (a .1) (a .0))
+
+  -- somebody uses a global resource
+  pub global-out : (q : ℕ) (C : Type 0) → global p q ≡ true → ((i : ℕ) → i < p .tasks → uses p i q ≡ true → C) → C
+  unfolding global
+  global-out q C g h =
+      count-other (p .processors) 0 (λ k. usedOn p k q) C (leb-true 2 _ g) (λ k l d u. used-out k q C u (λ i m e t. h i m t))
+
   -- a task asks where it has a global section
   pub asks-not : (i : ℕ) {n : ℕ} → n ≡ globalCount p i → n ≡ 0 → asks p i ≡ false
   unfolding asks
@@ -180,12 +243,20 @@ module _ (p : Plan) (v : Valid p) where
       go true false e = refl
       go false u e = refl
 
-  pub interference-high : (i q : ℕ) → interference p i q ≤ 64000
+  -- a resource is global exactly where some task has a hold time of it
+  pub global-not : (q : ℕ) → ((i : ℕ) → i < p .tasks → holdAt p i q ≡ 0) → global p q ≡ false
+  global-not q none =
+      is-not-true (global p q) (λ g. global-out p q ⊥ g (λ i l u. omega (arith, hold-low i q u, hold-shared p i q g u, none i l)))
+
+  pub global-at : (i q : ℕ) → (holdAt p i q ≡ 0 → ⊥) → global p q ≡ true
+  global-at i q d = and-parts (global p q) (uses p i q) (not-false _ (sym (hold-zero i q) ∙ ne-eqb (holdAt p i q) 0 d)) .0
+
+  pub interference-high : (i q : ℕ) → interference p i q ≤ mostInterference
   unfolding interference
   interference-high i q =
       omega (arith, v .tasks, sum-where-bound (p .tasks) 1000 (higher p i) (λ j. longestOff p j q) (λ j l t. off-high j q))
 
-  pub hold-high : (i q : ℕ) → holdTime p i q ≤ 65000
+  pub hold-high : (i q : ℕ) → holdTime p i q ≤ mostHold
   unfolding holdTime
   hold-high i q = omega (arith, longest-high i q, interference-high i q)
 
@@ -201,10 +272,10 @@ module _ (p : Plan) (v : Valid p) where
       go true false e f = eq-eqb (budget p k q) 0 (budget-unused p k q f)
       go false u e f = eq-eqb (budget p k q) 0 (budget-local p k q e)
 
-  pub budget-high : (k q : ℕ) → budget p k q ≤ 65000
+  pub budget-high : (k q : ℕ) → budget p k q ≤ mostBudget
   unfolding budget
   budget-high k q =
-      cond-bound (global p q) _ 65000 (λ g. max-where-bound (p .tasks) 65000 (userOn p k q) (λ i. holdTime p i q) (λ i l t. hold-high i q))
+      cond-bound (global p q) _ mostBudget (λ g. max-where-bound (p .tasks) mostBudget (userOn p k q) (λ i. holdTime p i q) (λ i l t. omega (arith, hold-high i q)))
 
   -- a processor waits at least a tick for a global resource
   pub wait-low : (k q : ℕ) → global p q ≡ true → 1 ≤ waitTime p k q
@@ -213,19 +284,19 @@ module _ (p : Plan) (v : Valid p) where
       count-other (p .processors) k (λ l. usedOn p l q) (1 ≤ waitTime p k q) (leb-true 2 _ g)
       (λ l h d u. omega (arith, budget-low l q u g, wait-at p k l q h d))
 
-  pub wait-high : (k q : ℕ) → waitTime p k q ≤ 520000
+  pub wait-high : (k q : ℕ) → waitTime p k q ≤ mostWait
   unfolding waitTime
   wait-high k q =
-      omega (arith, v .processors, sum-bound (p .processors) 65000 (λ l. cond (eqb l k) 0 (budget p l q)) (λ l h. other (eqb l k) (budget p l q) (budget-high l q)))
+      omega (arith, v .processors, sum-bound (p .processors) mostBudget (λ l. cond (eqb l k) 0 (budget p l q)) (λ l h. other (eqb l k) (budget p l q) (budget-high l q)))
     where
-      other : (b : Bool) (x : ℕ) → x ≤ 65000 → cond b 0 x ≤ 65000
+      other : (b : Bool) (x : ℕ) → x ≤ mostBudget → cond b 0 x ≤ mostBudget
       other true x h = omega arith
       other false x h = h
 
   -- the sum s of a hold times and a + 1 wait times: a limit has 32 bits
-  pub limit-high : (s a k q : ℕ) → a ≤ 64 → s ≤ a * 65000 → s + (a + 1) * waitTime p k q < 4294967296
+  pub limit-high : (s a k q : ℕ) → a ≤ 64 → s ≤ a * mostHold → s + (a + 1) * waitTime p k q < 4294967296
   limit-high s a k q h l =
-      let w : (a + 1) * waitTime p k q ≤ 65 * 520000 = mul-le-mul {n₁ = a + 1} {n₂ = 65} (omega arith) (wait-high k q) in omega (arith, w)
+      let w : (a + 1) * waitTime p k q ≤ 65 * mostWait = mul-le-mul {n₁ = a + 1} {n₂ = 65} (omega arith) (wait-high k q) in omega (arith, w)
 
   -- who uses what, told by the sections alone
   pub used-section : (k q : ℕ) → usedOn p k q ≡ anyBelow (p .sections) (λ s. eqb (processorOf p (p .section s .task)) k && eqb (p .section s .resource) q)
@@ -247,11 +318,7 @@ module _ (p : Plan) (v : Valid p) where
       is-not-true (uses p i q) (λ u. uses-out p i q ⊥ u (λ s l t r. omega (arith, v .section-fits s l .resource)))
 
   pub past-global : (q : ℕ) → p .resources ≤ q → global p q ≡ false
-  unfolding global
-  past-global q h =
-      is-not-true (global p q)
-      (λ g. count-other (p .processors) 0 (λ k. usedOn p k q) ⊥ (leb-true 2 _ g)
-      (λ k l d u. used-out p k q ⊥ u (λ i m e t. true≢false (sym t ∙ past-uses i q h))))
+  past-global q h = is-not-true (global p q) (λ g. global-out p q ⊥ g (λ i l u. true≢false (sym u ∙ past-uses i q h)))
 
   -- counts, blocking and the waiting side
   pub count-on-high : (i q : ℕ) → countOn p i q ≤ 255
@@ -262,35 +329,35 @@ module _ (p : Plan) (v : Valid p) where
   unfolding globalCount
   count-high i = omega (arith, v .sections, count-bound (p .sections) (globalBy p i))
 
-  pub blocking1-high : (i : ℕ) → blocking1 p i ≤ 256000
+  pub blocking1-high : (i : ℕ) → blocking1 p i ≤ mostBlocking1
   unfolding blocking1
   blocking1-high i = let c : globalCount p i + 1 ≤ 256 = omega (arith, count-high i) in mul-le-mul c (local-high i)
 
-  pub blocking2-high : (i : ℕ) → blocking2 p i ≤ 16384000
+  pub blocking2-high : (i : ℕ) → blocking2 p i ≤ mostBlocking2
   unfolding blocking2
   blocking2-high i =
-      omega (arith, v .tasks, sum-where-bound (p .tasks) 256000 (lower p i) (λ j. min (globalCount p i + 1) (globalCount p j) * longestGlobal p j) (λ j l t. one j))
+      omega (arith, v .tasks, sum-where-bound (p .tasks) mostBlocking1 (lower p i) (λ j. min (globalCount p i + 1) (globalCount p j) * longestGlobal p j) (λ j l t. one j))
     where
-      one : (j : ℕ) → min (globalCount p i + 1) (globalCount p j) * longestGlobal p j ≤ 256000
+      one : (j : ℕ) → min (globalCount p i + 1) (globalCount p j) * longestGlobal p j ≤ mostBlocking1
       one j =
           let c : min (globalCount p i + 1) (globalCount p j) ≤ 256 = omega (arith, count-high i) in
           mul-le-mul c (global-high j)
 
-  pub fellow-high : (i q : ℕ) → fellowHolds p i q ≤ 4160000
+  pub fellow-high : (i q : ℕ) → fellowHolds p i q ≤ mostFellowHolds
   unfolding fellowHolds
   fellow-high i q =
-      omega (arith, v .tasks, sum-where-bound (p .tasks) 65000 (λ j. userOn p (processorOf p i) q j && not (eqb j i)) (λ j. holdTime p j q) (λ j l t. hold-high j q))
+      omega (arith, v .tasks, sum-where-bound (p .tasks) mostHold (λ j. userOn p (processorOf p i) q j && not (eqb j i)) (λ j. holdTime p j q) (λ j l t. hold-high j q))
 
-  pub waiting-high : (i q : ℕ) → waitingOn p i q ≤ 255 * 8320000 * 520000
+  pub waiting-high : (i q : ℕ) → waitingOn p i q ≤ mostWaiting
   unfolding waitingOn
   waiting-high i q =
-      let c : ceilDiv (2 * fellowHolds p i q) (budget p (processorOf p i) q) ≤ 8320000 = omega (arith, fellow-high i q, ceil-bound (2 * fellowHolds p i q) (budget p (processorOf p i) q)) in
+      let c : ceilDiv (2 * fellowHolds p i q) (budget p (processorOf p i) q) ≤ mostTurns = omega (arith, fellow-high i q, ceil-bound (2 * fellowHolds p i q) (budget p (processorOf p i) q)) in
       mul-le-mul (mul-le-mul (count-on-high i q) c) (wait-high (processorOf p i) q)
 
-  pub side-high : (i : ℕ) → waitingSide p i ≤ 16 * (255 * 8320000 * 520000)
+  pub side-high : (i : ℕ) → waitingSide p i ≤ mostSide
   unfolding waitingSide
   side-high i =
-      omega (arith, v .resources, sum-where-bound (p .resources) (255 * 8320000 * 520000) (λ q. global p q && uses p i q) (waitingOn p i) (λ q l t. waiting-high i q))
+      omega (arith, v .resources, sum-where-bound (p .resources) mostWaiting (λ q. global p q && uses p i q) (waitingOn p i) (λ q l t. waiting-high i q))
 
   -- the ceiling told by the sections alone: for each section on q, its task's priority
   pub ceiling-section : (q : ℕ) → ceiling p q ≡ maxBelow (p .sections) (λ s. cond (eqb (p .section s .resource) q) (priorityOf p (p .section s .task)) 0)
@@ -303,15 +370,15 @@ module _ (p : Plan) (v : Valid p) where
       (λ s l t. max-where-at (p .tasks) (p .section s .task) (λ i. uses p i q) (priorityOf p) (v .section-fits s l .task) (rw (← eqb-true (p .section s .resource) q t) (uses-at p s l))))
 
   -- tolerance and slack
-  pub demand-high : (i t : ℕ) → t < 65536 → demand p i t ≤ 64 * (65535 * 65535)
+  pub demand-high : (i t : ℕ) → t < 65536 → demand p i t ≤ mostDemand
   unfolding demand
   demand-high i t h =
-      omega (arith, v .tasks, sum-where-bound (p .tasks) (65535 * 65535) (higher p i) (λ j. ceilDiv t (p .task j .period) * p .task j .execution) (λ j l e. one j (v .task-fits j l)))
+      omega (arith, v .tasks, sum-where-bound (p .tasks) mostDemandOfOne (higher p i) (λ j. ceilDiv t (p .task j .period) * p .task j .execution) (λ j l e. one j (v .task-fits j l)))
     where
-      one : (j : ℕ) → TaskFits (p .processors) (p .task j) → ceilDiv t (p .task j .period) * p .task j .execution ≤ 65535 * 65535
+      one : (j : ℕ) → TaskFits (p .processors) (p .task j) → ceilDiv t (p .task j .period) * p .task j .execution ≤ mostDemandOfOne
       one j f =
-          let c : ceilDiv t (p .task j .period) ≤ 65535 = omega (arith, ceil-bound t (p .task j .period)) in
-          let x : p .task j .execution ≤ 65535 = omega (arith, f .within, f .period) in
+          let c : ceilDiv t (p .task j .period) ≤ mostPeriod = omega (arith, ceil-bound t (p .task j .period)) in
+          let x : p .task j .execution ≤ mostPeriod = omega (arith, f .within, f .period) in
           mul-le-mul c x
 
   pub left-mag : (i t : ℕ) → i < p .tasks → t < 65536 → mag (left p i t) < 1099511627776

@@ -3,3 +3,4 @@ pub mod HoldTimes
 pub mod Blocking
 pub mod Requirement
 pub mod Questions
+pub mod Bounds

@@ -6,3 +6,4 @@ pub mod Tops
 pub mod Holding
 pub mod Tables
 pub mod Waits
+pub mod Counting

@@ -19,28 +19,23 @@ use Rattle.analysis_equations.specs.Sharing.{higher}
 use Rattle.analysis_equations.specs.Blocking.{ceilDiv}
 use Rattle.analysis_equations.specs.Requirement.{demand, left, tolerance}
 use Rattle.analysis_equations.proofs.Laws.{ceil-bound}
-use Rattle.analysis_requirements.specs.Figures.{demandOf}
-
--- the first m of the periods and times are in their ranges
-abbrev pub Fit : List ℕ → List ℕ → ℕ → Type 0
-Fit periods times m =
-    (k : ℕ) → k < m → (1 ≤ getD periods k 0) × (getD periods k 0 < 65536) × (getD times k 0 < 65536)
+use Rattle.analysis_equations.specs.Bounds.{mostPeriod, mostDemandOfOne, mostDemand}
+use Rattle.analysis_requirements.specs.Inner.{Above, Timed, Scanned, demandOf}
 
 -- up to a time of 16 bits: the demand of one task, and of at most 64
-term-high : (t v u : ℕ) → t < 65536 → u < 65536 → ceilDiv t v * u ≤ 4294836225
+term-high : (t v u : ℕ) → t ≤ mostPeriod → u ≤ mostPeriod → ceilDiv t v * u ≤ mostDemandOfOne
 term-high t v u p q =
-    let c : ceilDiv t v ≤ 65535 = omega (arith, ceil-bound t v) in
-    let x : u ≤ 65535 = omega arith in
-    mul-le-mul c x
+    let c : ceilDiv t v ≤ mostPeriod = omega (arith, ceil-bound t v) in
+    mul-le-mul c q
 
-module _ (periods times : List ℕ) (m t : ℕ) (h : m ≤ 64) (p : t < 65536) (f : Fit periods times m) where
-  pub demand-one : (k : ℕ) → k < m → ceilDiv t (getD periods k 0) * getD times k 0 ≤ 4294836225
-  demand-one k l = term-high t (getD periods k 0) (getD times k 0) p (f k l .2)
+module _ (periods times : List ℕ) (m t : ℕ) (f : Timed periods times m) (p : t ≤ mostPeriod) where
+  pub demand-one : (k : ℕ) → k < m → ceilDiv t (getD periods k 0) * getD times k 0 ≤ mostDemandOfOne
+  demand-one k l = term-high t (getD periods k 0) (getD times k 0) p (f .time k l)
 
-  pub demand-high : (k : ℕ) → k ≤ m → demandOf periods times k t ≤ 64 * 4294836225
+  pub demand-high : (k : ℕ) → k ≤ m → demandOf periods times k t ≤ mostDemand
   unfolding demandOf
   demand-high k l =
-      omega (arith, sum-bound k 4294836225 (λ j. ceilDiv t (getD periods j 0) * getD times j 0) (λ j lt. demand-one j (omega arith)))
+      omega (arith, f .few, sum-bound k mostDemandOfOne (λ j. ceilDiv t (getD periods j 0) * getD times j 0) (λ j lt. demand-one j (omega arith)))
 
 -- what `own` and that demand leave of a time t + 1
 abbrev pub leftOf : List ℕ → List ℕ → ℕ → ℕ → ℕ → ℤ
@@ -64,15 +59,9 @@ module _ (periods times : List ℕ) (m own : ℕ) where
   pub left-done : (n t : ℕ) {z : ℤ} → t ≡ n → z ≡ greatestTo (t - 1) (leftOf periods times m own) → z ≡ greatestTo (n - 1) (leftOf periods times m own)
   left-done n t e p = rw (← e, p)
 
--- of the tasks below n, those above task i: how many, their periods and their execution times
-pub record Above (p : Plan) (i n m : ℕ) (v u : List ℕ) : Type 0 where
-  pub count : m ≡ countBelow n (higher p i)
-  pub periods : v ≡ packedBelow n (higher p i) (λ j. p .task j .period) (replicate 64 0)
-  pub times : u ≡ packedBelow n (higher p i) (λ j. p .task j .execution) (replicate 64 0)
-
 pub above-none : (p : Plan) (i : ℕ) → Above p i 0 0 (replicate 64 0) (replicate 64 0)
 unfolding countBelow packedBelow
-above-none p i = record { count = refl; periods = refl; times = refl }
+above-none p i = record { count = refl; period = refl; time = refl }
 
 module _ {p : Plan} {i n m : ℕ} {v u : List ℕ} (a : Above p i n m v u) where
   pub above-few : m ≤ n
@@ -83,16 +72,16 @@ module _ {p : Plan} {i n m : ℕ} {v u : List ℕ} (a : Above p i n m v u) where
   above-taken e ex ey =
       record {
         count = count-taken n (higher p i) e (a .count);
-        periods = packed-step n (higher p i) (λ j. p .task j .period) _ (a .periods) (a .count) ex e;
-        times = packed-step n (higher p i) (λ j. p .task j .execution) _ (a .times) (a .count) ey e;
+        period = packed-step n (higher p i) (λ j. p .task j .period) _ (a .period) (a .count) ex e;
+        time = packed-step n (higher p i) (λ j. p .task j .execution) _ (a .time) (a .count) ey e;
       }
 
   pub above-skipped : higher p i n ≡ false → Above p i (n + 1) m v u
   above-skipped e =
       record {
         count = count-skipped n (higher p i) e (a .count);
-        periods = packed-skip n (higher p i) (λ j. p .task j .period) _ e (a .periods);
-        times = packed-skip n (higher p i) (λ j. p .task j .execution) _ e (a .times);
+        period = packed-skip n (higher p i) (λ j. p .task j .period) _ e (a .period);
+        time = packed-skip n (higher p i) (λ j. p .task j .execution) _ e (a .time);
       }
 
   pub above-done : {k : ℕ} → n ≡ k → Above p i k m v u
@@ -100,32 +89,32 @@ module _ {p : Plan} {i n m : ℕ} {v u : List ℕ} (a : Above p i n m v u) where
 
 -- all tasks above task i of a valid plan: their number, ranges and demand, and the tolerance of task i
 module _ (p : Plan) (v : Valid p) (i : ℕ) {m : ℕ} {periods times : List ℕ} (a : Above p i (p .tasks) m periods times) where
-  pub above-64 : m ≤ 64
-  above-64 = omega (arith, above-few a, v .tasks)
+  pub above-timed : Timed periods times m
+  above-timed =
+      record {
+        periods-long = rw (a .period) (packed-length (p .tasks) (higher p i) (λ j. p .task j .period) (replicate 64 0));
+        times-long = rw (a .time) (packed-length (p .tasks) (higher p i) (λ j. p .task j .execution) (replicate 64 0));
+        few = omega (arith, above-few a, v .tasks);
+        low = rw (a .count, a .period) (packed-all (p .tasks) 64 (higher p i) (λ j. p .task j .period) (λ (x : ℕ). 1 ≤ x) (v .tasks) (λ j l e. omega (arith, v .task-fits j l .execution, v .task-fits j l .within)));
+        period = rw (a .count, a .period) (packed-all (p .tasks) 64 (higher p i) (λ j. p .task j .period) (λ (x : ℕ). x ≤ mostPeriod) (v .tasks) (λ j l e. omega (arith, v .task-fits j l .period)));
+        time = rw (a .count, a .time) (packed-all (p .tasks) 64 (higher p i) (λ j. p .task j .execution) (λ (x : ℕ). x ≤ mostPeriod) (v .tasks) (λ j l e. omega (arith, v .task-fits j l .within, v .task-fits j l .period)));
+      }
 
-  pub above-long : (length periods ≡ 64) × (length times ≡ 64)
-  above-long = (
-    rw (a .periods) (packed-length (p .tasks) (higher p i) (λ j. p .task j .period) (replicate 64 0)),
-    rw (a .times) (packed-length (p .tasks) (higher p i) (λ j. p .task j .execution) (replicate 64 0)),
-  )
-
-  pub above-fit : Fit periods times m
-  above-fit = rw (a .count, a .periods, a .times) (λ k l. (period k l .0, period k l .1, time k l))
-    where
-      period : (k : ℕ) → k < countBelow (p .tasks) (higher p i) → (1 ≤ getD (packedBelow (p .tasks) (higher p i) (λ j. p .task j .period) (replicate 64 0)) k 0) × (getD (packedBelow (p .tasks) (higher p i) (λ j. p .task j .period) (replicate 64 0)) k 0 < 65536)
-      period =
-          packed-all (p .tasks) 64 (higher p i) (λ j. p .task j .period) (λ (x : ℕ). (1 ≤ x) × (x < 65536)) (v .tasks)
-          (λ j l e. omega (arith, v .task-fits j l .execution, v .task-fits j l .within, v .task-fits j l .period))
-
-      time : (k : ℕ) → k < countBelow (p .tasks) (higher p i) → getD (packedBelow (p .tasks) (higher p i) (λ j. p .task j .execution) (replicate 64 0)) k 0 < 65536
-      time =
-          packed-all (p .tasks) 64 (higher p i) (λ j. p .task j .execution) (λ (x : ℕ). x < 65536) (v .tasks)
-          (λ j l e. omega (arith, v .task-fits j l .within, v .task-fits j l .period))
+  pub above-scanned : {row : TaskRow} → i < p .tasks → row ≡ p .task i → Scanned periods times m (row .execution) (row .period)
+  above-scanned l e =
+      let f = v .task-fits i l in
+      rw e
+      (record {
+        above = above-timed;
+        own = omega (arith, f .within, f .period);
+        low = omega (arith, f .execution, f .within);
+        high = omega (arith, f .period);
+      })
 
   above-demand : (t : ℕ) → demandOf periods times m t ≡ demand p i t
   unfolding demandOf demand
   above-demand t =
-      rw (a .count, a .periods, a .times)
+      rw (a .count, a .period, a .time)
       (packed-sum (p .tasks) 64 (higher p i) (λ j. p .task j .period) (λ j. p .task j .execution) (λ (x y : ℕ). ceilDiv t x * y) (v .tasks))
 
   pub above-tolerance : {row : TaskRow} {z : ℤ} → row ≡ p .task i → z ≡ greatestTo (row .period - 1) (leftOf periods times m (row .execution)) → z ≡ tolerance p i

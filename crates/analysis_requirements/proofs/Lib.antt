@@ -1,3 +1,6 @@
-pub mod Counts
-pub mod Demand
+pub mod Places
+pub mod Terms
+pub mod Rows
+pub mod Blocking
 pub mod Sides
+pub mod Demand

@@ -1,21 +1,22 @@
-// The requirement of a task: B1, B2, the waiting side, the tolerance and the slack, from a checked file and the tables gathered
-// of it. Every function here is for the crates above, and says in its `requires` what it relies on.
+// The requirement of a task: B1, B2, the waiting side, the tolerance and the slack, from a checked file, the table of its hold times and
+// budgets, and a table of what else they are worked out from. Every function here is for the crates above, and says in its `requires` what
+// it relies on.
 ghost use mathlib.Core.Path.{_≡_};
-ghost use mathlib.Core.Bool.{true, cond, _&&_};
-ghost use Prim.Native.Nat.{ℕ, _+_, _*_, _-_, _≤_, _<_};
+ghost use mathlib.Core.Bool.{cond, _&&_};
+ghost use Prim.Native.Nat.{_+_, _-_, _≤_, _<_};
 ghost use lib.IntN.{pos, _-ℤ_};
 ghost use lib.Signed.{mag};
 ghost use lib.ListN.{length, getD, replicate};
-ghost use Rattle.folds.specs.Below.{countBelow};
-ghost use Rattle.folds.specs.Packed.{packedBelow};
 ghost use Rattle.folds.specs.Signed.{greatestTo};
 ghost use Rattle.plan_reading.specs.Plan.{planOf, Checked};
-ghost use Rattle.analysis_equations.specs.Sharing.{global, uses, higher};
-ghost use Rattle.analysis_equations.specs.Blocking.{ceiling, countOn, globalCount, longestLocal, blocking1, blocking2, waitingOn, waitingSide};
+ghost use Rattle.analysis_equations.specs.Sharing.{global, uses};
+ghost use Rattle.analysis_equations.specs.Blocking.{countOn, longestLocal, blocking1, blocking2, waitingOn, waitingSide};
 ghost use Rattle.analysis_equations.specs.Requirement.{tolerance};
-ghost use Rattle.tables.specs.Tables.{Column, Globals, Tasks, placeAt};
-ghost use Rattle.analysis_hold_times.specs.Figures.{figureCount, Known};
-ghost use Rattle.analysis_requirements.specs.Figures.{sumUnder, sumBeside, demandOf, comparison, requirementOf};
+ghost use Rattle.analysis_equations.specs.Bounds.{mostWaiting, mostPeriod, mostDemand};
+ghost use Rattle.analysis_hold_times.specs.Figures.{Known};
+ghost use Rattle.analysis_requirements.specs.Figures.{requirementOf};
+ghost use Rattle.analysis_requirements.specs.Terms.{countCell, termCount, Terms, Prepared};
+ghost use Rattle.analysis_requirements.specs.Inner.{TermsBelow, Asked, Counted, Waiter, Row, Above, Timed, Scanned, demandOf, comparison};
 
 // What a task's requirement compares: met when the waiting side is at most the slack.
 pub struct Requirement {
@@ -30,51 +31,95 @@ pub struct Requirement {
 // The tasks above a task: how many, and the period and execution time of each, from the front.
 struct Higher {
     count: usize,
-    periods: [u32; 64],
-    times: [u32; 64],
+    periods: [u32; sizes::TASKS],
+    times: [u32; sizes::TASKS],
 }
 
-// How many sections on global resources each task has.
-pub fn global_counts(file: &[u8], globals: [bool; 16]) -> [u16; 64]
-    requires { ⌜ (Checked (now file)) × (Globals (planOf (now file)) globals) ⌝ }
-    ensures { λ r. ⌜ Column 64 (globalCount (planOf (now (file .entry)))) r ⌝ }
+// Where the parts of the table of terms begin, behind the longest global section of each task.
+const PLACES: usize = sizes::TASKS;
+
+const COUNTS: usize = PLACES + sizes::TASKS;
+
+const CEILINGS: usize = COUNTS + sizes::TASKS;
+
+const SHARED: usize = CEILINGS + sizes::RESOURCES;
+
+// The terms.
+pub const TERMS: usize = SHARED + sizes::RESOURCES;
+
+// How many global sections task i has, from the table.
+pub fn count_at(terms: &[u16], i: usize) -> u16
+    requires { ⌜ (length (now terms) ≡ termCount) × (i < 64) ⌝ }
+    ensures { λ r. ⌜ r ≡ getD (now (terms .entry)) (countCell i) 0 ⌝ }
 {
-    let counts = plan_reading::checked::counts(file);
-    let s = counts.sections as usize;
-    let mut table = [0u16; 64];
-    let mut i = 0;
-    while i < s {
-        let row = plan_reading::checked::section(file, i);
-        let shared = globals[folds::wide(row.resource)];
-        table[folds::wide(row.task)] += folds::chosen(shared, 1, 0);
-        i += 1;
-    }
-    table
+    terms[COUNTS + i]
 }
 
-// The highest priority among the users of each resource.
-pub fn ceilings(file: &[u8]) -> [u16; 16]
-    requires { ⌜ Checked (now file) ⌝ }
-    ensures { λ r. ⌜ Column 16 (ceiling (planOf (now (file .entry)))) r ⌝ }
+// Which resources are global, in a table in which all was 0.
+fn put_shared(file: &[u8], figures: &[u16], terms: &mut [u16])
+    requires { ⌜ (Known (now file) (now figures)) × (now terms ≡ replicate termCount 0) ⌝ }
+    ensures { λ u. ⌜ TermsBelow (planOf (now (file .entry))) 16 0 0 (now (terms .exit)) ⌝ }
+{
+    let mut q = 0;
+    while q < sizes::RESOURCES {
+        let shared = analysis_hold_times::is_global(file, figures, q);
+        terms[SHARED + q] = folds::chosen(shared, 1, 0);
+        q += 1;
+    }
+}
+
+// The place of each task.
+fn put_places(file: &[u8], terms: &mut [u16])
+    requires { ⌜ (Checked (now file)) × (TermsBelow (planOf (now file)) 16 0 0 (now terms)) ⌝ }
+    ensures { λ u. ⌜ TermsBelow (planOf (now (file .entry))) 16 (planOf (now (file .entry)) .tasks) 0 (now (terms .exit)) ⌝ }
 {
     let counts = plan_reading::checked::counts(file);
-    let s = counts.sections as usize;
-    let mut table = [0u16; 16];
-    let mut i = 0;
-    while i < s {
-        let row = plan_reading::checked::section(file, i);
-        let task = plan_reading::checked::task(file, folds::wide(row.task));
-        let at = folds::wide(row.resource);
-        table[at] = folds::longer(table[at], tables::half(task.priority));
-        i += 1;
+    let n = folds::wide(counts.tasks);
+    let mut j = 0;
+    while j < n {
+        let row = plan_reading::checked::task(file, j);
+        terms[PLACES + j] = folds::half(row.processor) * 256 + folds::half(row.priority);
+        j += 1;
     }
-    table
+}
+
+// Each task's longest global section and how many it has, and each resource's ceiling, in one pass over the sections.
+fn put_sections(file: &[u8], terms: &mut [u16])
+    requires { ⌜ (Checked (now file)) × (TermsBelow (planOf (now file)) 16 (planOf (now file) .tasks) 0 (now terms)) ⌝ }
+    ensures { λ u. ⌜ Terms (planOf (now (file .entry))) (now (terms .exit)) ⌝ }
+{
+    let counts = plan_reading::checked::counts(file);
+    let n = counts.sections as usize;
+    let mut s = 0;
+    while s < n {
+        let row = plan_reading::checked::section(file, s);
+        let j = folds::wide(row.task);
+        let q = folds::wide(row.resource);
+        let shared = terms[SHARED + q];
+        let longest = folds::longer(terms[j], folds::chosen(shared == 1, row.length, 0));
+        let count = terms[COUNTS + j] + shared;
+        let ceiling = folds::longer(terms[CEILINGS + q], terms[PLACES + j] % 256);
+        terms[j] = longest;
+        terms[COUNTS + j] = count;
+        terms[CEILINGS + q] = ceiling;
+        s += 1;
+    }
+}
+
+// Fills in the terms where all were 0.
+pub fn fill_terms(file: &[u8], figures: &[u16], terms: &mut [u16])
+    requires { ⌜ (Known (now file) (now figures)) × (now terms ≡ replicate termCount 0) ⌝ }
+    ensures { λ u. ⌜ Prepared (now (file .entry)) (now (figures .entry)) (now (terms .exit)) ⌝ }
+{
+    put_shared(file, figures, terms);
+    put_places(file, terms);
+    put_sections(file, terms);
 }
 
 // How many sections task i has on each resource.
-fn counts_on(file: &[u8], i: usize) -> [u16; 16]
+fn counts_on(file: &[u8], i: usize) -> [u16; sizes::RESOURCES]
     requires { ⌜ Checked (now file) ⌝ }
-    ensures { λ r. ⌜ Column 16 (countOn (planOf (now (file .entry))) i) r ⌝ }
+    ensures { λ r. ⌜ Row (countOn (planOf (now (file .entry))) i) r ⌝ }
 {
     let counts = plan_reading::checked::counts(file);
     let n = counts.sections as usize;
@@ -90,9 +135,9 @@ fn counts_on(file: &[u8], i: usize) -> [u16; 16]
 }
 
 // The longest section of a task below task i on a local resource whose ceiling is at least i's priority.
-fn longest_local(file: &[u8], globals: [bool; 16], ceilings: [u16; 16], i: usize) -> u16
-    requires { ⌜ (Checked (now file)) × (Globals (planOf (now file)) globals) × (Column 16 (ceiling (planOf (now file))) ceilings) × (i < planOf (now file) .tasks) ⌝ }
-    ensures { λ r. ⌜ (r ≡ longestLocal (planOf (now (file .entry))) i) × (r ≤ 1000) ⌝ }
+fn longest_local(file: &[u8], terms: &[u16], i: usize) -> u16
+    requires { ⌜ Asked (now file) (now terms) i ⌝ }
+    ensures { λ r. ⌜ r ≡ longestLocal (planOf (now (file .entry))) i ⌝ }
 {
     let counts = plan_reading::checked::counts(file);
     let n = counts.sections as usize;
@@ -103,120 +148,81 @@ fn longest_local(file: &[u8], globals: [bool; 16], ceilings: [u16; 16], i: usize
         let row = plan_reading::checked::section(file, s);
         let task = plan_reading::checked::task(file, folds::wide(row.task));
         let q = folds::wide(row.resource);
-        let shared = globals[q];
-        let reaches = tables::half(own.priority) <= ceilings[q];
+        let is_local = terms[SHARED + q] == 0;
+        let reaches = folds::half(own.priority) <= terms[CEILINGS + q];
         let is_lower = (task.processor == own.processor) & (task.priority < own.priority);
         best = folds::longer(
             best,
-            folds::chosen(is_lower & (!shared & reaches), row.length, 0),
+            folds::chosen(is_lower & (is_local & reaches), row.length, 0),
         );
         s += 1;
     }
     best
 }
 
-// Equation 5 over the tables.
-fn sum_under(tasks: &[u16], counts: &[u16], n: usize, i: usize, times: u32) -> u32
-    requires { ⌜ (length (now tasks) ≡ 128) × (length (now counts) ≡ 64) × (n ≤ 64) × (i < 64) × (times ≤ 256) × ((j : ℕ) → j < 64 → getD (now tasks) j 0 ≤ 1000) ⌝ }
-    ensures { λ r. ⌜ r ≡ sumUnder (now (tasks .entry)) (now (counts .entry)) n (getD (now (tasks .entry)) (placeAt i) 0) times ⌝ }
-{
-    let mine = tasks[64 + i];
-    let mut sum = 0u32;
-    let mut j = 0;
-    while j < n {
-        let place = tasks[64 + j];
-        let is_under = (place / 256 == mine / 256) & (place < mine);
-        let longest = folds::chosen(is_under, tasks[j], 0);
-        sum += folds::smaller(times, counts[j] as u32) * longest as u32;
-        j += 1;
-    }
-    sum
-}
-
-// B2.
-fn blocking2_of(file: &[u8], tasks: &[u16], counts: &[u16], i: usize) -> u32
-    requires { ⌜ (Checked (now file)) × (Tasks (planOf (now file)) (now tasks)) × (Column 64 (globalCount (planOf (now file))) (now counts)) × (i < planOf (now file) .tasks) ⌝ }
-    ensures { λ r. ⌜ r ≡ blocking2 (planOf (now (file .entry))) i ⌝ }
-{
-    let plan_counts = plan_reading::checked::counts(file);
-    let n = folds::wide(plan_counts.tasks);
-    sum_under(tasks, counts, n, i, counts[i] as u32 + 1)
-}
-
-// B1.
-fn blocking1_of(
-    file: &[u8],
-    globals: [bool; 16],
-    ceilings: [u16; 16],
-    counts: &[u16],
-    i: usize,
-) -> u32
-    requires { ⌜ (Checked (now file)) × (Globals (planOf (now file)) globals) × (Column 16 (ceiling (planOf (now file))) ceilings) × (Column 64 (globalCount (planOf (now file))) (now counts)) × (i < planOf (now file) .tasks) ⌝ }
+// Equation 4: B1.
+fn blocking1_of(file: &[u8], terms: &[u16], i: usize) -> u32
+    requires { ⌜ Asked (now file) (now terms) i ⌝ }
     ensures { λ r. ⌜ r ≡ blocking1 (planOf (now (file .entry))) i ⌝ }
 {
-    let longest = longest_local(file, globals, ceilings, i);
-    (counts[i] as u32 + 1) * longest as u32
+    let count = count_at(terms, i) as u32;
+    let longest = longest_local(file, terms, i) as u32;
+    (count + 1) * longest
 }
 
-// The sum of the hold times on q of the tasks of i's processor, its own left out.
-fn sum_beside(tasks: &[u16], figures: &[u16], n: usize, i: usize, q: usize) -> u32
-    requires { ⌜ (length (now tasks) ≡ 128) × (length (now figures) ≡ figureCount) × (n ≤ 64) × (i < 64) × (q < 16) ⌝ }
-    ensures { λ r. ⌜ (r ≡ sumBeside (now (tasks .entry)) (now (figures .entry)) n i q) × (r ≤ 4194240) ⌝ }
+// Equation 5: B2.
+fn blocking2_of(file: &[u8], terms: &[u16], i: usize) -> u32
+    requires { ⌜ Asked (now file) (now terms) i ⌝ }
+    ensures { λ r. ⌜ r ≡ blocking2 (planOf (now (file .entry))) i ⌝ }
 {
-    let mine = tasks[64 + i];
+    let counts = plan_reading::checked::counts(file);
+    let n = folds::wide(counts.tasks);
+    let mine = terms[PLACES + i];
+    let times = terms[COUNTS + i] as u32 + 1;
     let mut sum = 0u32;
     let mut j = 0;
     while j < n {
-        let place = tasks[64 + j];
-        let is_fellow = (place / 256 == mine / 256) & !(j == i);
-        let hold = analysis_hold_times::hold_at(figures, j, q);
-        sum += folds::chosen(is_fellow, hold, 0) as u32;
+        let place = terms[PLACES + j];
+        let is_under = (place / 256 == mine / 256) & (place < mine);
+        let longest = folds::chosen(is_under, terms[j], 0);
+        sum += folds::smaller(times, terms[COUNTS + j] as u32) * longest as u32;
         j += 1;
     }
     sum
 }
 
 // Equation 6: what task i waits for the global resource q, on which it has `count` sections.
-fn waiting_on(file: &[u8], tasks: &[u16], figures: &[u16], count: u16, i: usize, q: usize) -> u64
-    requires { ⌜ (Known (now file) (now figures)) × (Tasks (planOf (now file)) (now tasks)) × (i < planOf (now file) .tasks) × (q < 16) × (uses (planOf (now file)) i q ≡ true) × (global (planOf (now file)) q ≡ true) × (count ≡ countOn (planOf (now file)) i q) ⌝ }
+fn waiting_on(file: &[u8], figures: &[u16], count: u16, i: usize, q: usize) -> u64
+    requires { ⌜ Waiter (now file) (now figures) i q count ⌝ }
     ensures { λ r. ⌜ r ≡ waitingOn (planOf (now (file .entry))) i q ⌝ }
 {
-    let counts = plan_reading::checked::counts(file);
-    let n = folds::wide(counts.tasks);
     let task = plan_reading::checked::task(file, i);
     let k = task.processor;
     let budget = analysis_hold_times::budget_at(figures, folds::wide(k), q) as u32;
     let wait = analysis_hold_times::wait_in(file, figures, k, q);
-    let fellows = sum_beside(tasks, figures, n, i, q);
-    let times = (2 * fellows + (budget - 1)) / budget;
+    let fellows = analysis_hold_times::fellows_of(file, figures, i, q);
+    let times = (2 * fellows.holds + (budget - 1)) / budget;
     count as u64 * times as u64 * wait as u64
 }
 
 // The same where q is global and task i uses it, else 0.
-fn waiting_at(
-    file: &[u8],
-    tasks: &[u16],
-    figures: &[u16],
-    shared: bool,
-    count: u16,
-    i: usize,
-    q: usize,
-) -> u64
-    requires { ⌜ (Known (now file) (now figures)) × (Tasks (planOf (now file)) (now tasks)) × (i < planOf (now file) .tasks) × (q < 16) × (shared ≡ global (planOf (now file)) q) × (count ≡ countOn (planOf (now file)) i q) ⌝ }
-    ensures { λ r. ⌜ (r ≡ cond (global (planOf (now (file .entry))) q && uses (planOf (now (file .entry))) i q) (waitingOn (planOf (now (file .entry))) i q) 0) × (r ≤ 255 * 8320000 * 520000) ⌝ }
+fn waiting_at(file: &[u8], figures: &[u16], terms: &[u16], count: u16, i: usize, q: usize) -> u64
+    requires { ⌜ Counted (now file) (now figures) (now terms) i q count ⌝ }
+    ensures { λ r. ⌜ r ≡ cond (global (planOf (now (file .entry))) q && uses (planOf (now (file .entry))) i q) (waitingOn (planOf (now (file .entry))) i q) 0 ⌝ }
+    ensures { λ r. ⌜ r ≤ mostWaiting ⌝ }
 {
-    if !shared {
+    if terms[SHARED + q] == 0 {
         return 0;
     }
     if count == 0 {
         return 0;
     }
-    waiting_on(file, tasks, figures, count, i, q)
+    waiting_on(file, figures, count, i, q)
 }
 
-// Equation 7: the waiting side of task i, from the table of all hold times and budgets.
-fn waiting_side(file: &[u8], tasks: &[u16], figures: &[u16], globals: [bool; 16], i: usize) -> u64
-    requires { ⌜ (Known (now file) (now figures)) × (Tasks (planOf (now file)) (now tasks)) × (Globals (planOf (now file)) globals) × (i < planOf (now file) .tasks) ⌝ }
+// Equation 7: the waiting side of task i.
+fn waiting_side(file: &[u8], figures: &[u16], terms: &[u16], i: usize) -> u64
+    requires { ⌜ (Prepared (now file) (now figures) (now terms)) × (i < planOf (now file) .tasks) ⌝ }
     ensures { λ r. ⌜ r ≡ waitingSide (planOf (now (file .entry))) i ⌝ }
 {
     let counts = plan_reading::checked::counts(file);
@@ -225,26 +231,26 @@ fn waiting_side(file: &[u8], tasks: &[u16], figures: &[u16], globals: [bool; 16]
     let mut side = 0u64;
     let mut q = 0;
     while q < n {
-        side += waiting_at(file, tasks, figures, globals[q], on[q], i, q);
+        side += waiting_at(file, figures, terms, on[q], i, q);
         q += 1;
     }
     side
 }
 
 // The tasks above task i.
-fn higher_tasks(file: &[u8], tasks: &[u16], i: usize) -> Higher
-    requires { ⌜ (Checked (now file)) × (Tasks (planOf (now file)) (now tasks)) × (i < planOf (now file) .tasks) ⌝ }
-    ensures { λ r. ⌜ (r .count ≡ countBelow (planOf (now (file .entry)) .tasks) (higher (planOf (now (file .entry))) i)) × (r .periods ≡ packedBelow (planOf (now (file .entry)) .tasks) (higher (planOf (now (file .entry))) i) (λ j. planOf (now (file .entry)) .task j .period) (replicate 64 0)) × (r .times ≡ packedBelow (planOf (now (file .entry)) .tasks) (higher (planOf (now (file .entry))) i) (λ j. planOf (now (file .entry)) .task j .execution) (replicate 64 0)) ⌝ }
+fn higher_tasks(file: &[u8], terms: &[u16], i: usize) -> Higher
+    requires { ⌜ Asked (now file) (now terms) i ⌝ }
+    ensures { λ r. ⌜ Above (planOf (now (file .entry))) i (planOf (now (file .entry)) .tasks) (r .count) (r .periods) (r .times) ⌝ }
 {
     let counts = plan_reading::checked::counts(file);
     let n = folds::wide(counts.tasks);
-    let mine = tasks[64 + i];
+    let mine = terms[PLACES + i];
     let mut count = 0;
-    let mut periods = [0u32; 64];
-    let mut times = [0u32; 64];
+    let mut periods = [0u32; sizes::TASKS];
+    let mut times = [0u32; sizes::TASKS];
     let mut j = 0;
     while j < n {
-        let place = tasks[64 + j];
+        let place = terms[PLACES + j];
         if (place / 256 == mine / 256) & (mine < place) {
             let row = plan_reading::checked::task(file, j);
             periods[count] = row.period as u32;
@@ -262,8 +268,8 @@ fn higher_tasks(file: &[u8], tasks: &[u16], i: usize) -> Higher
 
 // The demand of the first m of those tasks up to t.
 fn demand_of(periods: &[u32], times: &[u32], m: usize, t: u32) -> u64
-    requires { ⌜ (length (now periods) ≡ 64) × (length (now times) ≡ 64) × (m ≤ 64) × (t < 65536) × ((k : ℕ) → k < m → (1 ≤ getD (now periods) k 0) × (getD (now periods) k 0 < 65536) × (getD (now times) k 0 < 65536)) ⌝ }
-    ensures { λ r. ⌜ (r ≡ demandOf (now (periods .entry)) (now (times .entry)) m t) × (r ≤ 64 * 4294836225) ⌝ }
+    requires { ⌜ (Timed (now periods) (now times) m) × (t ≤ mostPeriod) ⌝ }
+    ensures { λ r. ⌜ (r ≡ demandOf (now (periods .entry)) (now (times .entry)) m t) × (r ≤ mostDemand) ⌝ }
 {
     let mut sum = 0u64;
     let mut k = 0;
@@ -278,7 +284,7 @@ fn demand_of(periods: &[u32], times: &[u32], m: usize, t: u32) -> u64
 
 // The greatest of t less `own` and that demand, for t from 1 to period.
 fn scan(periods: &[u32], times: &[u32], m: usize, own: u32, period: u32) -> i64
-    requires { ⌜ (length (now periods) ≡ 64) × (length (now times) ≡ 64) × (m ≤ 64) × (own < 65536) × (1 ≤ period) × (period < 65536) × ((k : ℕ) → k < m → (1 ≤ getD (now periods) k 0) × (getD (now periods) k 0 < 65536) × (getD (now times) k 0 < 65536)) ⌝ }
+    requires { ⌜ Scanned (now periods) (now times) m own period ⌝ }
     ensures { λ r. ⌜ r ≡ greatestTo (period - 1) (λ t. pos (t + 1) -ℤ pos (own + demandOf (now (periods .entry)) (now (times .entry)) m (t + 1))) ⌝ }
 {
     let mut best = folds::difference(1, own as u64 + demand_of(periods, times, m, 1));
@@ -292,13 +298,13 @@ fn scan(periods: &[u32], times: &[u32], m: usize, own: u32, period: u32) -> i64
     best
 }
 
-// The tolerance of task i.
-fn tolerance_of(file: &[u8], tasks: &[u16], i: usize) -> i64
-    requires { ⌜ (Checked (now file)) × (Tasks (planOf (now file)) (now tasks)) × (i < planOf (now file) .tasks) ⌝ }
+// Equation 12: the tolerance of task i.
+fn tolerance_of(file: &[u8], terms: &[u16], i: usize) -> i64
+    requires { ⌜ Asked (now file) (now terms) i ⌝ }
     ensures { λ r. ⌜ r ≡ tolerance (planOf (now (file .entry))) i ⌝ }
 {
     let task = plan_reading::checked::task(file, i);
-    let above = higher_tasks(file, tasks, i);
+    let above = higher_tasks(file, terms, i);
     let periods = above.periods;
     let times = above.times;
     scan(
@@ -327,21 +333,13 @@ fn compared(blocking1: u32, blocking2: u32, tolerance: i64, side: u64) -> Requir
 }
 
 // The requirement of task i.
-pub fn requirement_of(
-    file: &[u8],
-    tasks: &[u16],
-    figures: &[u16],
-    counts: &[u16],
-    globals: [bool; 16],
-    ceilings: [u16; 16],
-    i: usize,
-) -> Requirement
-    requires { ⌜ (Known (now file) (now figures)) × (Tasks (planOf (now file)) (now tasks)) × (Column 64 (globalCount (planOf (now file))) (now counts)) × (Globals (planOf (now file)) globals) × (Column 16 (ceiling (planOf (now file))) ceilings) × (i < planOf (now file) .tasks) ⌝ }
+pub fn requirement_of(file: &[u8], figures: &[u16], terms: &[u16], i: usize) -> Requirement
+    requires { ⌜ (Prepared (now file) (now figures) (now terms)) × (i < planOf (now file) .tasks) ⌝ }
     ensures { λ r. ⌜ r ≡ requirementOf (planOf (now (file .entry))) i ⌝ }
 {
-    let blocking1 = blocking1_of(file, globals, ceilings, counts, i);
-    let blocking2 = blocking2_of(file, tasks, counts, i);
-    let tolerance = tolerance_of(file, tasks, i);
-    let side = waiting_side(file, tasks, figures, globals, i);
+    let blocking1 = blocking1_of(file, terms, i);
+    let blocking2 = blocking2_of(file, terms, i);
+    let tolerance = tolerance_of(file, terms, i);
+    let side = waiting_side(file, figures, terms, i);
     compared(blocking1, blocking2, tolerance, side)
 }

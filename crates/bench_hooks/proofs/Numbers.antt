@@ -11,7 +11,7 @@ use Rattle.analysis.specs.declared.AdmissionAnswer.{AdmissionAnswer}
 use Rattle.analysis.specs.declared.AdmissionAnswer.the-variants.{Decided, Refused}
 use Rattle.analysis.specs.declared.Figure.{Figure}
 use Rattle.analysis.specs.declared.Figure.the-variants as figures
-use Rattle.analysis.specs.Answers.{figure, holdCode, longestFigure, admissionAnswer}
+use Rattle.analysis.specs.Answers.{figure, holdRefusal, longestFigure, admissionAnswer}
 use Rattle.bench_hooks.specs.Asking.{longestNumber, admissionNumber}
 
 number-in : AdmissionAnswer → ℕ
@@ -39,15 +39,15 @@ figure-in : Figure → ℕ
 figure-in (figures.Given v) = 256 * v
 figure-in (figures.Refused code) = code
 
-longest-cases : (f : List ℕ) (tag q : ℕ) → figure-in (figure (holdCode f tag q) (longestFigure f tag q)) ≡ longestNumber f tag q
+longest-cases : (f : List ℕ) (tag q : ℕ) → figure-in (figure (holdRefusal f tag q) (longestFigure f tag q)) ≡ longestNumber f tag q
 unfolding figure longestNumber figure-in
 longest-cases f tag q =
     let most = longestFigure f tag q in
-    let code = holdCode f tag q in
+    let code = holdRefusal f tag q in
     by-eq (λ (t : Bool). figure-in (cond t (figures.Given most) (figures.Refused code)) ≡ cond t (256 * most) code) code 0
     (λ e. refl) (λ d. refl)
 
-module _ (f : List ℕ) (tag q : ℕ) {a : Figure} (e : a ≡ figure (holdCode f tag q) (longestFigure f tag q)) where
+module _ (f : List ℕ) (tag q : ℕ) {a : Figure} (e : a ≡ figure (holdRefusal f tag q) (longestFigure f tag q)) where
   pub longest-given : (v : ℕ) → a ≡ figures.Given v → 256 * v ≡ longestNumber f tag q
   unfolding figure-in
   longest-given v h = ap figure-in (sym h ∙ e) ∙ longest-cases f tag q

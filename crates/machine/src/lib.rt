@@ -75,7 +75,7 @@ fn request_code(file: &[u8], state: State, holds: &[u16], tag: u16, q: u8) -> u8
     ensures { λ r. ⌜ r ≡ requestCode (planOf (now (file .entry))) (shows (planOf (now (file .entry))) state) tag q ⌝ }
 {
     let counts = plan_reading::checked::counts(file);
-    let i = tables::task_number(file, tag);
+    let i = analysis_hold_times::task_number(file, tag);
     if folds::wide(counts.tasks) <= i {
         return 11;
     }
@@ -109,7 +109,7 @@ fn request_on(
     if code != 0 {
         return refuse(state, code);
     }
-    let i = tables::task_number(file, tag);
+    let i = analysis_hold_times::task_number(file, tag);
     let row = plan_reading::checked::task(file, i);
     let k = row.processor;
     let r = folds::wide(q);
@@ -137,7 +137,7 @@ fn release_code(file: &[u8], state: State, seats: &[u8], tag: u16, q: u8) -> u8
     ensures { λ r. ⌜ r ≡ releaseCode (planOf (now (file .entry))) (shows (planOf (now (file .entry))) state) tag q ⌝ }
 {
     let counts = plan_reading::checked::counts(file);
-    let i = tables::task_number(file, tag);
+    let i = analysis_hold_times::task_number(file, tag);
     if folds::wide(counts.tasks) <= i {
         return 11;
     }
@@ -308,11 +308,11 @@ pub fn decode(letter: u8, tag: u8, resource: u8) -> Decoded
     match letter {
         b'Q' => Decoded {
             known: true,
-            call: Call::Request(tables::half(tag), resource),
+            call: Call::Request(folds::half(tag), resource),
         },
         b'R' => Decoded {
             known: true,
-            call: Call::Release(tables::half(tag), resource),
+            call: Call::Release(folds::half(tag), resource),
         },
         b'T' => Decoded {
             known: (tag == 0) & (resource == 0),

@@ -56,8 +56,8 @@ fn seat_of(s: Standing, processor: u8) -> u16
     requires { ⌜ (processor < 8) × (s .resource < 16) × (s .place < 64) ⌝ }
     ensures { λ r. ⌜ r ≡ seat (s .resource) processor (s .place) ⌝ }
 {
-    let queue = tables::half(s.resource) * 8 + tables::half(processor);
-    queue * 64 + tables::half(s.place)
+    let queue = folds::half(s.resource) * 8 + folds::half(processor);
+    queue * 64 + folds::half(s.place)
 }
 
 // The seats of the tasks; 8,192 stays for those in no queue.

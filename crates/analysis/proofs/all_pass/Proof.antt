@@ -12,14 +12,14 @@ use Rattle.analysis.proofs.all_pass.Statement.{statement}
 use Rattle.analysis.proofs.all_pass.Tie as tie
 
 abbrev Inv-loop : tie.InvT-loop
-Inv-loop file tasks figures counts globals ceilings n i₀ i =
+Inv-loop file figures terms n i₀ i =
     (i ≤ n) × (n ≡ planOf file .tasks) × (allBelow i (λ j. not (asks (planOf file) j) || met (planOf file) j) ≡ true)
 
 abbrev μ-loop : tie.MeasureT-loop
-μ-loop file tasks figures counts globals ceilings n i₀ i = n - i
+μ-loop file figures terms n i₀ i = n - i
 
 counts-requires : tie.Need-counts-requires Inv-loop μ-loop
-counts-requires c κs = c .before .before .before .before .pre .0 .plan
+counts-requires c κs = c .before .before .before .pre .known .plan
 
 loop-holds : tie.Need-loop-holds Inv-loop μ-loop
 unfolding allBelow
@@ -27,8 +27,7 @@ loop-holds c = (omega arith, c .wide .ensures .0 ∙ c .before .counts .ensures 
 
 passes-requires : tie.Need-passes-requires Inv-loop μ-loop
 passes-requires c κs =
-    let h = c .before .before .before .before .before .before .before .before .pre in
-    (h .0, h .1, h .2, h .3, h .4, omega (arith, c .before .loop .inv .1))
+    (c .before .before .before .before .before .before .before .pre, omega (arith, c .before .loop .inv .1))
 
 returns : tie.Need-returns Inv-loop μ-loop
 unfolding admitted

@@ -14,7 +14,12 @@ returns c = figure-told _ _ (figure-refused _ (c .before .before .before .user-o
 longest-of-requires : tie.Need-longest-of-requires
 longest-of-requires c κs =
     let u = c .before .before .before .before .before .user-of .ensures .user (c .before .before .if1 .left) in
-    (u .known, u .below, rw (c .wide .ensures .0) (user-resource u), rw (c .wide .ensures .0) (u .shared))
+    record {
+      known = u .known;
+      task = u .below;
+      resource = rw (c .wide .ensures .0) (user-resource u);
+      shared = rw (c .wide .ensures .0) (u .shared);
+    }
 
 returns-2 : tie.Need-returns-2
 returns-2 c =

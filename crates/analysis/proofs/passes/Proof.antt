@@ -1,37 +1,21 @@
--- The table of counts tells whether the task asks.
-use Prim.Native.Nat.{_<_}
+-- The table of terms tells whether the task asks.
+use mathlib.Core.Path.{_≡_, _∙_}
 use native.Mathlib.Omega.{arith}
 use borrow.Author.Needs.{needs}
+use Rattle.plan_reading.specs.Plan.{planOf}
 use Rattle.plan_reading.proofs.Laws.{valid-plan}
+use Rattle.analysis_equations.specs.Blocking.{globalCount}
 use Rattle.analysis.proofs.Told.{passes-idle, passes-met}
 use Rattle.analysis.proofs.passes.Statement.{statement}
 use Rattle.analysis.proofs.passes.Tie as tie
 
-mul-if1 : tie.Need-mul-if1
-mul-if1 c =
-    let h = c .before .before .before .before .pre in
-    omega (arith, valid-plan _ (h .0 .plan) .tasks, h .5)
-
-shared-slice-read-if1 : tie.Need-shared-slice-read-if1
-shared-slice-read-if1 c =
-    let h = c .before .before .before .before .before .pre in
-    omega (arith, valid-plan _ (h .0 .plan) .tasks, h .5, h .2 .long)
-
-returns : tie.Need-returns
-returns c =
-    let a = c .before .before .before .before .before .before in
-    let l : a .args .i < 64 = omega (arith, valid-plan _ (a .pre .0 .plan) .tasks, a .pre .5) in
-    passes-idle _ _ (a .pre .2 .at _ l) (c .if1 .taken)
-
-requirement-of-requires : tie.Need-requirement-of-requires
-requirement-of-requires c κs = search needs
-
-returns-2 : tie.Need-returns-2
-returns-2 c =
-    let a = c .before .before .before .before .before .before .before in
-    let l : a .args .i < 64 = omega (arith, valid-plan _ (a .pre .0 .plan) .tasks, a .pre .5) in
-    passes-met _ _ (a .pre .2 .at _ l) (c .before .if1 .left) (c .requirement-of .ensures)
+counted : (c : tie.After-count-at) → let a = c .before .before .before .before .args in c .count-at .result ≡ globalCount (planOf (a .file .now)) (a .i)
+counted c = let h = c .before .before .before .before .pre in c .count-at .ensures ∙ h .0 .terms .count _ (omega (arith, valid-plan _ (h .0 .known .plan) .tasks, h .1))
 
 pub passes-spec : {M : Type 1} → statement M
 passes-spec =
-    tie.close (tie.spec mul-if1 shared-slice-read-if1 returns requirement-of-requires returns-2)
+    tie.close
+    (tie.spec
+    (λ c κs. let h = c .before .before .before .pre in (h .0 .terms .long, omega (arith, valid-plan _ (h .0 .known .plan) .tasks, h .1)))
+    (λ c. passes-idle _ _ (counted (c .before)) (c .if1 .taken)) (λ c κs. search needs)
+    (λ c. passes-met _ _ (counted (c .before .before)) (c .before .if1 .left) (c .requirement-of .ensures)))

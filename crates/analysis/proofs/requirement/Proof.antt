@@ -1,7 +1,7 @@
 -- The number of the reading, then the answer of the checked plan.
 use mathlib.Core.Path.{sym, _∙_}
 use borrow.Author.Needs.{needs}
-use Rattle.analysis.specs.Answers.{requirementNumber}
+use Rattle.analysis.specs.Answers.{requirementRefusal}
 use Rattle.analysis.proofs.Told.{checked-file, reading-fails, reading-requirement, requirement-refused, requirement-told}
 use Rattle.analysis.proofs.requirement.Statement.{statement}
 use Rattle.analysis.proofs.requirement.Tie as tie
@@ -10,14 +10,14 @@ check-requires : tie.Need-check-requires
 check-requires c κs = search needs
 
 returns : tie.Need-returns
-unfolding requirementNumber
+unfolding requirementRefusal
 returns c = requirement-told _ _ (requirement-refused _ (reading-fails _ _ (c .before .check .ensures) (c .if1 .taken)) (c .if1 .taken))
 
 requirement-question-requires : tie.Need-requirement-question-requires
 requirement-question-requires c κs = checked-file _ (sym (c .before .check .ensures) ∙ c .if1 .left) (λ i. c .before .before .shared-slice-known .given i .fits)
 
 returns-2 : tie.Need-returns-2
-unfolding requirementNumber
+unfolding requirementRefusal
 returns-2 c = requirement-told _ _ (reading-requirement _ _ _ (c .before .before .check .ensures) (c .before .if1 .left) (c .requirement-question .ensures))
 
 pub requirement-spec : {M : Type 1} → statement M

@@ -1,8 +1,11 @@
 -- The task found decides 11, the count of its global sections 17.
-use mathlib.Core.Path.{ap, _∙_}
+use Prim.Native.Nat.{_<_}
+use mathlib.Core.Path.{_≡_, ap, _∙_}
 use native.Mathlib.Omega.{arith}
 use borrow.Author.Needs.{needs}
+use Rattle.plan_reading.specs.Plan.{planOf}
 use Rattle.plan_reading.proofs.Laws.{valid-plan}
+use Rattle.analysis_equations.specs.Blocking.{globalCount}
 use Rattle.analysis_requirements.specs.Figures.{requirementOf}
 use Rattle.analysis.proofs.Told.{requirement-given, requirement-refused, no-task-asked, not-asked, task-asked}
 use Rattle.analysis.proofs.requirement_question.Statement.{statement}
@@ -11,27 +14,36 @@ use Rattle.analysis.proofs.requirement_question.Tie as tie
 returns : tie.Need-returns
 returns c = requirement-refused _ (no-task-asked _ _ (omega arith)) (λ e. omega arith)
 
-array-read-if2 : tie.Need-array-read-if2
-array-read-if2 c = omega (arith, valid-plan _ (c .before .before .before .before .before .before .before .pre) .tasks)
+count-at-requires : tie.Need-count-at-requires
+count-at-requires c κs = let t = c .before .before .fill-terms .ensures in (t .terms .long, omega (arith, valid-plan _ (t .known .plan) .tasks))
+
+-- ── where the task's global sections are counted ──
+abbrev found : tie.After-count-at → tie.After-task-number
+found c = c .before .before .before .before .before .before .before .before .before .before .before
+
+below : (c : tie.After-count-at) → found c .task-number .result < planOf (c .before .before .before .before .before .before .before .before .before .before .before .before .before .before .args .file .now) .tasks
+below c = omega arith
+
+counted : (c : tie.After-count-at) → c .count-at .result ≡ globalCount (planOf (c .before .before .before .before .before .before .before .before .before .before .before .before .before .before .args .file .now)) (found c .task-number .result)
+counted c =
+    let t = c .before .before .before .fill-terms .ensures in
+    c .count-at .ensures ∙ t .terms .count _ (omega (arith, valid-plan _ (t .known .plan) .tasks))
 
 returns-2 : tie.Need-returns-2
 returns-2 c =
-    let u = c .before in
-    requirement-refused _
-    (not-asked _ _ (u .before .before .before .before .task-number .ensures) (omega arith) (u .global-counts .ensures .at _ (array-read-if2 u)) (c .if2 .taken))
-    (λ e. omega arith)
+    let a = c .before in
+    requirement-refused _ (not-asked _ _ (found a .task-number .ensures) (below a) (counted a) (c .if2 .taken)) (λ e. omega arith)
 
 returns-3 : tie.Need-returns-3
 returns-3 c =
-    let u = c .before .before .before in
-    let t = u .before .before .before .before .task-number .ensures in
-    requirement-given
-    (task-asked _ _ t (omega arith) (u .global-counts .ensures .at _ (array-read-if2 u)) (c .before .before .if2 .left))
-    (c .requirement-at .ensures ∙ ap (requirementOf _) t)
+    let a = c .before .before .before .before in
+    let t = found a .task-number .ensures in
+    requirement-given (task-asked _ _ t (below a) (counted a) (c .before .before .before .if2 .left)) (c .requirement-of .ensures ∙ ap (requirementOf _) t)
 
 pub requirement-question-spec : {M : Type 1} → statement M
 requirement-question-spec =
     tie.close
     (tie.spec
-    (λ c κs. search needs) (λ c κs. search needs) (λ c κs. search needs) returns (λ c κs. search needs) (λ c κs. search needs)
-    (λ c. search needs) array-read-if2 returns-2 (λ c. search needs) (λ c κs. search needs) returns-3)
+    (λ c κs. search needs) (λ c κs. search needs) (λ c κs. search needs) returns (λ c. search needs) (λ c κs. search needs)
+    (λ c. search needs) (λ c. search needs) (λ c κs. search needs) (λ c. search needs) count-at-requires returns-2 (λ c. search needs)
+    (λ c. search needs) (λ c κs. (c .before .before .before .before .before .before .fill-terms .ensures, omega arith)) returns-3)

@@ -2,18 +2,20 @@
 use mathlib.Core.Path.{_≡_, sym, _∙_}
 use borrow.Author.Needs.{needs}
 use Rattle.analysis.proofs.Told.{checked-file}
-use Rattle.analysis.proofs.Users.{user-unread, user-after}
+use Rattle.analysis.proofs.Users.{user-unread, user-read}
 use Rattle.analysis.proofs.user_of.Statement.{statement}
 use Rattle.analysis.proofs.user_of.Tie as tie
 
 returns : tie.Need-returns
 returns c = user-unread _ _ _ (c .before .check .ensures) (c .if1 .taken)
 
-user-in-requires : tie.Need-user-in-requires
-user-in-requires c κs = (checked-file _ (sym (c .before .before .check .ensures) ∙ c .before .if1 .left) (λ i. c .before .before .before .before .shared-slice-known .given i .fits), c .before .before .before .before .before .pre)
+fill-figures-requires : tie.Need-fill-figures-requires
+fill-figures-requires c κs = (checked-file _ (sym (c .before .before .check .ensures) ∙ c .before .if1 .left) (λ i. c .before .before .before .before .shared-slice-known .given i .fits), c .before .before .before .before .before .pre)
 
 returns-2 : tie.Need-returns-2
-returns-2 c = user-after _ _ _ (sym (c .before .before .before .before .before .check .ensures) ∙ c .before .before .before .before .if1 .left) (c .before .before .user-in .ensures)
+returns-2 c = user-read _ _ _ (sym (c .before .before .before .before .before .before .before .check .ensures) ∙ c .before .before .before .before .before .before .if1 .left) (c .before .before .before .before .fill-figures .ensures) (c .user-in .ensures)
 
 pub user-of-spec : {M : Type 1} → statement M
-user-of-spec = tie.close (tie.spec (λ c κs. search needs) returns user-in-requires (λ c. search needs) returns-2)
+user-of-spec =
+    tie.close
+    (tie.spec (λ c κs. search needs) returns fill-figures-requires (λ c κs. c .before .before .before .fill-figures .ensures) (λ c. search needs) returns-2)

@@ -7,7 +7,7 @@ use lib.Dec.{eqb}
 use Rattle.folds.proofs.Arrays.{gatheredBelow, gathered-step}
 use Rattle.plan_reading.specs.Plan.{planOf}
 use Rattle.plan_reading.proofs.Laws.{valid-plan}
-use Rattle.analysis_requirements.proofs.Counts.{onTable, on-more, row-resource, on-table}
+use Rattle.analysis_requirements.proofs.Rows.{onTable, on-more, row-resource, on-table}
 use Rattle.analysis_requirements.proofs.counts_on.Statement.{statement}
 use Rattle.analysis_requirements.proofs.counts_on.Tie as tie
 

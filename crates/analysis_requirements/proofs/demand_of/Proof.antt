@@ -1,10 +1,13 @@
 -- The invariant: `sum` is the demand of the first k tasks. Each adds less than 2^32.
-use Prim.Native.Nat.{_≤_, _-_}
+use Prim.Native.Nat.{_*_, _≤_, _-_}
 use mathlib.Core.Path.{_≡_, refl}
 use native.Mathlib.Omega.{arith}
+use lib.ListN.{getD}
 use Rattle.folds.specs.Below.{sumBelow}
 use Rattle.folds.proofs.Figures.{sum-step, sum-done}
-use Rattle.analysis_requirements.specs.Figures.{demandOf}
+use Rattle.analysis_equations.specs.Blocking.{ceilDiv}
+use Rattle.analysis_equations.specs.Bounds.{mostDemandOfOne}
+use Rattle.analysis_requirements.specs.Inner.{demandOf}
 use Rattle.analysis_requirements.proofs.Demand.{demand-one, demand-high}
 use Rattle.analysis_requirements.proofs.demand_of.Statement.{statement}
 use Rattle.analysis_requirements.proofs.demand_of.Tie as tie
@@ -19,33 +22,28 @@ loop-holds : tie.Need-loop-holds Inv-loop μ-loop
 unfolding demandOf sumBelow
 loop-holds c = (omega arith, refl)
 
-sub-begun : tie.Need-sub-begun Inv-loop μ-loop
-sub-begun c =
-    omega (arith, c .before .before .before .pre .4 (c .before .before .loop .k) (c .before .loop-test .taken))
+-- ── where the period is read ──
+abbrev Read : Type 0
+Read = tie.After-shared-slice-known Inv-loop μ-loop
 
-add-begun : tie.Need-add-begun Inv-loop μ-loop
-add-begun c =
-    omega (arith, c .before .before .before .pre .4 (c .before .before .loop .k) (c .before .loop-test .taken))
+low : (c : Read) → 1 ≤ getD (c .before .before .before .args .periods .now) (c .before .before .loop .k) 0
+low c = c .before .before .before .pre .0 .low (c .before .before .loop .k) (c .before .loop-test .taken)
 
-div-begun : tie.Need-div-begun Inv-loop μ-loop
-div-begun c =
-    omega (arith, c .before .before .before .pre .4 (c .before .before .loop .k) (c .before .loop-test .taken))
+begun : tie.Need-add-begun Inv-loop μ-loop
+begun c = omega (arith, low c, c .before .before .before .pre .0 .period (c .before .before .loop .k) (c .before .loop-test .taken), c .before .before .before .pre .1)
 
-mul-sum-2 : tie.Need-mul-sum-2 Inv-loop μ-loop
-mul-sum-2 c =
-    let a = c .before .before .before .before in
-    omega (arith, demand-one (a .args .periods .now) (a .args .times .now) _ _ (a .pre .2) (a .pre .3) (a .pre .4) (c .before .before .before .loop .k) (c .before .before .loop-test .taken))
+-- ── and the time ──
+abbrev Here : Type 0
+Here = tie.After-shared-slice-known2 Inv-loop μ-loop
 
-cast-sum : tie.Need-cast-sum Inv-loop μ-loop
-cast-sum c =
-    let a = c .before .before .before .before in
-    omega (arith, demand-one (a .args .periods .now) (a .args .times .now) _ _ (a .pre .2) (a .pre .3) (a .pre .4) (c .before .before .before .loop .k) (c .before .before .loop-test .taken))
+one : (c : Here) → ceilDiv (c .before .before .before .before .args .t) (getD (c .before .before .before .before .args .periods .now) (c .before .before .before .loop .k) 0) * getD (c .before .before .before .before .args .times .now) (c .before .before .before .loop .k) 0 ≤ mostDemandOfOne
+one c = let a = c .before .before .before .before in demand-one _ _ _ _ (a .pre .0) (a .pre .1) (c .before .before .before .loop .k) (c .before .before .loop-test .taken)
 
 add-sum : tie.Need-add-sum Inv-loop μ-loop
 add-sum c =
     let a = c .before .before .before .before in
-    let one = demand-one (a .args .periods .now) (a .args .times .now) _ _ (a .pre .2) (a .pre .3) (a .pre .4) (c .before .before .before .loop .k) (c .before .before .loop-test .taken) in
-    omega (arith, one, demand-high (a .args .periods .now) (a .args .times .now) _ _ (a .pre .2) (a .pre .3) (a .pre .4) (c .before .before .before .loop .k) (c .before .before .before .loop .inv .0))
+    let l = c .before .before .before .loop in
+    omega (arith, one c, demand-high (a .args .periods .now) (a .args .times .now) _ _ (a .pre .0) (a .pre .1) (l .k) (l .inv .0))
 
 loop-again : tie.Need-loop-again Inv-loop μ-loop
 unfolding demandOf
@@ -56,11 +54,12 @@ unfolding demandOf
 returns c =
     let a = c .before .before in
     let done = sum-done (a .args .m) (c .before .loop .k) _ (omega arith) (c .before .loop .inv .1) in
-    (done, omega (arith, done, demand-high (a .args .periods .now) (a .args .times .now) _ _ (a .pre .2) (a .pre .3) (a .pre .4) (a .args .m) (omega arith)))
+    (done, omega (arith, done, demand-high (a .args .periods .now) (a .args .times .now) _ _ (a .pre .0) (a .pre .1) (a .args .m) (omega arith)))
 
 pub demand-of-spec : {M : Type 1} → statement M
 demand-of-spec =
     tie.close
     (tie.spec
-    Inv-loop μ-loop loop-holds (λ c. omega arith) (λ c. omega arith) sub-begun add-begun div-begun (λ c. omega arith)
-    (λ c. omega arith) mul-sum-2 cast-sum add-sum (λ c. omega arith) (λ c. omega arith) loop-again returns)
+    Inv-loop μ-loop loop-holds (λ c. omega (arith, c .before .before .pre .0 .few)) (λ c. let h = c .before .before .before .pre .0 in omega (arith, h .few, h .periods-long))
+    (λ c. low c) begun (λ c. low c) (λ c. omega (arith, c .before .before .before .pre .0 .few)) (λ c. let h = c .before .before .before .before .pre .0 in omega (arith, h .few, h .times-long))
+    (λ c. omega (arith, one c)) (λ c. omega (arith, one c)) add-sum (λ c. omega arith) (λ c. omega arith) loop-again returns)

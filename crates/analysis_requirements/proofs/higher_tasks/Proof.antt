@@ -6,20 +6,21 @@ use native.Mathlib.Omega.{arith}
 use Rattle.plan_rules.specs.declared.TaskRow.{TaskRow}
 use Rattle.plan_reading.specs.Plan.{planOf}
 use Rattle.plan_reading.proofs.Laws.{valid-plan}
-use Rattle.tables.proofs.Places.{table-above}
-use Rattle.analysis_requirements.proofs.Demand.{Above, above-none, above-few, above-taken, above-skipped, above-done}
+use Rattle.analysis_requirements.proofs.Places.{table-above}
+use Rattle.analysis_requirements.specs.Inner.{Above}
+use Rattle.analysis_requirements.proofs.Demand.{above-none, above-few, above-taken, above-skipped, above-done}
 use Rattle.analysis_requirements.proofs.higher_tasks.Statement.{statement}
 use Rattle.analysis_requirements.proofs.higher_tasks.Tie as tie
 
 abbrev Inv-loop : tie.InvT-loop
-Inv-loop file tasks i n mine count₀ periods₀ times₀ j₀ count periods times j =
+Inv-loop file terms i n mine count₀ periods₀ times₀ j₀ count periods times j =
     (j ≤ n) × (n ≡ planOf file .tasks) × (n ≤ 64) × Above (planOf file) i j count periods times
 
 abbrev μ-loop : tie.MeasureT-loop
-μ-loop file tasks i n mine count₀ periods₀ times₀ j₀ count periods times j = n - j
+μ-loop file terms i n mine count₀ periods₀ times₀ j₀ count periods times j = n - j
 
 counts-requires : tie.Need-counts-requires Inv-loop μ-loop
-counts-requires c κs = c .before .before .pre .0
+counts-requires c κs = c .before .before .pre .plan
 
 wide-requires : tie.Need-wide-requires Inv-loop μ-loop
 wide-requires c κs = tt
@@ -27,29 +28,29 @@ wide-requires c κs = tt
 add-mine : tie.Need-add-mine Inv-loop μ-loop
 add-mine c =
     let a = c .before .before .before .before in
-    omega (arith, valid-plan _ (a .pre .0) .tasks)
+    omega (arith, valid-plan _ (a .pre .plan) .tasks, a .pre .task)
 
 mul-mine : tie.Need-mul-mine Inv-loop μ-loop
 mul-mine c =
     let a = c .before .before .before .before in
-    omega (arith, valid-plan _ (a .pre .0) .tasks)
+    omega (arith, valid-plan _ (a .pre .plan) .tasks, a .pre .task)
 
 shared-slice-read-mine : tie.Need-shared-slice-read-mine Inv-loop μ-loop
 shared-slice-read-mine c =
     let a = c .before .before .before .before .before in
-    omega (arith, a .pre .1 .long, valid-plan _ (a .pre .0) .tasks)
+    omega (arith, a .pre .terms .long, valid-plan _ (a .pre .plan) .tasks, a .pre .task)
 
 loop-holds : tie.Need-loop-holds Inv-loop μ-loop
 loop-holds c =
     let a = c .before .before .before .before .before in
     let e = c .before .wide .ensures .0 ∙ c .before .before .counts .ensures .1 in
-    (omega arith, e, omega (arith, e, valid-plan _ (a .pre .0) .tasks), above-none _ _)
+    (omega arith, e, omega (arith, e, valid-plan _ (a .pre .plan) .tasks), above-none _ _)
 
 shared-slice-read-place : tie.Need-shared-slice-read-place Inv-loop μ-loop
-shared-slice-read-place c = omega (arith, c .before .before .before .before .before .before .before .before .pre .1 .long)
+shared-slice-read-place c = omega (arith, c .before .before .before .before .before .before .before .before .pre .terms .long)
 
 task-requires : tie.Need-task-requires Inv-loop μ-loop
-task-requires c κs = (c .before .before .before .before .before .before .before .before .before .pre .0, omega arith)
+task-requires c κs = (c .before .before .before .before .before .before .before .before .before .pre .plan, omega arith)
 
 mul-periods : tie.Need-mul-periods Inv-loop μ-loop
 mul-periods c = omega (arith, above-few (c .before .before .before .before .before .loop .inv .3))
@@ -70,7 +71,7 @@ loop-again : tie.Need-loop-again Inv-loop μ-loop
 loop-again c =
     let l = c .before .before .before .loop in
     let a = c .before .before .before .before .before .before .before .before .before in
-    let test = table-above (planOf (a .args .file .now)) (valid-plan _ (a .pre .0)) (a .args .tasks .now) (a .pre .1) (a .args .i) (l .j) (a .pre .2) (omega arith) in (
+    let test = table-above (planOf (a .args .file .now)) (valid-plan _ (a .pre .plan)) (a .args .terms .now) (a .pre .terms) (a .args .i) (l .j) (a .pre .task) (omega arith) in (
       omega arith,
       l .inv .1,
       l .inv .2,
@@ -83,8 +84,7 @@ loop-again c =
 returns : tie.Need-returns Inv-loop μ-loop
 returns c =
     let l = c .before .loop in
-    let d = above-done (l .inv .3) {k = planOf (c .before .before .before .before .before .before .before .args .file .now) .tasks} (omega arith) in
-    (d .count, d .periods, d .times)
+    above-done (l .inv .3) (omega arith)
 
 pub higher-tasks-spec : {M : Type 1} → statement M
 higher-tasks-spec =

@@ -1,5 +1,6 @@
 -- The invariant: `best` is the longest blocking section below `s`.
-use Prim.Native.Nat.{_≤_, _-_}
+use Prim.Native.Nat.{ℕ, _<_, _≤_, _-_}
+use mathlib.Core.List.{List}
 use mathlib.Core.Path.{_≡_, refl}
 use native.Mathlib.Omega.{arith}
 use borrow.Author.Needs.{needs}
@@ -7,62 +8,74 @@ use Rattle.folds.specs.Below.{maxBelow}
 use Rattle.folds.proofs.Figures.{max-step}
 use Rattle.plan_reading.specs.Plan.{planOf}
 use Rattle.plan_reading.proofs.Laws.{valid-plan}
-use Rattle.analysis_requirements.proofs.Counts.{localBelow, row-task, row-resource, local-below}
+use Rattle.analysis_requirements.specs.Inner.{Asked}
+use Rattle.analysis_requirements.proofs.Rows.{row-task, row-resource}
+use Rattle.analysis_requirements.proofs.Blocking.{local-read, localBelow, local-done}
 use Rattle.analysis_requirements.proofs.longest_local.Statement.{statement}
 use Rattle.analysis_requirements.proofs.longest_local.Tie as tie
 
+record Turn (f t : List ℕ) (i n s best : ℕ) : Type 0 where
+  within : s ≤ n
+  all : n ≡ planOf f .sections
+  asked : Asked f t i
+  told : best ≡ localBelow (planOf f) i s
+
 abbrev Inv-loop : tie.InvT-loop
-Inv-loop file i globals ceilings n own best₀ s₀ best s = (s ≤ n) × (best ≡ localBelow (planOf file) i s)
+Inv-loop file terms i n own best₀ s₀ best s = Turn file terms i n s best
 
 abbrev μ-loop : tie.MeasureT-loop
-μ-loop file i globals ceilings n own best₀ s₀ best s = n - s
-
-counts-requires : tie.Need-counts-requires Inv-loop μ-loop
-counts-requires c κs = c .before .pre .0
-
-task-requires : tie.Need-task-requires Inv-loop μ-loop
-task-requires c κs = let h = c .before .before .before .pre in (h .0, h .3)
+μ-loop file terms i n own best₀ s₀ best s = n - s
 
 loop-holds : tie.Need-loop-holds Inv-loop μ-loop
 unfolding maxBelow
-loop-holds c = (omega arith, refl)
+loop-holds c = record { within = omega arith; all = c .before .before .counts .ensures .3; asked = c .before .before .before .before .before .pre; told = refl }
 
-section-requires : tie.Need-section-requires Inv-loop μ-loop
-section-requires c κs = (c .before .before .before .before .before .before .pre .0, rw (← c .before .before .before .before .counts .ensures .3) (c .loop-test .taken))
+task-requires : tie.Need-task-requires-2 Inv-loop μ-loop
+task-requires c κs =
+    let i = c .before .before .before .loop .inv in
+    (i .asked .plan, row-task _ (i .asked .plan) (i .all) (c .before .before .loop-test .taken) (c .before .section .ensures) (c .wide .ensures .0))
 
-task-requires-2 : tie.Need-task-requires-2 Inv-loop μ-loop
-task-requires-2 c κs =
-    let h = c .before .before .before .before .before .before .before .before .pre .0 in
-    (h, row-task _ h (c .before .before .before .before .before .before .counts .ensures .3) (c .before .before .loop-test .taken) (c .before .section .ensures) (c .wide .ensures .0))
+-- ── where the section's resource is read ──
+abbrev Read : Type 0
+Read = tie.After-wide2 Inv-loop μ-loop
 
-array-read-shared : tie.Need-array-read-shared Inv-loop μ-loop
-array-read-shared c = row-resource _ (c .before .before .before .before .before .before .before .before .before .before .pre .0) (c .before .before .before .before .before .before .before .before .counts .ensures .3) (c .before .before .before .before .loop-test .taken) (c .before .before .before .section .ensures) (c .wide2 .ensures .0)
+low-resource : (r : Read) → r .wide2 .result < 16
+low-resource r =
+    let i = r .before .before .before .before .before .loop .inv in
+    row-resource _ (i .asked .plan) (i .all) (r .before .before .before .before .loop-test .taken) (r .before .before .before .section .ensures) (r .wide2 .ensures .0)
 
-array-read-reaches : tie.Need-array-read-reaches Inv-loop μ-loop
-array-read-reaches c = array-read-shared (c .before)
+slice-read-shared : tie.Need-shared-slice-read-is-local Inv-loop μ-loop
+slice-read-shared c = let r = c .before in omega (arith, low-resource r, r .before .before .before .before .before .loop .inv .asked .terms .long)
+
+slice-read-ceiling : tie.Need-shared-slice-read-reaches Inv-loop μ-loop
+slice-read-ceiling c = let r = c .before .before .before in omega (arith, low-resource r, r .before .before .before .before .before .loop .inv .asked .terms .long)
 
 add-s : tie.Need-add-s Inv-loop μ-loop
-add-s c =
-    omega (arith, c .before .before .before .before .before .before .before .before .before .before .before .loop-test .taken, c .before .before .before .before .before .before .before .before .before .before .before .before .before .before .before .counts .ensures .3, valid-plan _ (c .before .before .before .before .before .before .before .before .before .before .before .before .before .before .before .before .before .pre .0) .sections)
+add-s c = let i = c .before .before .before .before .before .before .before .before .before .before .before .before .before .before .loop .inv in omega (arith, i .all, valid-plan _ (i .asked .plan) .sections)
 
 loop-again : tie.Need-loop-again Inv-loop μ-loop
 loop-again c =
-    let w = c .before .before .before .before .before .before .before in
-    let h = w .before .before .before .before .before .before .before .before .before .before .pre in
-    let row = w .before .before .before .section .ensures in
-    let shared = h .1 .at _ (array-read-shared w) in
-    let reach = h .2 .at _ (array-read-shared w) in (
-      omega arith,
-      max-step _ _ (w .before .before .before .before .before .loop .inv .1) (rw (c .before .chosen .ensures, shared, reach, c .before .before .before .before .before .before .half .ensures .0, w .wide2 .ensures .0, w .before .task2 .ensures, w .before .before .before .before .before .before .task .ensures, w .before .before .wide .ensures .0, row)) (c .longer .ensures),
-    )
+    let r = c .before .before .before .before .before .before .before .before .before in
+    let i = r .before .before .before .before .before .loop .inv in
+    let h = i .asked .terms in
+    let shared = local-read _ (valid-plan _ (i .asked .plan)) _ h _ (low-resource r) in
+    let reach = h .ceiling _ (low-resource r) in
+    record {
+      within = omega arith;
+      all = i .all;
+      asked = i .asked;
+      told = max-step _ _ (i .told) (rw (c .before .chosen .ensures, shared, reach, c .before .before .before .before .before .before .before .half .ensures .0, r .wide2 .ensures .0, r .before .task2 .ensures, r .before .before .before .before .before .before .task .ensures, r .before .before .wide .ensures .0, r .before .before .before .section .ensures)) (c .longer .ensures);
+    }
 
 returns : tie.Need-returns Inv-loop μ-loop
-returns c = local-below _ _ (valid-plan _ (c .before .before .before .before .before .before .pre .0)) (c .before .before .before .before .counts .ensures .3) (omega arith) (c .before .loop .inv .1)
+returns c = let l = c .before .loop in local-done _ _ (l .s) (l .inv .all) (omega arith) (l .inv .told)
 
 pub longest-local-spec : {M : Type 1} → statement M
 longest-local-spec =
     tie.close
     (tie.spec
-    Inv-loop μ-loop counts-requires (λ c. omega arith) task-requires loop-holds section-requires (λ c κs. search needs)
-    task-requires-2 (λ c κs. search needs) array-read-shared (λ c κs. search needs) (λ c. omega arith) array-read-reaches
-    (λ c κs. search needs) (λ c κs. search needs) add-s (λ c. omega arith) loop-again returns)
+    Inv-loop μ-loop (λ c κs. c .before .before .pre .plan) (λ c. omega arith) (λ c κs. let h = c .before .before .before .before .pre in (h .plan, h .task)) loop-holds
+    (λ c κs. let i = c .before .loop .inv in (i .asked .plan, omega (arith, i .all))) (λ c κs. search needs) task-requires
+    (λ c κs. search needs) (λ c. omega arith) (λ c. omega arith) slice-read-shared (λ c κs. search needs) (λ c. omega arith)
+    (λ c. omega arith) slice-read-ceiling (λ c κs. search needs) (λ c κs. search needs) add-s (λ c. omega arith)
+    loop-again returns)

@@ -9,9 +9,9 @@ use Rattle.analysis_requirements.proofs.requirement_of.Tie as tie
 
 compared-requires : tie.Need-compared-requires
 compared-requires c κs =
-    let h = c .before .before .before .before .before .before .before .before .pre in
+    let h = c .before .before .before .before .before .before .before .pre in
     let z = c .before .tolerance-of in
-    tolerance-fits _ (valid-plan _ (h .0 .plan)) _ (h .5) (back _ (z .ok) ∙ z .ensures)
+    tolerance-fits _ (valid-plan _ (h .0 .known .plan)) _ (h .1) (back _ (z .ok) ∙ z .ensures)
 
 returns : tie.Need-returns
 returns c =
@@ -22,6 +22,7 @@ pub requirement-of-spec : {M : Type 1} → statement M
 requirement-of-spec =
     tie.close
     (tie.spec
-    (λ c κs. let h = c .before .before .before .before .pre in (h .0 .plan, h .3, h .4, h .2, h .5)) (λ c κs. let h = c .before .before .before .before .before .pre in (h .0 .plan, h .1, h .2, h .5))
-    (λ c κs. let h = c .before .before .before .before .before .before .pre in (h .0 .plan, h .1, h .5)) (λ c κs. let h = c .before .before .before .before .before .before .before .pre in (h .0, h .1, h .3, h .5)) compared-requires
+    (λ c κs. let h = c .before .before .before .pre in record { plan = h .0 .known .plan; terms = h .0 .terms; task = h .1 })
+    (λ c κs. let h = c .before .before .before .before .pre in record { plan = h .0 .known .plan; terms = h .0 .terms; task = h .1 })
+    (λ c κs. let h = c .before .before .before .before .before .pre in record { plan = h .0 .known .plan; terms = h .0 .terms; task = h .1 }) (λ c κs. c .before .before .before .before .before .before .pre) compared-requires
     returns)

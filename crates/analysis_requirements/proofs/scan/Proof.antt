@@ -19,8 +19,7 @@ abbrev μ-loop : tie.MeasureT-loop
 
 demand-of-requires : tie.Need-demand-of-requires Inv-loop μ-loop
 demand-of-requires c κs =
-    let a = c .before .before in
-    (a .pre .0, a .pre .1, a .pre .2, omega arith, a .pre .6)
+    (c .before .before .pre .above, omega arith)
 
 loop-holds : tie.Need-loop-holds Inv-loop μ-loop
 loop-holds c =
@@ -28,8 +27,8 @@ loop-holds c =
 
 demand-of-requires-2 : tie.Need-demand-of-requires-2 Inv-loop μ-loop
 demand-of-requires-2 c κs =
-    let a = c .before .before .before .before .before .before in
-    (a .pre .0, a .pre .1, a .pre .2, omega arith, a .pre .6)
+    let h = c .before .before .before .before .before .before .pre in
+    (h .above, omega (arith, h .high))
 
 greater-requires : tie.Need-greater-requires Inv-loop μ-loop
 greater-requires c κs = tt

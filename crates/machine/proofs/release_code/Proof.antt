@@ -12,7 +12,7 @@ use Rattle.machine.proofs.release_code.Reads as reads
 use Rattle.machine.proofs.release_code.Lts as lts
 use Rattle.folds.proofs.wide.Reads as wide-reads
 use Rattle.plan_reading.proofs.checked.counts.Reads as counts-reads
-use Rattle.tables.proofs.task_number.Reads as task-number-reads
+use Rattle.analysis_hold_times.proofs.task_number.Reads as task-number-reads
 
 -- once the first two tests are passed
 abbrev Here : Type 0

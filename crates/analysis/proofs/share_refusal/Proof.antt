@@ -1,0 +1,24 @@
+-- The number of the reading, then that of the checked plan.
+use mathlib.Core.Path.{sym, _∙_}
+use borrow.Author.Needs.{needs}
+use Rattle.analysis.specs.Answers.{shareRefusal}
+use Rattle.analysis.proofs.Told.{checked-file, reading-fails, reading-holds}
+use Rattle.analysis.proofs.share_refusal.Statement.{statement}
+use Rattle.analysis.proofs.share_refusal.Tie as tie
+
+check-requires : tie.Need-check-requires
+check-requires c κs = search needs
+
+returns : tie.Need-returns
+unfolding shareRefusal
+returns c = reading-fails _ _ (c .before .check .ensures) (c .if1 .taken)
+
+processor-code-requires : tie.Need-processor-code-requires
+processor-code-requires c κs = checked-file _ (sym (c .before .check .ensures) ∙ c .if1 .left) (λ i. c .before .before .shared-slice-known .given i .fits)
+
+returns-2 : tie.Need-returns-2
+unfolding shareRefusal
+returns-2 c = c .processor-code .ensures ∙ sym (reading-holds _ _ (c .before .before .check .ensures) (c .before .if1 .left))
+
+pub share-refusal-spec : {M : Type 1} → statement M
+share-refusal-spec = tie.close (tie.spec check-requires returns processor-code-requires returns-2)

@@ -1,0 +1,64 @@
+-- The fellows of a task, told by the table of hold times: who is of its processor and holds the resource for some time.
+use Prim.Native.Nat.{ℕ, _+_, _*_, _≤_}
+use mathlib.Core.Bool.{Bool, true, false, cond, _&&_, not}
+use mathlib.Core.Path.{_≡_, refl, ap, _∙_}
+use native.Mathlib.Omega.{arith}
+use lib.Dec.{eqb}
+use Rattle.folds.specs.Below.{countBelow, sumBelow}
+use Rattle.folds.proofs.Figures.{count-step, sum-step}
+use Rattle.folds.proofs.Ranges.{cond-bound}
+use Rattle.plan_reading.specs.Plan.{Plan, Valid}
+use Rattle.analysis_equations.specs.Sharing.{processorOf, uses, global}
+use Rattle.analysis_equations.specs.HoldTimes.{holdTime, holdAt, fellow}
+use Rattle.analysis_equations.specs.Blocking.{fellowHolds}
+use Rattle.analysis_equations.specs.Bounds.{mostHold}
+use Rattle.analysis_equations.proofs.Laws.{hold-high, hold-zero, fellow-hold}
+
+not-not : (b : Bool) → not (not b) ≡ b
+not-not true = refl
+not-not false = refl
+
+-- the fellows below j, counted and with their hold times added up
+pub record Counted (p : Plan) (i q j count sum : ℕ) : Type 0 where
+  pub few : count ≤ j
+  pub low : sum ≤ j * mostHold
+  pub counted : count ≡ countBelow j (fellow p i q)
+  pub added : sum ≡ sumBelow j (λ x. cond (fellow p i q x) (holdTime p x q) 0)
+
+pub counted-none : (p : Plan) (i q : ℕ) → Counted p i q 0 0 0
+unfolding countBelow sumBelow
+counted-none p i q = record { few = omega arith; low = omega arith; counted = refl; added = refl }
+
+module _ (p : Plan) (v : Valid p) (i q : ℕ) (g : global p q ≡ true) where
+  -- the test that is made of task j
+  fellow-test : (j : ℕ) → ((eqb (processorOf p j) (processorOf p i) && not (eqb (holdAt p j q) 0)) && not (eqb j i)) ≡ fellow p i q j
+  fellow-test j = rw (hold-zero p v j q, g, not-not) refl
+
+  hold-most : (j : ℕ) → holdAt p j q ≤ mostHold
+  unfolding holdAt
+  hold-most j = cond-bound (global p q && uses p j q) (holdTime p j q) mostHold (λ _. hold-high p v j q)
+
+  -- one more task, of processor m and with this hold time
+  pub counted-more : {j count sum : ℕ} (hold m k d t : ℕ) → Counted p i q j count sum → hold ≡ holdAt p j q
+      → m ≡ processorOf p j → k ≡ processorOf p i
+      → d ≡ cond ((eqb m k && not (eqb hold 0)) && not (eqb j i)) 1 0
+      → t ≡ cond ((eqb m k && not (eqb hold 0)) && not (eqb j i)) hold 0
+      → Counted p i q (j + 1) (count + d) (sum + t)
+  counted-more {j} {count} {sum} hold m k d t w eh em ek ed et =
+      let on : Bool = (eqb m k && not (eqb hold 0)) && not (eqb j i) in
+      let e : on ≡ fellow p i q j = rw (eh, em, ek) (fellow-test j) in
+      let s : t ≡ cond (fellow p i q j) (holdTime p j q) 0 = et ∙ ap (λ (b : Bool). cond b hold 0) e ∙ rw eh (fellow-hold p i q j g) in
+      record {
+        few = omega (arith, w .few, ed, cond-bound on 1 1 (λ _. omega arith));
+        low = omega (arith, w .low, cond-bound on hold mostHold (λ _. omega (arith, eh, hold-most j)), et);
+        counted = count-step j (fellow p i q) (w .counted) (ed ∙ ap (λ (b : Bool). cond b 1 0) e);
+        added = sum-step j (λ x. cond (fellow p i q x) (holdTime p x q) 0) (w .added) s;
+      }
+
+  -- all tasks
+  pub counted-all : {n count sum : ℕ} → n ≡ p .tasks → Counted p i q n count sum → (count ≡ countBelow (p .tasks) (fellow p i q)) × (sum ≡ fellowHolds p i q)
+  unfolding fellowHolds
+  counted-all e w = (
+    w .counted ∙ ap (λ (m : ℕ). countBelow m (fellow p i q)) e,
+    w .added ∙ ap (λ (m : ℕ). sumBelow m (λ x. cond (fellow p i q x) (holdTime p x q) 0)) e,
+  )

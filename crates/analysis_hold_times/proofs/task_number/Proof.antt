@@ -1,0 +1,58 @@
+-- The invariant: no task passed has the tag.
+use Prim.Native.Nat.{_≤_, _-_}
+use mathlib.Core.Bool.{true, not}
+use mathlib.Core.Path.{_≡_, refl, sym, _∙_}
+use borrow.Author.Needs.{needs}
+use native.Mathlib.Omega.{arith}
+use borrow.Author.Tests.{eq-eqb, ne-eqb}
+use lib.Dec.{eqb}
+use Rattle.folds.specs.Below.{allBelow}
+use Rattle.folds.proofs.Tests.{all-more, find-at, find-none}
+use Rattle.plan_reading.specs.Plan.{planOf}
+use Rattle.analysis_equations.specs.Questions.{taskNumber}
+use Rattle.analysis_hold_times.proofs.task_number.Statement.{statement}
+use Rattle.analysis_hold_times.proofs.task_number.Tie as tie
+
+abbrev Inv-loop : tie.InvT-loop
+Inv-loop file tag n j₀ j = (j ≤ n) × (n ≡ planOf file .tasks) × (allBelow j (λ k. not (eqb (planOf file .task k .tag) tag)) ≡ true)
+
+abbrev μ-loop : tie.MeasureT-loop
+μ-loop file tag n j₀ j = n - j
+
+counts-requires : tie.Need-counts-requires Inv-loop μ-loop
+counts-requires c κs = c .before .pre
+
+loop-holds : tie.Need-loop-holds Inv-loop μ-loop
+unfolding allBelow
+loop-holds c = (omega arith, c .wide .ensures .0 ∙ c .before .counts .ensures .1, refl)
+
+task-requires : tie.Need-task-requires Inv-loop μ-loop
+task-requires c κs = (c .before .before .before .before .before .pre, omega arith)
+
+returns : tie.Need-returns Inv-loop μ-loop
+unfolding taskNumber
+returns c =
+    let l = c .before .before .before .before .loop in
+    sym (find-at _ (l .j) _ (omega arith) (l .inv .2) (rw (← c .before .before .task .ensures) (eq-eqb _ _ (c .if1 .taken))))
+
+loop-again : tie.Need-loop-again Inv-loop μ-loop
+loop-again c =
+    let l = c .before .before .before .before .loop in (
+      omega arith,
+      l .inv .1,
+      all-more _ _ (l .inv .2) (rw (← c .before .before .task .ensures, ne-eqb _ _ (c .if1 .left))),
+    )
+
+returns-2 : tie.Need-returns-2 Inv-loop μ-loop
+unfolding taskNumber
+returns-2 c =
+    let l = c .before .loop in
+    let e : l .j ≡ planOf (c .before .before .before .before .before .args .file .now) .tasks = omega arith in
+    l .inv .1 ∙ sym (find-none _ _ (rw e at (l .inv .2)))
+
+pub task-number-spec : {M : Type 1} → statement M
+task-number-spec =
+    tie.close
+    (tie.spec
+    Inv-loop μ-loop counts-requires (λ c κs. search needs) loop-holds task-requires returns (λ c. omega arith) (λ c. omega arith)
+    loop-again returns-2)

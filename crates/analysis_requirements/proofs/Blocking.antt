@@ -1,0 +1,75 @@
+-- Equations 4 and 5 over the table of terms.
+use Prim.Native.Nat.{ℕ, _+_, _*_, _<_, _≤_, min}
+use mathlib.Core.Bool.{Bool, true, false, cond, not, _&&_}
+use mathlib.Core.List.{List}
+use mathlib.Core.Path.{_≡_, refl, sym, ap, _∙_}
+use native.Mathlib.Omega.{arith}
+use native.Mathlib.Nat.{mul-le-mul}
+use lib.Dec.{eqb, leb}
+use lib.ListN.{getD}
+use Rattle.folds.specs.Below.{maxBelow, sumBelow}
+use Rattle.folds.proofs.Figures.{sum-step, sum-done, max-done}
+use Rattle.folds.proofs.Ranges.{cond-bound}
+use Rattle.plan_reading.specs.Plan.{Plan, Valid}
+use Rattle.analysis_equations.specs.Sharing.{global, lower}
+use Rattle.analysis_equations.specs.Blocking.{globalCount, ceiling, blocks, longestLocal, blocking1, longestGlobal, blocking2}
+use Rattle.analysis_equations.specs.Bounds.{mostBlocking1}
+use Rattle.analysis_equations.proofs.Laws.{count-high, global-high}
+use Rattle.analysis_requirements.specs.Terms.{longestCell, placeCell, countCell, ceilingCell, sharedCell, Terms}
+use Rattle.analysis_requirements.specs.Inner.{under}
+use Rattle.analysis_requirements.proofs.Places.{table-under}
+use Rattle.analysis_requirements.proofs.Terms.{flag-clear}
+
+module _ (p : Plan) where
+  -- a term of Equation 5, their sum over the tasks below n, and over all
+  abbrev pub term : ℕ → ℕ → ℕ
+  term i j = cond (lower p i j) (min (globalCount p i + 1) (globalCount p j) * longestGlobal p j) 0
+
+  pub blocking2-done : (i n : ℕ) {s : ℕ} → n ≡ p .tasks → s ≡ sumBelow n (term i) → s ≡ blocking2 p i
+  unfolding blocking2
+  blocking2-done i n e w = sum-done (p .tasks) n _ e w
+
+module _ (p : Plan) (v : Valid p) (t : List ℕ) (h : Terms p t) where
+  -- whether a resource is local, and whether its ceiling reaches
+  pub local-read : (q : ℕ) → q < 16 → eqb (getD t (sharedCell q) 0) 0 ≡ not (global p q)
+  local-read q l = rw (h .shared q l) (flag-clear (global p q))
+
+  pub count-read : (i : ℕ) → i < p .tasks → getD t (countCell i) 0 ≤ 255
+  count-read i l = rw (h .count i (omega (arith, v .tasks))) (count-high p v i)
+
+  module _ (i : ℕ) (li : i < p .tasks) (j : ℕ) (lj : j < p .tasks) {times s y : ℕ} (et : times ≡ getD t (countCell i) 0 + 1) (es : s ≡ min times (getD t (countCell j) 0)) (ey : y ≡ cond (under (getD t (placeCell i) 0) (getD t (placeCell j) 0)) (getD t (longestCell j) 0) 0) where
+    low : j < 64
+    low = omega (arith, v .tasks)
+
+    shorter : s ≡ min (globalCount p i + 1) (globalCount p j)
+    shorter = es ∙ rw (et, h .count i (omega (arith, v .tasks)), h .count j low)
+
+    longest : y ≡ cond (lower p i j) (longestGlobal p j) 0
+    longest = ey ∙ rw (table-under p v t h i j li lj, h .longest j low)
+
+    pub term-is : s * y ≡ term p i j
+    term-is = rw (shorter, longest) (go (lower p i j))
+      where
+        go : (b : Bool) → min (globalCount p i + 1) (globalCount p j) * cond b (longestGlobal p j) 0 ≡ cond b (min (globalCount p i + 1) (globalCount p j) * longestGlobal p j) 0
+        go true = refl
+        go false = omega arith
+
+    pub term-high : s * y ≤ mostBlocking1
+    term-high =
+        let few : s ≤ 256 = omega (arith, shorter, count-high p v i) in
+        let short : y ≤ 1000 = rw longest (cond-bound (lower p i j) (longestGlobal p j) 1000 (λ b. global-high p v j)) in
+        mul-le-mul few short
+
+  -- Equation 4
+  pub blocking1-read : (i : ℕ) {n x : ℕ} → i < p .tasks → n ≡ getD t (countCell i) 0 → x ≡ longestLocal p i → (n + 1) * x ≡ blocking1 p i
+  unfolding blocking1
+  blocking1-read i l e f = rw (e, h .count i (omega (arith, v .tasks)), f)
+
+-- the longest section that blocks i, of the first n
+module _ (p : Plan) (i : ℕ) where
+  abbrev pub localBelow : ℕ → ℕ
+  localBelow n = maxBelow n (λ s. cond (blocks p i s) (p .section s .length) 0)
+
+  pub local-done : (n : ℕ) {k x : ℕ} → k ≡ p .sections → n ≡ k → x ≡ localBelow n → x ≡ longestLocal p i
+  unfolding longestLocal
+  local-done n ek en e = max-done (p .sections) n _ (en ∙ ek) e

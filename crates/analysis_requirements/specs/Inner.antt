@@ -1,0 +1,95 @@
+-- What the private functions of this crate rely on and give. None of this is a rule of document 01; contracts equate it with the equations.
+use Prim.Native.Nat.{ℕ, _+_, _*_, _/_, _≤_, _<_}
+use mathlib.Core.Bool.{Bool, true, cond, _&&_}
+use mathlib.Core.List.{List}
+use mathlib.Core.Path.{_≡_}
+use lib.Dec.{eqb, ltb}
+use lib.IntN.{ℤ, pos, _-ℤ_}
+use lib.ListN.{length, getD, replicate}
+use lib.Signed.{leZ}
+use Rattle.sizes.specs.Sizes.{mostTasks, mostResources}
+use Rattle.folds.specs.Below.{sumBelow, maxBelow, countBelow}
+use Rattle.folds.specs.Packed.{packedBelow}
+use Rattle.plan_reading.specs.Plan.{Plan, planOf, Checked}
+use Rattle.analysis_equations.specs.Sharing.{priorityOf, globalBy, global, uses, higher}
+use Rattle.analysis_equations.specs.Blocking.{ceilDiv, countOn}
+use Rattle.analysis_equations.specs.Bounds.{mostPeriod}
+use Rattle.analysis_hold_times.specs.Figures.{Sharer}
+use Rattle.analysis_requirements.specs.declared.Requirement.{Requirement}
+use Rattle.analysis_requirements.specs.Terms.{longestCell, placeCell, countCell, ceilingCell, sharedCell, termCount, placeOf, Terms, Prepared}
+
+-- ── the table of terms as it is filled: r resources, n tasks and s sections are passed ──
+
+pub record TermsBelow (p : Plan) (r n s : ℕ) (t : List ℕ) : Type 0 where
+  pub long : length t ≡ termCount
+  pub shared : (q : ℕ) → q < r → q < mostResources → getD t (sharedCell q) 0 ≡ cond (global p q) 1 0
+  pub place : (j : ℕ) → j < n → j < mostTasks → getD t (placeCell j) 0 ≡ placeOf p j
+  pub longest : (j : ℕ) → j < mostTasks → getD t (longestCell j) 0 ≡ maxBelow s (λ x. cond (globalBy p j x) (p .section x .length) 0)
+  pub count : (j : ℕ) → j < mostTasks → getD t (countCell j) 0 ≡ countBelow s (globalBy p j)
+  pub ceiling : (q : ℕ) → q < mostResources → getD t (ceilingCell q) 0 ≡ maxBelow s (λ x. cond (eqb (p .section x .resource) q) (priorityOf p (p .section x .task)) 0)
+
+-- place b is of a's processor and higher there, or lower
+abbrev pub above : ℕ → ℕ → Bool
+above a b = eqb (b / 256) (a / 256) && ltb a b
+
+abbrev pub under : ℕ → ℕ → Bool
+under a b = eqb (b / 256) (a / 256) && ltb b a
+
+-- ── what is asked ──
+
+-- task i of the plan, by its terms
+pub record Asked (f t : List ℕ) (i : ℕ) : Type 0 where
+  pub plan : Checked f
+  pub terms : Terms (planOf f) t
+  pub task : i < planOf f .tasks
+
+-- task i has n sections on resource q
+pub record Counted (f figures t : List ℕ) (i q n : ℕ) : Type 0 where
+  pub prepared : Prepared f figures t
+  pub task : i < planOf f .tasks
+  pub resource : q < mostResources
+  pub count : n ≡ countOn (planOf f) i q
+
+-- and uses it, and it is global
+pub record Waiter (f figures : List ℕ) (i q n : ℕ) : Type 0 where
+  pub sharer : Sharer f figures i q
+  pub used : uses (planOf f) i q ≡ true
+  pub count : n ≡ countOn (planOf f) i q
+
+-- a figure of each resource
+pub record Row (f : ℕ → ℕ) (t : List ℕ) : Type 0 where
+  pub long : length t ≡ mostResources
+  pub at : (q : ℕ) → q < mostResources → getD t q 0 ≡ f q
+
+-- ── the tolerance ──
+
+-- of the tasks below n, those above task i: how many, their periods and their execution times, from the front
+pub record Above (p : Plan) (i n m : ℕ) (periods times : List ℕ) : Type 0 where
+  pub count : m ≡ countBelow n (higher p i)
+  pub period : periods ≡ packedBelow n (higher p i) (λ j. p .task j .period) (replicate mostTasks 0)
+  pub time : times ≡ packedBelow n (higher p i) (λ j. p .task j .execution) (replicate mostTasks 0)
+
+-- the first m of these periods and execution times are a plan's
+pub record Timed (periods times : List ℕ) (m : ℕ) : Type 0 where
+  pub periods-long : length periods ≡ mostTasks
+  pub times-long : length times ≡ mostTasks
+  pub few : m ≤ mostTasks
+  pub low : (k : ℕ) → k < m → 1 ≤ getD periods k 0
+  pub period : (k : ℕ) → k < m → getD periods k 0 ≤ mostPeriod
+  pub time : (k : ℕ) → k < m → getD times k 0 ≤ mostPeriod
+
+-- the task's own, beside them
+pub record Scanned (periods times : List ℕ) (m execution period : ℕ) : Type 0 where
+  pub above : Timed periods times m
+  pub own : execution ≤ mostPeriod
+  pub low : 1 ≤ period
+  pub high : period ≤ mostPeriod
+
+-- the demand of m tasks up to t: ceil(t / period) × time of each
+unfoldable pub demandOf : List ℕ → List ℕ → ℕ → ℕ → ℕ
+demandOf periods times m t = sumBelow m (λ k. ceilDiv t (getD periods k 0) * getD times k 0)
+
+-- B1, B2, a tolerance and a waiting side, with the slack that they leave and whether the side is at most it
+abbrev pub comparison : ℕ → ℕ → ℤ → ℕ → Requirement
+comparison a b z w =
+    record { blocking1 = a; blocking2 = b; tolerance = z; slack = z -ℤ pos (a + b); side = w; met = leZ (pos w) (z -ℤ pos (a + b)) }

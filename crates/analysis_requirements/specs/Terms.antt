@@ -1,0 +1,51 @@
+-- What a requirement is worked out from beside hold times and budgets, in one table. None of this is a rule of document 01: it says where
+-- a figure stands.
+use Prim.Native.Nat.{ℕ, _+_, _*_, _<_}
+use mathlib.Core.Bool.{cond}
+use mathlib.Core.List.{List}
+use mathlib.Core.Path.{_≡_}
+use lib.ListN.{length, getD}
+use Rattle.sizes.specs.Sizes.{mostTasks, mostResources}
+use Rattle.plan_reading.specs.Plan.{Plan, planOf}
+use Rattle.analysis_equations.specs.Sharing.{processorOf, priorityOf, global}
+use Rattle.analysis_equations.specs.Blocking.{globalCount, ceiling, longestGlobal}
+use Rattle.analysis_hold_times.specs.Figures.{Known}
+
+-- where those of task j stand: its longest global section, its place, and how many global sections it has
+abbrev pub longestCell : ℕ → ℕ
+longestCell j = j
+
+abbrev pub placeCell : ℕ → ℕ
+placeCell j = mostTasks + j
+
+abbrev pub countCell : ℕ → ℕ
+countCell j = 2 * mostTasks + j
+
+-- and those of resource q: its ceiling, and whether it is global
+abbrev pub ceilingCell : ℕ → ℕ
+ceilingCell q = 3 * mostTasks + q
+
+abbrev pub sharedCell : ℕ → ℕ
+sharedCell q = 3 * mostTasks + mostResources + q
+
+-- how many there are
+abbrev pub termCount : ℕ
+termCount = 3 * mostTasks + 2 * mostResources
+
+-- a task's place: its processor and its priority as one number
+abbrev pub placeOf : Plan → ℕ → ℕ
+placeOf p j = processorOf p j * 256 + priorityOf p j
+
+-- the table
+pub record Terms (p : Plan) (t : List ℕ) : Type 0 where
+  pub long : length t ≡ termCount
+  pub longest : (j : ℕ) → j < mostTasks → getD t (longestCell j) 0 ≡ longestGlobal p j
+  pub place : (j : ℕ) → j < p .tasks → getD t (placeCell j) 0 ≡ placeOf p j
+  pub count : (j : ℕ) → j < mostTasks → getD t (countCell j) 0 ≡ globalCount p j
+  pub ceiling : (q : ℕ) → q < mostResources → getD t (ceilingCell q) 0 ≡ ceiling p q
+  pub shared : (q : ℕ) → q < mostResources → getD t (sharedCell q) 0 ≡ cond (global p q) 1 0
+
+-- a file that passed every check, the table of its figures, and this one
+pub record Prepared (f figures t : List ℕ) : Type 0 where
+  pub known : Known f figures
+  pub terms : Terms (planOf f) t
