@@ -53,12 +53,12 @@ module _ (f : List ℕ) (s : State) (calls before : List ℕ) where
       let text : List ℕ = callLine f t bytes in
       let room : length (take end now) + 96 ≤ length before = omega (arith, length-take-le end now (omega arith), w .long) in
       let line = one-more f s calls used a (w .printed) room e (h .after) in
-      let last : r .end ≡ end + length text = h .put .ends in
+      let last : r .end ≡ end + length text = h .line .put .ends in
       record {
-        printed = rw (put-front (h .put)) line;
-        behind = put-behind (h .put) ∙ rw last (sym (drop-drop (length text) end now) ∙ ap (drop (length text)) (w .behind) ∙ drop-drop (length text) end before);
+        printed = rw (put-front (h .line .put)) line;
+        behind = put-behind (h .line .put) ∙ rw last (sym (drop-drop (length text) end now) ∙ ap (drop (length text)) (w .behind) ∙ drop-drop (length text) end before);
         within = omega arith;
-        fits = omega (arith, h .room, w .long);
+        fits = omega (arith, h .line .within, w .long);
         long = same ∙ w .long;
       }
 

@@ -1,11 +1,11 @@
 -- What the bytes of a call print and do, once it is known whether they are a call.
-use Prim.Native.Nat.{ℕ, _+_, _≤_}
+use Prim.Native.Nat.{ℕ}
 use mathlib.Core.List.{List, [], _∷_}
 use mathlib.Core.Path.{_≡_, refl, sym}
 use Rattle.machine_rules.specs.declared.Call.{Call}
 use Rattle.machine_rules.specs.declared.Answer.{Answer}
 use Rattle.machine_state.specs.declared.State.{State}
-use Rattle.print_text.specs.Text.{Put}
+use Rattle.print_text.specs.Text.{PutIn}
 use Rattle.machine.specs.Replies.{reply, Next}
 use Rattle.machine_calls.specs.declared.CallBytes.{CallBytes}
 use Rattle.machine_calls.specs.Calls.{callIn}
@@ -23,11 +23,11 @@ module _ (f : List ℕ) (s : State) (b : CallBytes) where
   line-call c e = rw e
 
   module _ {before now : List ℕ} {at end : ℕ} where
-    pub stepped-none : callIn b ≡ [] → Put before now at (refusedLine 21) end → end ≤ at + 96
+    pub stepped-none : callIn b ≡ [] → PutIn before now at 96 (refusedLine 21) end
         → Stepped f s b before now at (record { end = end; state = s })
-    stepped-none e p l = record { put = rw (line-none e) p; room = l; after = rw e refl }
+    stepped-none e p = record { line = rw (line-none e) p; after = rw e refl }
 
     pub stepped-call : (c : Call) {a : Answer} {t : State} → callIn b ≡ c ∷ [] → a ≡ reply f s c → Next f s c t
-        → Put before now at (answerLine f (b .tag) (b .resource) a) end → end ≤ at + 96
+        → PutIn before now at 96 (answerLine f (b .tag) (b .resource) a) end
         → Stepped f s b before now at (record { end = end; state = t })
-    stepped-call c e r n p l = record { put = rw (line-call c e, ← r) p; room = l; after = rw e n }
+    stepped-call c e r n p = record { line = rw (line-call c e, ← r) p; after = rw e n }

@@ -1,8 +1,8 @@
 -- What the private functions of this crate give. None of this is a rule of document 01.
-use Prim.Native.Nat.{ℕ, _≤_, _+_}
+use Prim.Native.Nat.{ℕ}
 use mathlib.Core.List.{List}
 use Rattle.machine_state.specs.declared.State.{State}
-use Rattle.print_text.specs.Text.{Put}
+use Rattle.print_text.specs.Text.{PutIn}
 use Rattle.machine_calls.specs.declared.CallBytes.{CallBytes}
 use Rattle.machine_calls.specs.Calls.{callIn}
 use Rattle.machine.specs.Inner.{AfterBytes}
@@ -11,6 +11,5 @@ use Rattle.print_calls.specs.Calls.{callLine}
 
 -- the bytes of a call put their line at `at`, and were made on the state
 pub record Stepped (f : List ℕ) (s : State) (b : CallBytes) (before now : List ℕ) (at : ℕ) (r : Step) : Type 0 where
-  pub put : Put before now at (callLine f s b) (r .end)
-  pub room : r .end ≤ at + 96
+  pub line : PutIn before now at 96 (callLine f s b) (r .end)
   pub after : AfterBytes f s (callIn b) (r .state)

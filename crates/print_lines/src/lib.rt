@@ -1,57 +1,160 @@
-// The lines of the printing program, put into a lent buffer from a place on; each function returns where its text ends. They are for
+// The lines of the printing programs, put into a lent buffer from a place on; each function returns where its text ends. They are for
 // the crates above this one: each says in its `requires` how much room it takes. The line of a refusal, which both programs print, is
 // there for any buffer too.
 use machine_rules::Answer;
 use plan_rules::Counts;
 use print_text::Line;
 ghost use mathlib.Core.Path.{_≡_};
+ghost use mathlib.Core.Bool.{cond};
+ghost use mathlib.Core.List.{[]};
 ghost use Prim.Native.Nat.{_+_, _≤_};
 ghost use lib.ListN.{length};
-ghost use Rattle.machine_rules.specs.declared.Answer.the-variants.{Granted, Waits, Next, Free};
-ghost use Rattle.print_text.specs.Text.{Put};
+ghost use Rattle.print_text.specs.Text.{PutIn};
 ghost use Rattle.print_text.specs.Buffers.{lineFor, lineIn};
-ghost use Rattle.print_lines.specs.Lines.{field, signedField, nameField, refusedLine, planLine, tickLine, named, answerLine};
+ghost use Rattle.print_lines.specs.declared.Field.the-variants.{Number, Signed, Name, Says};
+ghost use Rattle.print_lines.specs.Lines.{refusedLine, planLine, answerLine};
 ghost use Rattle.print_lines.specs.Naming.{Nameable, Names};
+ghost use Rattle.print_lines.specs.Inner.{fieldText, fieldsText, roomOf, roomsOf, lineRoom, Asking, AllNamed, LinePut};
+
+// A word in a line.
+pub enum Word {
+    To,
+    Free,
+    Global,
+    Local,
+    Met,
+    Unmet,
+    Yes,
+    No,
+}
+
+// A field of a line; the name is that of a resource.
+pub enum Field {
+    Number(u64),
+    Signed(i64),
+    Name(u8),
+    Says(Word),
+    None,
+}
+
+// The most fields of a line.
+pub const FIELDS: usize = 8;
+
+// No field more.
+pub const NONE: Field = Field::None;
+
+// One of two words.
+pub fn either(first: bool, yes: Word, no: Word) -> Field
+    ensures { λ r. ⌜ r ≡ Says (cond first yes no) ⌝ }
+{
+    if first {
+        return Field::Says(yes);
+    }
+    Field::Says(no)
+}
 
 // A space and a number.
-pub fn put_field(buf: &mut [u8], at: usize, n: u64) -> usize
+fn put_number(buf: &mut [u8], at: usize, n: u64) -> usize
     requires { ⌜ at + 21 ≤ length (now buf) ⌝ }
-    ensures { λ r. ⌜ Put (now (buf .entry)) (now (buf .exit)) at (field n) r ⌝ }
-    ensures { λ r. ⌜ r ≤ at + 21 ⌝ }
+    ensures { λ r. ⌜ PutIn (now (buf .entry)) (now (buf .exit)) at 21 (fieldText [] (Number n)) r ⌝ }
 {
     let a = print_text::put(buf, at, b" ");
     print_text::put_decimal(buf, a, n)
 }
 
 // A space and a number that may be below zero.
-pub fn put_signed_field(buf: &mut [u8], at: usize, z: i64) -> usize
+fn put_signed(buf: &mut [u8], at: usize, z: i64) -> usize
     requires { ⌜ at + 22 ≤ length (now buf) ⌝ }
-    ensures { λ r. ⌜ Put (now (buf .entry)) (now (buf .exit)) at (signedField z) r ⌝ }
-    ensures { λ r. ⌜ r ≤ at + 22 ⌝ }
+    ensures { λ r. ⌜ PutIn (now (buf .entry)) (now (buf .exit)) at 22 (fieldText [] (Signed z)) r ⌝ }
 {
     let a = print_text::put(buf, at, b" ");
     print_text::put_signed(buf, a, z)
 }
 
 // A space and the name of a resource.
-pub fn put_name(buf: &mut [u8], at: usize, file: &[u8], resource: u8) -> usize
+fn put_name(buf: &mut [u8], at: usize, file: &[u8], resource: u8) -> usize
     requires { ⌜ (Nameable (now file) resource) × (at + 13 ≤ length (now buf)) ⌝ }
-    ensures { λ r. ⌜ Put (now (buf .entry)) (now (buf .exit)) at (nameField (now (file .entry)) resource) r ⌝ }
-    ensures { λ r. ⌜ r ≤ at + 13 ⌝ }
+    ensures { λ r. ⌜ PutIn (now (buf .entry)) (now (buf .exit)) at 13 (fieldText (now (file .entry)) (Name resource)) r ⌝ }
 {
     let a = print_text::put(buf, at, b" ");
     print_text::put(buf, a, plan_reading::checked::name(file, resource))
 }
 
+// A space and a word.
+fn put_word(buf: &mut [u8], at: usize, word: Word) -> usize
+    requires { ⌜ at + 7 ≤ length (now buf) ⌝ }
+    ensures { λ r. ⌜ PutIn (now (buf .entry)) (now (buf .exit)) at 7 (fieldText [] (Says word)) r ⌝ }
+{
+    match word {
+        Word::To => print_text::put(buf, at, b" to"),
+        Word::Free => print_text::put(buf, at, b" free"),
+        Word::Global => print_text::put(buf, at, b" global"),
+        Word::Local => print_text::put(buf, at, b" local"),
+        Word::Met => print_text::put(buf, at, b" met"),
+        Word::Unmet => print_text::put(buf, at, b" unmet"),
+        Word::Yes => print_text::put(buf, at, b" yes"),
+        Word::No => print_text::put(buf, at, b" no"),
+    }
+}
+
+// A field, after a space.
+fn put_field(buf: &mut [u8], at: usize, file: &[u8], field: Field) -> usize
+    requires { ⌜ (Asking (now file) field (Unit {0})) × (at + roomOf field ≤ length (now buf)) ⌝ }
+    ensures { λ r. ⌜ PutIn (now (buf .entry)) (now (buf .exit)) at (roomOf field) (fieldText (now (file .entry)) field) r ⌝ }
+{
+    match field {
+        Field::Number(n) => put_number(buf, at, n),
+        Field::Signed(z) => put_signed(buf, at, z),
+        Field::Name(resource) => put_name(buf, at, file, resource),
+        Field::Says(word) => put_word(buf, at, word),
+        Field::None => at,
+    }
+}
+
+// One field behind the other.
+fn put_fields(buf: &mut [u8], at: usize, file: &[u8], fields: [Field; FIELDS]) -> usize
+    requires { ⌜ (AllNamed (now file) fields) × (at + roomsOf fields ≤ length (now buf)) ⌝ }
+    ensures { λ r. ⌜ PutIn (now (buf .entry)) (now (buf .exit)) at (roomsOf fields) (fieldsText (now (file .entry)) fields) r ⌝ }
+{
+    let mut end = at;
+    let mut i = 0;
+    while i < FIELDS {
+        let field = fields[i];
+        end = put_field(buf, end, file, field);
+        i += 1;
+    }
+    end
+}
+
+// A line: its word and its fields.
+pub fn put_line(
+    buf: &mut [u8],
+    at: usize,
+    file: &[u8],
+    word: &[u8],
+    fields: [Field; FIELDS],
+) -> usize
+    requires { ⌜ (AllNamed (now file) fields) × (at + lineRoom (now word) fields ≤ length (now buf)) ⌝ }
+    ensures { λ r. ⌜ LinePut (now (buf .entry)) (now (buf .exit)) at (now (file .entry)) (now (word .entry)) fields r ⌝ }
+{
+    let a = print_text::put(buf, at, word);
+    let b = put_fields(buf, a, file, fields);
+    print_text::put(buf, b, b"\n")
+}
+
 // "refused N".
 pub fn put_refused(buf: &mut [u8], at: usize, number: u8) -> usize
     requires { ⌜ at + 96 ≤ length (now buf) ⌝ }
-    ensures { λ r. ⌜ Put (now (buf .entry)) (now (buf .exit)) at (refusedLine number) r ⌝ }
-    ensures { λ r. ⌜ r ≤ at + 96 ⌝ }
+    ensures { λ r. ⌜ PutIn (now (buf .entry)) (now (buf .exit)) at 96 (refusedLine number) r ⌝ }
 {
-    let a = print_text::put(buf, at, b"refused");
-    let b = put_field(buf, a, number as u64);
-    print_text::put(buf, b, b"\n")
+    let code = Field::Number(number as u64);
+    put_line(
+        buf,
+        at,
+        b"",
+        b"refused",
+        [code, NONE, NONE, NONE, NONE, NONE, NONE, NONE],
+    )
 }
 
 // That line alone, at the front of a lent buffer.
@@ -67,93 +170,13 @@ pub fn refused_line(number: u8, out: &mut [u8]) -> Line
 // "plan P N R S".
 pub fn put_plan(buf: &mut [u8], at: usize, counts: Counts) -> usize
     requires { ⌜ at + 96 ≤ length (now buf) ⌝ }
-    ensures { λ r. ⌜ Put (now (buf .entry)) (now (buf .exit)) at (planLine counts) r ⌝ }
-    ensures { λ r. ⌜ r ≤ at + 96 ⌝ }
+    ensures { λ r. ⌜ PutIn (now (buf .entry)) (now (buf .exit)) at 96 (planLine counts) r ⌝ }
 {
-    let a = print_text::put(buf, at, b"plan");
-    let b = put_field(buf, a, counts.processors as u64);
-    let c = put_field(buf, b, counts.tasks as u64);
-    let d = put_field(buf, c, counts.resources as u64);
-    let e = put_field(buf, d, counts.sections as u64);
-    print_text::put(buf, e, b"\n")
-}
-
-// "tick" and its two words.
-fn put_tick(buf: &mut [u8], at: usize, cuts: u16, grants: u16) -> usize
-    requires { ⌜ at + 96 ≤ length (now buf) ⌝ }
-    ensures { λ r. ⌜ Put (now (buf .entry)) (now (buf .exit)) at (tickLine cuts grants) r ⌝ }
-    ensures { λ r. ⌜ r ≤ at + 96 ⌝ }
-{
-    let a = print_text::put(buf, at, b"tick");
-    let b = put_field(buf, a, cuts as u64);
-    let c = put_field(buf, b, grants as u64);
-    print_text::put(buf, c, b"\n")
-}
-
-// A tag, and the name of a resource.
-fn put_named(buf: &mut [u8], at: usize, file: &[u8], tag: u16, resource: u8) -> usize
-    requires { ⌜ (Nameable (now file) resource) × (at + 34 ≤ length (now buf)) ⌝ }
-    ensures { λ r. ⌜ Put (now (buf .entry)) (now (buf .exit)) at (named (now (file .entry)) tag resource) r ⌝ }
-    ensures { λ r. ⌜ r ≤ at + 34 ⌝ }
-{
-    let a = put_field(buf, at, tag as u64);
-    put_name(buf, a, file, resource)
-}
-
-// "granted", tag and name.
-fn put_granted(buf: &mut [u8], at: usize, file: &[u8], tag: u16, resource: u8) -> usize
-    requires { ⌜ (Nameable (now file) resource) × (at + 96 ≤ length (now buf)) ⌝ }
-    ensures { λ r. ⌜ Put (now (buf .entry)) (now (buf .exit)) at (answerLine (now (file .entry)) tag resource Granted) r ⌝ }
-    ensures { λ r. ⌜ r ≤ at + 96 ⌝ }
-{
-    let a = print_text::put(buf, at, b"granted");
-    let b = put_named(buf, a, file, tag, resource);
-    print_text::put(buf, b, b"\n")
-}
-
-// "waits", tag, name, the number ahead, the limit.
-fn put_waits(
-    buf: &mut [u8],
-    at: usize,
-    file: &[u8],
-    tag: u16,
-    resource: u8,
-    ahead: u8,
-    most: u32,
-) -> usize
-    requires { ⌜ (Nameable (now file) resource) × (at + 96 ≤ length (now buf)) ⌝ }
-    ensures { λ r. ⌜ Put (now (buf .entry)) (now (buf .exit)) at (answerLine (now (file .entry)) tag resource (Waits ahead most)) r ⌝ }
-    ensures { λ r. ⌜ r ≤ at + 96 ⌝ }
-{
-    let a = print_text::put(buf, at, b"waits");
-    let b = put_named(buf, a, file, tag, resource);
-    let c = put_field(buf, b, ahead as u64);
-    let d = put_field(buf, c, most as u64);
-    print_text::put(buf, d, b"\n")
-}
-
-// "released", tag, name, "to" and the tag granted next.
-fn put_next(buf: &mut [u8], at: usize, file: &[u8], tag: u16, resource: u8, next: u16) -> usize
-    requires { ⌜ (Nameable (now file) resource) × (at + 96 ≤ length (now buf)) ⌝ }
-    ensures { λ r. ⌜ Put (now (buf .entry)) (now (buf .exit)) at (answerLine (now (file .entry)) tag resource (Next next)) r ⌝ }
-    ensures { λ r. ⌜ r ≤ at + 96 ⌝ }
-{
-    let a = print_text::put(buf, at, b"released");
-    let b = put_named(buf, a, file, tag, resource);
-    let c = print_text::put(buf, b, b" to");
-    let d = put_field(buf, c, next as u64);
-    print_text::put(buf, d, b"\n")
-}
-
-// "released", tag, name, "free".
-fn put_free(buf: &mut [u8], at: usize, file: &[u8], tag: u16, resource: u8) -> usize
-    requires { ⌜ (Nameable (now file) resource) × (at + 96 ≤ length (now buf)) ⌝ }
-    ensures { λ r. ⌜ Put (now (buf .entry)) (now (buf .exit)) at (answerLine (now (file .entry)) tag resource Free) r ⌝ }
-    ensures { λ r. ⌜ r ≤ at + 96 ⌝ }
-{
-    let a = print_text::put(buf, at, b"released");
-    let b = put_named(buf, a, file, tag, resource);
-    print_text::put(buf, b, b" free\n")
+    let p = Field::Number(counts.processors as u64);
+    let n = Field::Number(counts.tasks as u64);
+    let r = Field::Number(counts.resources as u64);
+    let s = Field::Number(counts.sections as u64);
+    put_line(buf, at, b"", b"plan", [p, n, r, s, NONE, NONE, NONE, NONE])
 }
 
 // The line of an answer.
@@ -166,15 +189,63 @@ pub fn put_answer(
     answer: Answer,
 ) -> usize
     requires { ⌜ (Names (now file) resource answer) × (at + 96 ≤ length (now buf)) ⌝ }
-    ensures { λ r. ⌜ Put (now (buf .entry)) (now (buf .exit)) at (answerLine (now (file .entry)) tag resource answer) r ⌝ }
-    ensures { λ r. ⌜ r ≤ at + 96 ⌝ }
+    ensures { λ r. ⌜ PutIn (now (buf .entry)) (now (buf .exit)) at 96 (answerLine (now (file .entry)) tag resource answer) r ⌝ }
 {
+    let tag = Field::Number(tag as u64);
+    let name = Field::Name(resource);
     match answer {
-        Answer::Granted => put_granted(buf, at, file, tag, resource),
-        Answer::Waits(ahead, most) => put_waits(buf, at, file, tag, resource, ahead, most),
-        Answer::Next(next) => put_next(buf, at, file, tag, resource, next),
-        Answer::Free => put_free(buf, at, file, tag, resource),
-        Answer::Ticked(cuts, grants) => put_tick(buf, at, cuts, grants),
-        Answer::Refused(k) => put_refused(buf, at, k),
+        Answer::Granted => {
+            put_line(
+                buf,
+                at,
+                file,
+                b"granted",
+                [tag, name, NONE, NONE, NONE, NONE, NONE, NONE],
+            )
+        }
+        Answer::Waits(ahead, most) => {
+            let ahead = Field::Number(ahead as u64);
+            let limit = Field::Number(most as u64);
+            put_line(
+                buf,
+                at,
+                file,
+                b"waits",
+                [tag, name, ahead, limit, NONE, NONE, NONE, NONE],
+            )
+        }
+        Answer::Next(next) => {
+            let to = Field::Says(Word::To);
+            let next = Field::Number(next as u64);
+            put_line(
+                buf,
+                at,
+                file,
+                b"released",
+                [tag, name, to, next, NONE, NONE, NONE, NONE],
+            )
+        }
+        Answer::Free => {
+            let free = Field::Says(Word::Free);
+            put_line(
+                buf,
+                at,
+                file,
+                b"released",
+                [tag, name, free, NONE, NONE, NONE, NONE, NONE],
+            )
+        }
+        Answer::Ticked(cuts, grants) => {
+            let cuts = Field::Number(cuts as u64);
+            let grants = Field::Number(grants as u64);
+            put_line(
+                buf,
+                at,
+                file,
+                b"tick",
+                [cuts, grants, NONE, NONE, NONE, NONE, NONE, NONE],
+            )
+        }
+        Answer::Refused(code) => put_refused(buf, at, code),
     }
 }

@@ -1,13 +1,31 @@
--- What a private function of this crate gives. None of this is a rule.
-use Prim.Native.Nat.{ℕ, _+_, _≤_}
-use mathlib.Core.Bool.{Bool}
+-- What the private functions of this crate are given, and what one of them gives. None of this is a rule.
+use Prim.Native.Nat.{ℕ, _+_, _<_, _≤_}
+use mathlib.Core.Bool.{Bool, _||_, not}
 use mathlib.Core.List.{List}
 use mathlib.Core.Path.{_≡_}
-use Rattle.print_text.specs.Text.{Put}
+use lib.ListN.{length}
+use Rattle.print_text.specs.Text.{PutIn}
+use Rattle.plan_reading.specs.Plan.{planOf}
+use Rattle.analysis_equations.specs.Requirement.{asks, met}
+use Rattle.analysis_hold_times.specs.Figures.{Known}
 use Rattle.print_sheet.specs.declared.Required.{Required}
 
+-- a checked plan with the table of its figures, and so much room from `at` on
+pub record Ready (f t l : List ℕ) (at most : ℕ) : Type 0 where
+  pub known : Known f t
+  pub room : at + most ≤ length l
+
+-- the same, and a resource of the plan
+pub record Cell (f t l : List ℕ) (at most q : ℕ) : Type 0 where
+  pub known : Known f t
+  pub room : at + most ≤ length l
+  pub resource : q < planOf f .resources
+
+-- whether a task passes: it asks for nothing, or what it asks is met
+abbrev pub passes : List ℕ → ℕ → Bool
+passes f i = not (asks (planOf f) i) || met (planOf f) i
+
 -- text put at `at`, which takes at most `room` bytes, and whether every requirement in it is met
-pub record PutAll (before now : List ℕ) (at : ℕ) (text : List ℕ) (room : ℕ) (met : Bool) (r : Required) : Type 0 where
-  pub put : Put before now at text (r .end)
-  pub within : r .end ≤ at + room
-  pub all : r .all ≡ met
+pub record PutAll (before now : List ℕ) (at room : ℕ) (text : List ℕ) (ok : Bool) (r : Required) : Type 0 where
+  pub put : PutIn before now at room text (r .end)
+  pub all : r .all ≡ ok

@@ -14,7 +14,7 @@ use lib.Seq.{length-take-le, take-all, take-append-seam, drop-append-add, drop-d
 use mir.Syntax.{w64}
 use mir.Val.{SFits, toZ, ofZ}
 use mir.Facts.{toZ-ofZ}
-use Rattle.print_text.specs.Text.{quoted, placesTo, digits, decimal, signed, textBelow, valueFrom, valueOf, Put}
+use Rattle.print_text.specs.Text.{quoted, placesTo, digits, decimal, signed, textBelow, valueFrom, valueOf, Put, PutIn}
 
 -- what a buffer holds up to where a text ends, and from there on; the place may lie behind the buffer's end too
 front : (at : ℕ) (l a : List ℕ) → take (at + length a) (take at l ++ (a ++ drop (at + length a) l)) ≡ take at l ++ a
@@ -56,6 +56,16 @@ put-length {l} {m} {a} {at} p h =
     ap length (p .held) ∙ length-append (take at l) (a ++ drop (at + length a) l)
     ∙ omega (arith, length-append a (drop (at + length a) l), length-take-le at l (omega arith), length-drop (at + length a) l)
 
+-- the same with the room that they take
+pub put-in : {l m a : List ℕ} {at e : ℕ} (room : ℕ) → Put l m at a e → length a ≤ room → PutIn l m at room a e
+put-in room p h = record { put = p; within = omega (arith, p .ends) }
+
+pub put-wider : {l m a : List ℕ} {at e room : ℕ} (more : ℕ) → PutIn l m at room a e → room ≤ more → PutIn l m at more a e
+put-wider more p h = record { put = p .put; within = omega (arith, p .within) }
+
+pub put-in-then : {l m n a b : List ℕ} {at e f r s : ℕ} → PutIn l m at r a e → PutIn m n e s b f → PutIn l n at (r + s) (a ++ b) f
+put-in-then p q = record { put = put-then (p .put) (q .put); within = omega (arith, p .within, q .within) }
+
 -- the texts of the numbers below one more, and of none
 pub below-more : (n : ℕ) (text : ℕ → List ℕ) → textBelow (suc n) text ≡ textBelow n text ++ text n
 unfolding textBelow
@@ -66,7 +76,7 @@ unfolding textBelow
 below-none text = refl
 
 -- the text of an integer, as the machine has it
-pub put-held : {l m : List ℕ} {at e : ℕ} (text : ℤ → List ℕ) (z : ℤ) → SFits w64 z → Put l m at (text (toZ w64 (ofZ w64 z))) e → Put l m at (text z) e
+pub put-held : {l m : List ℕ} {at e room : ℕ} (text : ℤ → List ℕ) (z : ℤ) → SFits w64 z → PutIn l m at room (text (toZ w64 (ofZ w64 z))) e → PutIn l m at room (text z) e
 put-held text z s p = rw (toZ-ofZ s) at p
 
 -- the number of digits, by what n is

@@ -1,4 +1,5 @@
--- A loop that puts one text behind the other, each no longer than `width`: the texts of the numbers below its counter.
+-- A loop that puts one text behind the other, each no longer than `width`: the texts of the numbers below its counter. It ends at
+-- `count`, which is at most `most`, and there is room for so many.
 use Prim.Native.Nat.{ℕ, _+_, _*_, _<_, _≤_}
 use mathlib.Core.List.{List}
 use mathlib.Core.Path.{_≡_, refl, _∙_}
@@ -6,36 +7,52 @@ use native.Mathlib.Nat.{suc-mul, mul-le-mul-right}
 use native.Mathlib.Numerals.{add-one}
 use native.Mathlib.Omega.{arith}
 use lib.ListN.{length}
-use Rattle.print_text.specs.Text.{textBelow, Put}
+use Rattle.print_text.specs.Text.{textBelow, Put, PutIn}
 use Rattle.print_text.proofs.TextLaws.{below-more, below-none, put-none, put-then}
 
 -- what is in a buffer after n turns
-pub record PutBelow (before now : List ℕ) (at width n : ℕ) (text : ℕ → List ℕ) (end : ℕ) : Type 0 where
+pub record PutBelow (before now : List ℕ) (at width most count n : ℕ) (text : ℕ → List ℕ) (end : ℕ) : Type 0 where
   pub put : Put before now at (textBelow n text) end
   pub within : end ≤ at + n * width
   pub long : length now ≡ length before
+  pub turn : n ≤ count
+  pub few : count ≤ most
+  pub room : at + most * width ≤ length before
 
-module _ {l : List ℕ} {at width : ℕ} {text : ℕ → List ℕ} where
+module _ {l : List ℕ} {at width most count : ℕ} {text : ℕ → List ℕ} where
   -- before the first turn
-  pub turns-none : PutBelow l l at width 0 text at
-  turns-none = record { put = rw (below-none text) (put-none l at); within = omega arith; long = refl }
-
-  -- one turn more
-  pub turns-more : {m k : List ℕ} {n e f : ℕ} → PutBelow l m at width n text e → Put m k e (text n) f → f ≤ e + width → length k ≡ length m
-      → PutBelow l k at width (n + 1) text f
-  turns-more {n = n} s p b h =
+  pub turns-none : count ≤ most → at + most * width ≤ length l → PutBelow l l at width most count 0 text at
+  turns-none h r =
       record {
-        put = rw (add-one n, below-more n text) (put-then (s .put) p);
-        within = rw add-one (omega (arith, s .within, suc-mul n width));
-        long = h ∙ s .long;
+        put = rw (below-none text) (put-none l at);
+        within = omega arith;
+        long = refl;
+        turn = omega arith;
+        few = h;
+        room = r;
       }
 
-  -- a turn has room where all of them have
-  pub turns-room : {m : List ℕ} {n e : ℕ} (most : ℕ) → PutBelow l m at width n text e → n < most → at + most * width ≤ length l → e + width ≤ length m
-  turns-room {n = n} most s h r = omega (arith, s .within, s .long, suc-mul n width, mul-le-mul-right width h)
+  module _ {m : List ℕ} {n e : ℕ} (s : PutBelow l m at width most count n text e) where
+    -- a turn has room, and is one turn more
+    pub turns-room : n < count → e + width ≤ length m
+    turns-room h =
+        let g : n < most = omega (arith, s .few) in
+        omega (arith, s .within, s .long, s .room, suc-mul n width, mul-le-mul-right width g)
 
-  -- after the last turn
-  pub turns-done : {m : List ℕ} {n e : ℕ} (most count : ℕ) → PutBelow l m at width n text e → n ≤ count → count ≤ n → count ≤ most
-      → Put l m at (textBelow count text) e × (e ≤ at + most * width)
-  turns-done {m = m} {n = n} {e = e} most count s a b h =
-      let q : n ≡ count = omega arith in (rw q at (s .put), omega (arith, s .within, mul-le-mul-right width (let g : n ≤ most = omega arith in g)))
+    pub turns-more : {k : List ℕ} {f : ℕ} → n < count → PutIn m k e width (text n) f → length k ≡ length m → PutBelow l k at width most count (n + 1) text f
+    turns-more h p b =
+        record {
+          put = rw (add-one n, below-more n text) (put-then (s .put) (p .put));
+          within = rw add-one (omega (arith, s .within, p .within, suc-mul n width));
+          long = b ∙ s .long;
+          turn = omega arith;
+          few = s .few;
+          room = s .room;
+        }
+
+    -- after the last turn
+    pub turns-done : count ≤ n → PutIn l m at (most * width) (textBelow count text) e
+    turns-done h =
+        let q : n ≡ count = omega (arith, s .turn) in
+        let g : n ≤ most = omega (arith, s .few) in
+        record { put = rw q at (s .put); within = omega (arith, s .within, mul-le-mul-right width g) }

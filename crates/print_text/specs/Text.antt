@@ -1,5 +1,5 @@
 -- Text as bytes: what is quoted, and numbers in decimal; and what a lent buffer holds once text has been put into it.
-use Prim.Native.Nat.{ℕ, zero, suc, _+_, _-_, _*_, _/_, _%_}
+use Prim.Native.Nat.{ℕ, zero, suc, _+_, _-_, _*_, _/_, _%_, _≤_}
 use Prim.Native.String.{String, len, charAt}
 use Prim.Native.Char.{code}
 use mathlib.Core.Bool.{cond}
@@ -57,3 +57,8 @@ valueOf text = valueFrom 0 text
 pub record Put (before now : List ℕ) (at : ℕ) (text : List ℕ) (end : ℕ) : Type 0 where
   pub held : now ≡ take at before ++ (text ++ drop (at + length text) before)
   pub ends : end ≡ at + length text
+
+-- the same, of a text that takes at most `room` bytes
+pub record PutIn (before now : List ℕ) (at room : ℕ) (text : List ℕ) (end : ℕ) : Type 0 where
+  pub put : Put before now at text end
+  pub within : end ≤ at + room

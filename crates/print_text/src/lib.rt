@@ -6,7 +6,7 @@ ghost use mathlib.Core.Bool.{true};
 ghost use lib.IntN.{pos, natAbs};
 ghost use lib.Signed.{ltZ};
 ghost use lib.ListN.{length};
-ghost use Rattle.print_text.specs.Text.{placesTo, decimal, signed, Put};
+ghost use Rattle.print_text.specs.Text.{placesTo, decimal, signed, Put, PutIn};
 ghost use Rattle.print_text.specs.Buffers.{lineFor, lineIn};
 
 // A text in a lent buffer: its length, or the refusal 10 where the buffer is too short for it.
@@ -44,8 +44,7 @@ fn places(n: u64) -> usize
 // A number in decimal.
 pub fn put_decimal(buf: &mut [u8], at: usize, n: u64) -> usize
     requires { ⌜ at + 20 ≤ length (now buf) ⌝ }
-    ensures { λ r. ⌜ Put (now (buf .entry)) (now (buf .exit)) at (decimal n) r ⌝ }
-    ensures { λ r. ⌜ r ≤ at + 20 ⌝ }
+    ensures { λ r. ⌜ PutIn (now (buf .entry)) (now (buf .exit)) at 20 (decimal n) r ⌝ }
 {
     let count = places(n);
     let mut rest = n;
@@ -69,8 +68,7 @@ fn below_zero(z: i64) -> u64
 // A number in decimal, with a minus where it is below zero.
 pub fn put_signed(buf: &mut [u8], at: usize, z: i64) -> usize
     requires { ⌜ at + 21 ≤ length (now buf) ⌝ }
-    ensures { λ r. ⌜ Put (now (buf .entry)) (now (buf .exit)) at (signed z) r ⌝ }
-    ensures { λ r. ⌜ r ≤ at + 21 ⌝ }
+    ensures { λ r. ⌜ PutIn (now (buf .entry)) (now (buf .exit)) at 21 (signed z) r ⌝ }
 {
     if z < 0 {
         let a = put(buf, at, b"-");

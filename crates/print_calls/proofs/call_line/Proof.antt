@@ -27,7 +27,7 @@ returns-2 c =
     let h = c .before .before .before .before .before in
     let p = h .before .before .before .before .before in
     let i = p .before .before .before in
-    let e = none-before (i .before .state-code .ensures) (text (i .before)) (start (i .before) .args .out .now) (i .if1 .left) (rw (front-part (p .put-call .ensures .put)) at (h .hand-over .ensures)) in
+    let e = none-before (i .before .state-code .ensures) (text (i .before)) (start (i .before) .args .out .now) (i .if1 .left) (rw (front-part (p .put-call .ensures .line .put)) at (h .hand-over .ensures)) in
     (e .0, (e .1, (λ z. absurd (c .if2 .taken z), λ d. refl)))
 
 returns-3 : tie.Need-returns-3
@@ -35,7 +35,7 @@ returns-3 c =
     let h = c .before .before .before .before .before in
     let p = h .before .before .before .before .before in
     let i = p .before .before .before in
-    let e = none-before (i .before .state-code .ensures) (text (i .before)) (start (i .before) .args .out .now) (i .if1 .left) (rw (front-part (p .put-call .ensures .put)) at (h .hand-over .ensures)) in
+    let e = none-before (i .before .state-code .ensures) (text (i .before)) (start (i .before) .args .out .now) (i .if1 .left) (rw (front-part (p .put-call .ensures .line .put)) at (h .hand-over .ensures)) in
     (e .0, (e .1, (λ z. p .put-call .ensures .after, λ d. absurd (d (c .if2 .left)))))
 
 pub call-line-spec : {M : Type 1} → statement M

@@ -5,7 +5,7 @@ use Rattle.print_calls.proofs.plan_line.Statement.{statement}
 use Rattle.print_calls.proofs.plan_line.Tie as tie
 
 returns : tie.Need-returns
-returns c = rw (front-part (c .before .before .before .before .before .before .before .put-plan .ensures .0)) at (c .before .before .hand-over .ensures)
+returns c = rw (front-part (c .before .before .before .before .before .before .before .put-plan .ensures .put)) at (c .before .before .hand-over .ensures)
 
 pub plan-line-spec : {M : Type 1} → statement M
 plan-line-spec =

@@ -11,7 +11,7 @@ returns c =
     let i = c .before .before .before .before in
     let e = decoded-no-call _ (i .before .before .decode .ensures) (i .if1 .taken) in
     let p = c .before .before .put-refused .ensures in
-    stepped-none _ _ _ e (p .0) (p .1)
+    stepped-none _ _ _ e p
 
 put-answer-requires : tie.Need-put-answer-requires
 put-answer-requires c κs =
@@ -29,7 +29,7 @@ returns-2 c =
     let e = decoded-call _ (i .before .before .decode .ensures) (i .if1 .left) in
     let r = made .call .ensures in
     let p = put .put-answer .ensures in
-    stepped-call _ _ _ _ e (r .0) (r .1) (p .0) (p .1)
+    stepped-call _ _ _ _ e (r .0) (r .1) p
 
 pub put-call-spec : {M : Type 1} → statement M
 put-call-spec =

@@ -1,28 +1,54 @@
--- The space, then the digits.
+-- Each field in its way.
+use mathlib.Core.List.{[]}
+use mathlib.Core.Path.{_≡_}
 use native.Mathlib.Omega.{arith}
 use borrow.Author.Needs.{needs}
-use Rattle.print_text.proofs.TextLaws.{put-then}
+use Rattle.print_text.proofs.TextLaws.{put-in, put-none, put-held}
+use Rattle.print_lines.specs.declared.Field.the-variants.{Signed}
+use Rattle.print_lines.specs.Inner.{fieldText}
 use Rattle.print_lines.proofs.put_field.Statement.{statement}
 use Rattle.print_lines.proofs.put_field.Tie as tie
 
-slice-aggregate-put : tie.Need-slice-aggregate-put
-slice-aggregate-put c = search needs
+put-number-requires : tie.Need-put-number-requires
+put-number-requires c κs =
+    let i = c .before .before in omega (arith, rw (i .field .given .1) at (i .before .before .before .before .pre .1))
 
-put-requires : tie.Need-put-requires
-put-requires c κs = search needs
+put-signed-requires : tie.Need-put-signed-requires
+put-signed-requires c κs =
+    let i = c .before .before in omega (arith, rw (i .field2 .given .1) at (i .before .before .before .before .pre .1))
 
-put-decimal-requires : tie.Need-put-decimal-requires
-put-decimal-requires c κs = search needs
+put-name-requires : tie.Need-put-name-requires
+put-name-requires c κs =
+    let i = c .before .before in
+    let h = rw (i .field3 .given .1) at (i .before .before .before .before .pre) in
+    (h .0 .0, omega (arith, h .1))
 
-same-length : tie.Need-same-length
-same-length c = search needs
+put-word-requires : tie.Need-put-word-requires
+put-word-requires c κs =
+    let i = c .before .before in omega (arith, rw (i .field4 .given .1) at (i .before .before .before .before .pre .1))
 
 returns : tie.Need-returns
-returns c = (
-  put-then (c .before .before .before .before .before .before .put .ensures) (c .before .before .put-decimal .ensures .0),
-  omega (arith, c .before .before .before .before .before .before .put .ensures .ends, c .before .before .put-decimal .ensures .1),
-)
+returns c = let p = c .before .before in rw (p .before .before .before .field .given .1) (p .put-number .ensures)
+
+returns-2 : tie.Need-returns-2
+returns-2 c =
+    let p = c .before .before in
+    let i = p .before .before .before in
+    rw (i .field2 .given .1) (put-held (λ z. fieldText [] (Signed z)) (i .field2 .given .0 .0) (search needs) (p .put-signed .ensures))
+
+returns-3 : tie.Need-returns-3
+returns-3 c = let p = c .before .before in rw (p .before .before .before .field3 .given .1) (p .put-name .ensures)
+
+returns-4 : tie.Need-returns-4
+returns-4 c = let p = c .before .before in rw (p .before .before .before .field4 .given .1) (p .put-word .ensures)
+
+returns-5 : tie.Need-returns-5
+returns-5 c = rw (c .enum-told .given .1) (put-in 0 (put-none _ _) (omega arith))
 
 pub put-field-spec : {M : Type 1} → statement M
 put-field-spec =
-    tie.close (tie.spec slice-aggregate-put put-requires put-decimal-requires same-length returns)
+    tie.close
+    (tie.spec
+    (λ c. search needs) put-number-requires (λ c. search needs) put-signed-requires (λ c. search needs) put-name-requires
+    (λ c. search needs) put-word-requires (λ c. search needs) (λ c. search needs) returns (λ c. search needs) returns-2
+    (λ c. search needs) returns-3 (λ c. search needs) returns-4 returns-5)

@@ -5,7 +5,10 @@ use Rattle.print_lines.proofs.refused_line.Statement.{statement}
 use Rattle.print_lines.proofs.refused_line.Tie as tie
 
 returns : tie.Need-returns
-returns c = rw (front-part (c .before .before .before .before .before .before .before .put-refused .ensures .0)) at (c .before .before .hand-over .ensures)
+returns c =
+    let h = c .before .before in
+    let p = h .before .before .before .before .before .put-refused .ensures in
+    rw (front-part (p .put)) at (h .hand-over .ensures)
 
 pub refused-line-spec : {M : Type 1} → statement M
 refused-line-spec =

@@ -1,18 +1,22 @@
--- One text or the other.
+-- The field is one of two words.
 use native.Mathlib.Omega.{arith}
 use borrow.Author.Needs.{needs}
+use Rattle.print_text.proofs.TextLaws.{put-wider}
+use Rattle.print_lines.specs.declared.Word.the-variants.{Yes, No}
+use Rattle.print_sheet.proofs.Laws.{either-text}
 use Rattle.print_sheet.proofs.put_admitted.Statement.{statement}
 use Rattle.print_sheet.proofs.put_admitted.Tie as tie
 
-returns : tie.Need-returns
-returns c = (rw (c .before .before .before .before .before .if1 .taken) (c .before .before .put .ensures), omega (arith, c .before .before .put .ensures .ends))
+put-line-requires : tie.Need-put-line-requires
+put-line-requires c κs = let w = c .before .before .before in rw (w .either .ensures) (tt, search needs)
 
-returns-2 : tie.Need-returns-2
-returns-2 c = (rw (c .before .before .before .before .before .if1 .left) (c .before .before .put2 .ensures), omega (arith, c .before .before .put2 .ensures .ends))
+returns : tie.Need-returns
+returns c =
+    let p = c .before .before in
+    let w = p .before .before .before .before in
+    put-wider 16 (rw (w .either .ensures, either-text (w .before .before .args .yes) Yes No) at (p .put-line .ensures)) (omega arith)
 
 pub put-admitted-spec : {M : Type 1} → statement M
 put-admitted-spec =
     tie.close
-    (tie.spec
-    (λ c. search needs) (λ c κs. search needs) (λ c. search needs) returns (λ c. search needs) (λ c κs. search needs)
-    (λ c. search needs) returns-2)
+    (tie.spec (λ c κs. search needs) (λ c. search needs) (λ c. search needs) put-line-requires (λ c. search needs) returns)

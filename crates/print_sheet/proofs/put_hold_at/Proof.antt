@@ -1,45 +1,51 @@
 -- The table has 0 exactly where there is no line.
 use native.Mathlib.Omega.{arith}
 use borrow.Author.Needs.{needs}
-use Rattle.plan_reading.proofs.Laws.{valid-plan}
-use Rattle.print_sheet.proofs.Laws.{hold-read, hold-global, hold-out, hold-in}
+use Rattle.print_text.proofs.TextLaws.{put-wider}
+use Rattle.print_sheet.proofs.Laws.{hold-place, hold-global, hold-out, hold-in}
 use Rattle.print_sheet.proofs.put_hold_at.Statement.{statement}
 use Rattle.print_sheet.proofs.put_hold_at.Tie as tie
 
-mul-hold : tie.Need-mul-hold
-mul-hold c = let h = c .before .before .before .before .before .pre in omega (arith, h .3, valid-plan _ (h .0) .tasks)
-
-add-hold : tie.Need-add-hold
-add-hold c = let h = c .before .before .before .before .before .pre in omega (arith, c .wide .ensures .0, h .3, h .4, valid-plan _ (h .0) .tasks, valid-plan _ (h .0) .resources)
-
-mul-hold-2 : tie.Need-mul-hold-2
-mul-hold-2 c = let h = c .before .before .before .before .before .pre in omega (arith, c .wide .ensures .0, h .3, h .4, valid-plan _ (h .0) .tasks, valid-plan _ (h .0) .resources)
-
-shared-slice-read-hold : tie.Need-shared-slice-read-hold
-shared-slice-read-hold c =
-    let h = c .before .before .before .before .before .before .pre in
-    hold-read _ _ (h .0) (h .1) _ _ (h .3) (h .4) (c .before .wide .ensures .0)
+hold-at-requires : tie.Need-hold-at-requires
+hold-at-requires c κs =
+    let h = c .before .before .before .before .pre in
+    hold-place _ _ (h .0 .known) _ (h .0 .resource) (c .wide .ensures .0) _ (h .1)
 
 returns : tie.Need-returns
 returns c =
-    let h = c .before .before .before .before .before .before .before .pre in
-    (hold-out _ _ (h .0) (h .1) _ _ (h .3) (h .4) (c .before .before .wide .ensures .0) _ _ (c .if1 .taken), omega arith)
+    let w = c .before .before in
+    let h = w .before .before .before .before .pre in
+    hold-out _ _ (h .0 .known) _ (h .0 .resource) (w .wide .ensures .0) _ (h .1) (c .before .hold-at .ensures) _ _ (c .if1 .taken)
 
 longest-of-requires : tie.Need-longest-of-requires
 longest-of-requires c κs =
-    let h = c .before .before .before .before .before .before .before .before .pre in
-    (h .0, h .1, h .2, h .3, omega (arith, c .before .before .before .wide .ensures .0, h .4, valid-plan _ (h .0) .resources), hold-global _ _ (h .0) (h .1) _ _ (h .3) (h .4) (c .before .before .before .wide .ensures .0) (c .before .if1 .left))
+    let i = c .before in
+    let w = i .before .before in
+    let h = w .before .before .before .before .pre in
+    let e = w .wide .ensures .0 in
+    (h .0 .known, h .1, hold-place _ _ (h .0 .known) _ (h .0 .resource) e _ (h .1) .resource, hold-global _ _ (h .0 .known) _ (h .0 .resource) e _ (h .1) (i .before .hold-at .ensures) (i .if1 .left))
+
+put-line-requires : tie.Need-put-line-requires
+put-line-requires c κs =
+    let m = c .before .before .before .before .before in
+    let w = m .before .before .before .before in
+    let h = w .before .before .before .before .pre .0 in
+    ((record { plan = h .known .plan; below = h .resource }, tt), omega (arith, h .room))
 
 returns-2 : tie.Need-returns-2
 returns-2 c =
-    let h = c .before .before .before .before .before .before .before .before .before .before .before .before .before .pre in
-    let m = c .before .before .before .before .longest-of .ensures in
-    let p = c .before .before .put-hold .ensures in
-    (hold-in _ _ (h .0) (h .1) _ _ (h .3) (h .4) (c .before .before .before .before .before .before .before .before .wide .ensures .0) (c .before .before .before .before .before .before .if1 .left) (c .before .before .before .before .before .task .ensures) (m .0) (m .1) (p .0), p .1)
+    let p = c .before .before in
+    let s = p .before .before .before in
+    let m = s .before .before .before in
+    let i = m .before .before in
+    let w = i .before .before in
+    let h = w .before .before .before .before .pre in
+    hold-in _ _ (h .0 .known) _ (h .0 .resource) (w .wide .ensures .0) _ (h .1) (i .before .hold-at .ensures) (i .if1 .left) (m .before .task .ensures)
+    (m .longest-of .ensures .0) (m .longest-of .ensures .1) (put-wider 104 (p .put-line .ensures) (omega arith))
 
 pub put-hold-at-spec : {M : Type 1} → statement M
 put-hold-at-spec =
     tie.close
     (tie.spec
-    (λ c κs. search needs) mul-hold add-hold mul-hold-2 shared-slice-read-hold returns (λ c κs. search needs) longest-of-requires
-    (λ c κs. search needs) (λ c. search needs) returns-2)
+    (λ c κs. search needs) hold-at-requires returns (λ c κs. search needs) longest-of-requires (λ c. search needs) (λ c. search needs)
+    (λ c. search needs) (λ c. search needs) (λ c. search needs) put-line-requires (λ c. search needs) returns-2)

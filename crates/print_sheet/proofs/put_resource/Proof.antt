@@ -1,25 +1,25 @@
--- One text behind the other; the last says whether it is shared.
+-- The second field is one of two words.
 use native.Mathlib.Omega.{arith}
 use borrow.Author.Needs.{needs}
-use Rattle.print_text.proofs.TextLaws.{put-then}
+use Rattle.print_text.proofs.TextLaws.{put-wider}
+use Rattle.print_lines.specs.declared.Word.the-variants.{Global, Local}
+use Rattle.print_sheet.proofs.Laws.{either-text}
 use Rattle.print_sheet.proofs.put_resource.Statement.{statement}
 use Rattle.print_sheet.proofs.put_resource.Tie as tie
 
-returns : tie.Need-returns
-returns c = (
-  rw (c .before .before .before .before .before .if1 .taken) (put-then (put-then (c .before .before .before .before .before .before .before .before .before .before .before .before .put .ensures) (c .before .before .before .before .before .before .before .before .put-name .ensures .0)) (c .before .before .put2 .ensures)),
-  omega (arith, c .before .before .before .before .before .before .before .before .before .before .before .before .put .ensures .ends, c .before .before .before .before .before .before .before .before .put-name .ensures .1, c .before .before .put2 .ensures .ends),
-)
+put-line-requires : tie.Need-put-line-requires
+put-line-requires c κs =
+    let w = c .before .before in
+    let h = w .before .before .before .pre in
+    rw (w .either .ensures) ((h .0, tt), omega (arith, h .1))
 
-returns-2 : tie.Need-returns-2
-returns-2 c = (
-  rw (c .before .before .before .before .before .if1 .left) (put-then (put-then (c .before .before .before .before .before .before .before .before .before .before .before .before .put .ensures) (c .before .before .before .before .before .before .before .before .put-name .ensures .0)) (c .before .before .put3 .ensures)),
-  omega (arith, c .before .before .before .before .before .before .before .before .before .before .before .before .put .ensures .ends, c .before .before .before .before .before .before .before .before .put-name .ensures .1, c .before .before .put3 .ensures .ends),
-)
+returns : tie.Need-returns
+returns c =
+    let p = c .before .before in
+    let w = p .before .before .before in
+    put-wider 32 (rw (w .either .ensures, either-text (w .before .before .before .args .shared) Global Local) at (p .put-line .ensures)) (omega arith)
 
 pub put-resource-spec : {M : Type 1} → statement M
 put-resource-spec =
     tie.close
-    (tie.spec
-    (λ c. search needs) (λ c κs. search needs) (λ c κs. search needs) (λ c. search needs) (λ c κs. search needs)
-    (λ c. search needs) returns (λ c. search needs) (λ c κs. search needs) (λ c. search needs) returns-2)
+    (tie.spec (λ c κs. search needs) (λ c. search needs) put-line-requires (λ c. search needs) returns)

@@ -41,9 +41,9 @@ returns-3 c =
     let i = c .before .before .before .before .before in
     let a = i .before .before .before .before .args in
     let p = c .before .before .put-plan-sheet .ensures in
-    let l = long-line _ (a .out .now) (omega (arith, p .0 .ends, p .1, c .before .before .before .before .if2 .left)) (p .0) in
+    let l = long-line _ (a .out .now) (omega (arith, p .put .ends, p .within, c .before .before .before .before .if2 .left)) (p .put) in
     let h = none-before (i .before .check .ensures) (planSheet (a .file .now)) (a .out .now) (i .if1 .left) l in
-    (h .0, (h .1, p .1))
+    (h .0, (h .1, p .within))
 
 pub sheet-spec : {M : Type 1} → statement M
 sheet-spec =

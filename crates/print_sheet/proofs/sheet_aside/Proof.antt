@@ -8,8 +8,8 @@ use Rattle.print_sheet.proofs.sheet_aside.Tie as tie
 returns : tie.Need-returns
 returns c =
     let p = c .before .before .before .before .before .before .before .put-plan-sheet .ensures in
-    let h = rw (front-part (p .0)) at (c .before .before .hand-over .ensures) in
-    (h .0, (h .1, omega (arith, line-short _ _ (h .0), p .0 .ends, p .1)))
+    let h = rw (front-part (p .put)) at (c .before .before .hand-over .ensures) in
+    (h .0, (h .1, omega (arith, line-short _ _ (h .0), p .put .ends, p .within)))
 
 pub sheet-aside-spec : {M : Type 1} → statement M
 sheet-aside-spec =

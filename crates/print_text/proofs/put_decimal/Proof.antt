@@ -64,10 +64,11 @@ returns : tie.Need-returns Inv-loop μ-loop
 returns c =
     let a = c .before .before .before .before in
     let p = c .before .before .places in
-    let l = c .before .loop in (
-      all-put (a .args .buf .now) (l .buf) (a .args .at) (p .result) (l .k) (a .args .n) (l .rest) (omega arith) (omega arith) (l .inv .1),
-      omega arith,
-    )
+    let l = c .before .loop in
+    record {
+      put = all-put (a .args .buf .now) (l .buf) (a .args .at) (p .result) (l .k) (a .args .n) (l .rest) (omega arith) (omega arith) (l .inv .1);
+      within = omega arith;
+    }
 
 pub put-decimal-spec : {M : Type 1} → statement M
 put-decimal-spec =

@@ -13,8 +13,8 @@ use lib.Signed.{ltZ, nonNeg}
 use mir.Syntax.{w64}
 use mir.Val.{Fits, SFits, toZ, ofZ}
 use mir.Facts.{toZ-ofZ, fits-natAbs}
-use Rattle.print_text.specs.Text.{quoted, decimal, signed, Put}
-use Rattle.print_text.proofs.TextLaws.{put-then, put-held}
+use Rattle.print_text.specs.Text.{quoted, decimal, signed, Put, PutIn}
+use Rattle.print_text.proofs.TextLaws.{put-in, put-wider, put-in-then, put-held}
 use Rattle.print_text.proofs.put_signed.Statement.{statement}
 use Rattle.print_text.proofs.put_signed.Tie as tie
 
@@ -23,13 +23,13 @@ not-below (pos a) t = tt
 not-below (negsuc a) t = absurd (true≢false t)
 
 put-below : {l m n : List ℕ} {at e f k : ℕ} (z : ℤ) → ltZ z (pos 0) ≡ true → k ≡ natAbs z
-    → Put l m at (quoted "-") e → Put m n e (decimal k) f
-    → Put l n at (signed z) f
+    → Put l m at (quoted "-") e → PutIn m n e 20 (decimal k) f
+    → PutIn l n at 21 (signed z) f
 put-below (pos a) t h p q = absurd (not-suc-le-zero (ltb-true a 0 t))
-put-below (negsuc a) t h p q = put-then p (rw h at q)
+put-below (negsuc a) t h p q = put-in-then (put-in 1 p (omega arith)) (rw h at q)
 
-put-not-below : {l m : List ℕ} {at e : ℕ} (z : ℤ) → T (nonNeg z) → Put l m at (decimal (natAbs z)) e → Put l m at (signed z) e
-put-not-below (pos a) t p = p
+put-not-below : {l m : List ℕ} {at e : ℕ} (z : ℤ) → T (nonNeg z) → PutIn l m at 20 (decimal (natAbs z)) e → PutIn l m at 21 (signed z) e
+put-not-below (pos a) t p = put-wider 21 p (omega arith)
 put-not-below (negsuc a) t p = absurd t
 
 -- the branches of the test `z < 0`, and the cast where it fails, for z as the machine has it
@@ -40,32 +40,29 @@ module _ (z : ℤ) (s : SFits w64 z) where
   casts : ltZ held (pos 0) ≡ false → T (nonNeg held) × Fits w64 (natAbs held)
   casts t = (not-below held t, rw (toZ-ofZ s) (fits-natAbs tt s))
 
-  minus : {l m n : List ℕ} {at e f k : ℕ} → ltZ held (pos 0) ≡ true → k ≡ natAbs held → Put l m at (quoted "-") e → Put m n e (decimal k) f → Put l n at (signed z) f
+  minus : {l m n : List ℕ} {at e f k : ℕ} → ltZ held (pos 0) ≡ true → k ≡ natAbs held → Put l m at (quoted "-") e → PutIn m n e 20 (decimal k) f → PutIn l n at 21 (signed z) f
   minus t h p q = put-held signed z s (put-below held t h p q)
 
-  plain : {l m : List ℕ} {at e : ℕ} → ltZ held (pos 0) ≡ false → Put l m at (decimal (natAbs held)) e → Put l m at (signed z) e
+  plain : {l m : List ℕ} {at e : ℕ} → ltZ held (pos 0) ≡ false → PutIn l m at 20 (decimal (natAbs held)) e → PutIn l m at 21 (signed z) e
   plain t p = put-held signed z s (put-not-below held (not-below held t) p)
 
 returns : tie.Need-returns
 returns c =
-    let a = c .before .before .before .before .before .before .before .before .before .before .before .before in
-    let i = c .before .before .before .before .before .before .before .before .before .before in
-    let p = c .before .before .before .before .before .before .before .put in
-    let d = c .before .before .put-decimal in (
-      minus (a .args .z) (a .fits .z) (i .if1 .taken) (c .before .before .before .below-zero .ensures) (p .ensures) (d .ensures .0),
-      omega (arith, p .ensures .ends, d .ensures .1),
-    )
+    let d = c .before .before in
+    let b = d .before in
+    let p = b .before .before .before .before in
+    let i = p .before .before .before in
+    let a = i .before .before in
+    minus (a .args .z) (a .fits .z) (i .if1 .taken) (b .below-zero .ensures) (p .put .ensures) (d .put-decimal .ensures)
 
 cast-put-decimal : tie.Need-cast-put-decimal
 cast-put-decimal c = casts _ (c .before .before .before .fits .z) (c .before .if1 .left)
 
 returns-2 : tie.Need-returns-2
 returns-2 c =
-    let a = c .before .before .before .before .before .before in
-    let d = c .before .before .put-decimal2 in (
-      plain (a .args .z) (a .fits .z) (c .before .before .before .before .if1 .left) (d .ensures .0),
-      omega (arith, d .ensures .1),
-    )
+    let i = c .before .before .before .before in
+    let a = i .before .before in
+    plain (a .args .z) (a .fits .z) (i .if1 .left) (c .before .before .put-decimal2 .ensures)
 
 pub put-signed-spec : {M : Type 1} → statement M
 put-signed-spec =

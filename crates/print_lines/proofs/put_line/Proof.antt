@@ -1,0 +1,22 @@
+-- The word, the fields, the end.
+use native.Mathlib.Omega.{arith}
+use borrow.Author.Needs.{needs}
+use lib.ListN.{length}
+use Rattle.print_text.proofs.TextLaws.{put-in, put-in-then}
+use Rattle.print_lines.proofs.put_line.Statement.{statement}
+use Rattle.print_lines.proofs.put_line.Tie as tie
+
+returns : tie.Need-returns
+returns c =
+    let e = c .before .before in
+    let f = e .before .before .before .before .before in
+    let w = f .before .before .before .before in
+    let b = w .before .before .before in
+    let a = b .before .before in
+    let word = put-in (length (a .args .word .now)) (w .put .ensures) (omega arith) in
+    put-in-then (put-in-then word (f .put-fields .ensures)) (put-in 1 (e .put2 .ensures) (omega arith))
+
+pub put-line-spec : {M : Type 1} → statement M
+put-line-spec =
+    tie.close
+    (tie.spec (λ c κs. search needs) (λ c κs. search needs) (λ c. search needs) (λ c κs. search needs) (λ c. search needs) returns)
