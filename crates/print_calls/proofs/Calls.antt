@@ -1,5 +1,5 @@
 -- What the bytes of a call print and do, once it is known whether they are a call.
-use Prim.Native.Nat.{ℕ, _+_, _≤_}
+use Prim.Native.Nat.{ℕ}
 use mathlib.Core.List.{List, [], _∷_}
 use mathlib.Core.Path.{_≡_, refl, sym}
 use Rattle.machine_rules.specs.declared.Call.{Call}
