@@ -1,6 +1,6 @@
 -- What each answer is, case by case: what is refused, what is given, and what it tells.
 use Prim.Native.Nat.{ℕ, _<_, _≤_, _/_, _%_}
-use mathlib.Core.Bool.{Bool, true, false, cond, not, _||_}
+use mathlib.Core.Bool.{Bool, true, cond, not, _||_}
 use mathlib.Core.List.{List, [], _∷_}
 use mathlib.Core.Path.{_≡_, refl, sym, ap, _∙_}
 use native.Mathlib.Omega.{arith}
@@ -29,6 +29,7 @@ use Rattle.analysis.specs.declared.RequirementAnswer.{RequirementAnswer}
 use Rattle.analysis.specs.declared.RequirementAnswer.the-variants as requirements
 use Rattle.analysis.specs.declared.AdmissionAnswer.{AdmissionAnswer}
 use Rattle.analysis.specs.declared.AdmissionAnswer.the-variants as admissions
+use Rattle.analysis.specs.Inner.{Share}
 use Rattle.analysis.specs.Answers.{afterReading, figure, figureTold, shareRefusal, requirementGiven, requirementValues, requirementTold, signedAnswered, admissionAnswer, admissionTold, holdTimes}
 
 -- a file of bytes whose plan is not refused
@@ -97,12 +98,12 @@ module _ (p : Plan) where
   )
 
 -- what a question about shares that is not refused tells
-pub share-clear : (f : List ℕ) (k q : ℕ) → shareRefusal f k q ≡ 0 → ((i : ℕ) → getD f i 0 < 256) → (Checked f) × (k < planOf f .processors) × (q < planOf f .resources)
+pub share-clear : (f : List ℕ) (k q : ℕ) → shareRefusal f k q ≡ 0 → ((i : ℕ) → getD f i 0 < 256) → Share f k q
 unfolding shareRefusal
 share-clear f k q e b =
     let r = reading-clear f (processorCode (planOf f) k q) e in
     let there = processor-clear (planOf f) k q (r .1) in
-    (checked-file f (r .0) b, there .0, there .1)
+    record { plan = checked-file f (r .0) b; processor = there .0; resource = there .1 }
 
 -- the hold times of a table of figures: x stands in the row of x / 16 at x % 16
 holds-list : (p : Plan) (t : List ℕ) → Figures p t

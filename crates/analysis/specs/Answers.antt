@@ -9,7 +9,7 @@ use Rattle.folds.specs.Bytes.{placedBelow}
 use Rattle.refusals.specs.Outcomes.{Outcome}
 use Rattle.plan.specs.Acceptance.{refusal}
 use Rattle.plan_reading.specs.Plan.{planOf}
-use Rattle.analysis_equations.specs.HoldTimes.{holdTime, holdAt}
+use Rattle.analysis_equations.specs.HoldTimes.{holdTime, holdAt, budget, waitTime}
 use Rattle.analysis_equations.specs.Requirement.{admitted}
 use Rattle.analysis_equations.specs.Questions.{taskNumber, useCode, processorCode, requirementCode}
 use Rattle.machine_rules.specs.Longest.{longestWait}
@@ -48,7 +48,14 @@ holdFigure f tag q = holdTime (planOf f) (taskNumber (planOf f) tag) q
 abbrev pub longestFigure : List ℕ → ℕ → ℕ → ℕ
 longestFigure f tag q = longestWait (planOf f) (taskNumber (planOf f) tag) q
 
--- the budget and the wait time of a processor on a resource
+-- the budget of a processor on a resource, and its wait time
+abbrev pub budgetOf : List ℕ → ℕ → ℕ → ℕ
+budgetOf f = budget (planOf f)
+
+abbrev pub waitOf : List ℕ → ℕ → ℕ → ℕ
+waitOf f = waitTime (planOf f)
+
+-- and why neither is given
 unfoldable pub shareRefusal : List ℕ → ℕ → ℕ → ℕ
 shareRefusal f k q = afterReading f (processorCode (planOf f) k q)
 
@@ -82,6 +89,10 @@ requirementTold (requirements.Refused code) = record { number = code; values = [
 -- the refusal with no values, or the values where it is 0
 abbrev pub signedAnswered : ℕ → List ℤ → SignedTold
 signedAnswered code values = record { number = code; values = cond (eqb code 0) values [] }
+
+-- what the question for a requirement tells
+abbrev pub requirementSays : List ℕ → ℕ → SignedTold
+requirementSays f tag = signedAnswered (requirementRefusal f tag) (requirementValues (requirementFigures f tag))
 
 -- "the question of admission refuse[s] nothing further"
 unfoldable pub admissionAnswer : List ℕ → AdmissionAnswer

@@ -3,7 +3,7 @@ use Prim.Native.Nat.{ℕ, _<_}
 use mathlib.Core.Bool.{true}
 use mathlib.Core.List.{List}
 use mathlib.Core.Path.{_≡_}
-use Rattle.plan_reading.specs.Plan.{planOf}
+use Rattle.plan_reading.specs.Plan.{planOf, Checked}
 use Rattle.analysis_equations.specs.Sharing.{uses, global}
 use Rattle.analysis_equations.specs.Questions.{taskNumber}
 use Rattle.analysis_hold_times.specs.Figures.{Known}
@@ -18,6 +18,12 @@ pub record Uses (f : List ℕ) (tag q : ℕ) (figures : List ℕ) (i : ℕ) : Ty
   pub resource : q < planOf f .resources
   pub used : uses (planOf f) i q ≡ true
   pub shared : global (planOf f) q ≡ true
+
+-- processor k and resource q of a checked plan
+pub record Share (f : List ℕ) (k q : ℕ) : Type 0 where
+  pub plan : Checked f
+  pub processor : k < planOf f .processors
+  pub resource : q < planOf f .resources
 
 -- the refusal of a question about a task and a resource; where that is 0, who is asked about
 pub record Found (f : List ℕ) (tag q : ℕ) (figures : List ℕ) (r : User) : Type 0 where

@@ -16,8 +16,10 @@ ghost use Rattle.analysis_equations.specs.Requirement.{asks, met, admitted};
 ghost use Rattle.analysis_equations.specs.Questions.{processorCode, requirementCode};
 ghost use Rattle.analysis_hold_times.specs.Figures.{figureCount};
 ghost use Rattle.analysis_requirements.specs.Terms.{Prepared};
-ghost use Rattle.analysis.specs.Inner.{Found};
-ghost use Rattle.analysis.specs.Answers.{figure, figureTold, holdRefusal, holdFigure, longestFigure, shareRefusal, requirementRefusal, requirementFigures, requirementGiven, requirementValues, requirementTold, signedAnswered, admissionAnswer, admissionTold, holdTimes};
+ghost use Rattle.analysis.specs.Inner.{Share, Found};
+ghost use Rattle.analysis.specs.Answers.{figure, figureTold, holdRefusal, holdFigure, longestFigure, shareRefusal, budgetOf, waitOf};
+ghost use Rattle.analysis.specs.Answers.{requirementRefusal, requirementFigures, requirementGiven, requirementTold, requirementSays};
+ghost use Rattle.analysis.specs.Answers.{admissionAnswer, admissionTold, holdTimes};
 
 // The hold times of a plan.
 const HOLDS: usize = sizes::TASKS * sizes::RESOURCES;
@@ -95,7 +97,7 @@ pub fn longest_wait(file: &[u8], tag: u16, resource: u8) -> Figure
 
 // Budget and wait time of processor k on resource q.
 fn shares_of(file: &[u8], k: u8, q: u8) -> BudgetAndWait
-    requires { ⌜ (Checked (now file)) × (k < planOf (now file) .processors) × (q < planOf (now file) .resources) ⌝ }
+    requires { ⌜ Share (now file) k q ⌝ }
     ensures { λ r. ⌜ (r .budget ≡ budget (planOf (now (file .entry))) k q) × (r .wait ≡ waitTime (planOf (now (file .entry))) k q) ⌝ }
 {
     let mut figures = [0u16; analysis_hold_times::FIGURES];
@@ -134,8 +136,8 @@ fn share_refusal(file: &[u8], k: u8, q: u8) -> u8
 
 // The budget of a processor on a resource; 0 where none of its tasks uses it, or it is local.
 pub fn budget(file: &[u8], processor: u8, resource: u8) -> Figure
-    ensures { λ r. ⌜ r ≡ figure (shareRefusal (now (file .entry)) processor resource) (budget (planOf (now (file .entry))) processor resource) ⌝ }
-    ensures { λ r. ⌜ figureTold r ≡ outcome (shareRefusal (now (file .entry)) processor resource) (budget (planOf (now (file .entry))) processor resource ∷ []) ⌝ }
+    ensures { λ r. ⌜ r ≡ figure (shareRefusal (now (file .entry)) processor resource) (budgetOf (now (file .entry)) processor resource) ⌝ }
+    ensures { λ r. ⌜ figureTold r ≡ outcome (shareRefusal (now (file .entry)) processor resource) (budgetOf (now (file .entry)) processor resource ∷ []) ⌝ }
 {
     let code = share_refusal(file, processor, resource);
     if code != 0 {
@@ -147,8 +149,8 @@ pub fn budget(file: &[u8], processor: u8, resource: u8) -> Figure
 
 // The wait time of a processor on a resource: the sum of the budgets of all others.
 pub fn wait_time(file: &[u8], processor: u8, resource: u8) -> Figure
-    ensures { λ r. ⌜ r ≡ figure (shareRefusal (now (file .entry)) processor resource) (waitTime (planOf (now (file .entry))) processor resource) ⌝ }
-    ensures { λ r. ⌜ figureTold r ≡ outcome (shareRefusal (now (file .entry)) processor resource) (waitTime (planOf (now (file .entry))) processor resource ∷ []) ⌝ }
+    ensures { λ r. ⌜ r ≡ figure (shareRefusal (now (file .entry)) processor resource) (waitOf (now (file .entry)) processor resource) ⌝ }
+    ensures { λ r. ⌜ figureTold r ≡ outcome (shareRefusal (now (file .entry)) processor resource) (waitOf (now (file .entry)) processor resource ∷ []) ⌝ }
 {
     let code = share_refusal(file, processor, resource);
     if code != 0 {
@@ -181,7 +183,7 @@ fn requirement_question(file: &[u8], tag: u16) -> RequirementAnswer
 // The requirement of the task with this tag.
 pub fn requirement(file: &[u8], tag: u16) -> RequirementAnswer
     ensures { λ r. ⌜ r ≡ requirementGiven (requirementRefusal (now (file .entry)) tag) (requirementFigures (now (file .entry)) tag) ⌝ }
-    ensures { λ r. ⌜ requirementTold r ≡ signedAnswered (requirementRefusal (now (file .entry)) tag) (requirementValues (requirementFigures (now (file .entry)) tag)) ⌝ }
+    ensures { λ r. ⌜ requirementTold r ≡ requirementSays (now (file .entry)) tag ⌝ }
 {
     let code = plan::check(file);
     if code != 0 {

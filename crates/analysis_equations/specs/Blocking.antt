@@ -1,7 +1,7 @@
 -- Blocking: Equations 4, 5, 6 and 7, for a task i of processor k.
 use Prim.Native.Nat.{ℕ, _+_, _*_, _-_, _/_, min}
 use mathlib.Core.Bool.{Bool, cond, _&&_, not}
-use lib.Dec.{eqb, leb}
+use lib.Dec.{leb}
 use Rattle.folds.specs.Below.{maxBelow, sumBelow, countBelow}
 use Rattle.plan_reading.specs.Plan.{Plan}
 use Rattle.analysis_equations.specs.Sharing.{processorOf, priorityOf, sectionOn, globalBy, uses, global, lower}

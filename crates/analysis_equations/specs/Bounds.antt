@@ -27,17 +27,19 @@ mostFellowHolds = mostTasks * mostHold
 abbrev pub mostTurns : ℕ
 mostTurns = 2 * mostFellowHolds
 
--- Equation 6 for a task and a resource, and Equation 7
+-- Equation 6 for a task and a resource
 abbrev pub mostWaiting : ℕ
 mostWaiting = mostSections * mostTurns * mostWait
 
+-- Equation 7
 abbrev pub mostSide : ℕ
 mostSide = mostResources * mostWaiting
 
--- Equation 4, a term of Equation 5, and Equation 5
+-- Equation 4, and a term of Equation 5
 abbrev pub mostBlocking1 : ℕ
 mostBlocking1 = (mostSections + 1) * mostSectionTicks
 
+-- Equation 5
 abbrev pub mostBlocking2 : ℕ
 mostBlocking2 = mostTasks * mostBlocking1
 
@@ -45,9 +47,10 @@ mostBlocking2 = mostTasks * mostBlocking1
 abbrev pub mostPeriod : ℕ
 mostPeriod = 65535
 
--- the demand of one task up to such a time, and of all
+-- the demand of one task up to such a time
 abbrev pub mostDemandOfOne : ℕ
 mostDemandOfOne = mostPeriod * mostPeriod
 
+-- and of all
 abbrev pub mostDemand : ℕ
 mostDemand = mostTasks * mostDemandOfOne

@@ -13,7 +13,7 @@ use Rattle.plan_reading.specs.Plan.{Plan, Valid}
 use Rattle.analysis_equations.specs.Sharing.{processorOf, uses, global}
 use Rattle.analysis_equations.specs.HoldTimes.{longestOn, longestOff, interference, holdTime, holdAt, budget}
 use Rattle.analysis_equations.proofs.Laws.{budget-holds, off-high, uses-longest}
-use Rattle.analysis_hold_times.specs.Inner.{cell, Held, Row, Flags, Sits, Tops, rankOf, sharedOn}
+use Rattle.analysis_hold_times.specs.Inner.{cell, Held, Put, Row, Flags, Sits, Tops, rankOf, sharedOn}
 use Rattle.analysis_hold_times.proofs.Rows.{row-same}
 use Rattle.analysis_hold_times.proofs.Walks.{passed, passed-none, passed-own, passed-new, passed-above, passed-other, passed-all, MostBelow, most-none, most-step, most-done, SumBelow, sums-none, sums-step, sums-high}
 use Rattle.analysis_hold_times.proofs.Tops.{shared-high, top-own, top-off}
@@ -55,14 +55,30 @@ module _ (p : Plan) (v : Valid p) (k : ℕ) where
   abbrev pub Begun : List ℕ → Type 0
   Begun old = (j q : ℕ) → j < p .tasks → q < 16 → processorOf p j ≡ k → getD old (cell j q) 0 ≡ longestOn p j q
 
-  -- the next task
-  module _ (old : List ℕ) (x i : ℕ) (rows above most flags tops : List ℕ) (h : HeldBelow old x rows above most) (s : Sits p k x i) (u : Flags p flags) (t : Tops p 64 tops) (begun : Begun old) where
+  -- what is known where task i is next
+  pub record Next (old : List ℕ) (x i : ℕ) (rows above most flags tops : List ℕ) : Type 0 where
+    pub held : HeldBelow old x rows above most
+    pub sits : Sits p k x i
+    pub shared : Flags p flags
+    pub longest : Tops p 64 tops
+    pub begun : Begun old
+
+  module _ {old : List ℕ} {x i : ℕ} {rows above most flags tops : List ℕ} (n : Next old x i rows above most flags tops) where
+    abbrev h : HeldBelow old x rows above most
+    h = n .held
+
+    abbrev s : Sits p k x i
+    s = n .sits
+
+    pub low : i < 64
+    low = omega (arith, v .tasks, s .below)
+
     -- its sections on global resources
     product : (q : ℕ) → q < 16 → getD rows (cell i q) 0 * getD flags q 0 ≡ sharedOn p i q
-    product q l = rw (longest, u .at q l) (times (global p q) (longestOn p i q))
+    product q l = rw (longest, n .shared .at q l) (times (global p q) (longestOn p i q))
       where
         longest : getD rows (cell i q) 0 ≡ longestOn p i q
-        longest = h .at i q (s .below) l ∙ rw (passed-new p k x i s) (begun i q (s .below) l (s .own))
+        longest = h .at i q (s .below) l ∙ rw (passed-new p k x i s) (n .begun i q (s .below) l (s .own))
 
         times : (b : Bool) (m : ℕ) → m * cond b 1 0 ≡ cond b m 0
         times true m = omega arith
@@ -77,11 +93,8 @@ module _ (p : Plan) (v : Valid p) (k : ℕ) where
     pub own-high : {own : List ℕ} → Row (sharedOn p i) own → (q : ℕ) → q < 16 → getD own q 0 ≤ 1000
     own-high r q l = omega (arith, r .at q l, shared-high p v i q)
 
-    low : i < 64
-    low = omega (arith, v .tasks, s .below)
-
     pub own-top : {own : List ℕ} → Row (sharedOn p i) own → (q : ℕ) → q < 16 → getD own q 0 ≤ getD tops i 0
-    own-top r q l = omega (arith, r .at q l, top-own p v tops i t low q)
+    own-top r q l = omega (arith, r .at q l, top-own p v tops i (n .longest) low q)
 
     -- what those passed add is its interference
     above-own : (q : ℕ) → q < 16 → getD above q 0 ≡ interference p i q
@@ -105,7 +118,7 @@ module _ (p : Plan) (v : Valid p) (k : ℕ) where
     pub held-step : (own held : List ℕ) {put next-above next-most : List ℕ} {first second : ℕ}
         → Row (sharedOn p i) own
         → Row (holdAt p i) held
-        → (length put ≡ length rows) × ((j q : ℕ) → q < 16 → getD put (cell j q) 0 ≡ cond (eqb j i) (getD held q 0) (getD rows (cell j q) 0))
+        → Put held i rows put
         → first ≡ getD tops i 0
         → second ≡ getD tops (64 + i) 0
         → Row (λ q. getD above q 0 + first - (getD own q 0 - second)) next-above
@@ -113,8 +126,8 @@ module _ (p : Plan) (v : Valid p) (k : ℕ) where
         → HeldBelow old (x + 1) put next-above next-most
     held-step own held {put} o d r ef es a m =
         record {
-          long = r .0 ∙ h .long;
-          added = sums-step p (longestOff p) k v x i above s (h .added) (λ q l. rw (ef, es) (omega (arith, own-top o q l, o .at q l, top-off p v tops i t low q))) a;
+          long = r .long ∙ h .long;
+          added = sums-step p (longestOff p) k v x i above s (h .added) (λ q l. rw (ef, es) (omega (arith, own-top o q l, o .at q l, top-off p v tops i (n .longest) low q))) a;
           greatest = most-step p (holdAt p) k v x i most s (h .greatest) own-put m;
           at = λ j q lj lq. by-eq (λ (b : Bool). getD put (cell j q) 0 ≡ cond (passed p k (x + 1) j) (holdAt p j q) (getD old (cell j q) 0)) j i
               (λ e. rw (e, passed-own p k x i s) (own-put q lq))
@@ -123,7 +136,7 @@ module _ (p : Plan) (v : Valid p) (k : ℕ) where
         }
       where
         own-put : (q : ℕ) → q < 16 → getD put (cell i q) 0 ≡ holdAt p i q
-        own-put q l = r .1 i q l ∙ rw (eq-eqb i i refl) (d .at q l)
+        own-put q l = r .at i q l ∙ rw (eq-eqb i i refl) (d .at q l)
 
         other : (j q : ℕ) → q < 16 → (j ≡ i → ⊥) → getD put (cell j q) 0 ≡ getD rows (cell j q) 0
-        other j q l n = r .1 j q l ∙ rw (ne-eqb j i n)
+        other j q l d = r .at j q l ∙ rw (ne-eqb j i d)

@@ -1,5 +1,5 @@
 -- The tables of longest sections, and which resources the processors use.
-use Prim.Native.Nat.{ℕ, _+_, _*_, _-_, _/_, _<_, _≤_, max}
+use Prim.Native.Nat.{ℕ, _+_, _-_, _/_, _<_, _≤_, max}
 use mathlib.Core.Bool.{Bool, true, false, cond, and-comm, true≢false}
 use mathlib.Core.List.{List}
 use mathlib.Core.Path.{_≡_, refl, sym, ap, _∙_}

@@ -2,19 +2,19 @@
 use Prim.Native.Nat.{ℕ, zero, suc, _+_, _*_, _-_, _<_, _≤_}
 use mathlib.Core.Bool.{Bool, true, false, cond}
 use mathlib.Core.List.{List}
-use mathlib.Core.Path.{_≡_, refl, ap, _∙_}
+use mathlib.Core.Path.{_≡_, refl, _∙_}
 use mathlib.Core.Logic.{⊎-elim}
 use native.Mathlib.Omega.{arith}
 use native.Mathlib.Nat.{not-suc-le-zero, eq-or-lt-of-le, le-of-suc-le-suc}
 use lib.Dec.{eqb}
-use lib.ListN.{length, getD, replicate, length-replicate, getD-replicate}
+use lib.ListN.{length, getD, set, replicate, length-replicate, getD-replicate}
 use lib.Seq.{getD-set-same, getD-set-other}
 use Rattle.folds.specs.Bytes.{placedBelow}
-use Rattle.folds.proofs.Arrays.{by-eq, placed-length, placed-at, stampedBelow, stamped-length}
+use Rattle.folds.proofs.Arrays.{by-eq, placed-length, placed-at, placed-step, stampedBelow, stamped-length}
 use Rattle.plan_reading.specs.Plan.{Plan}
 use Rattle.analysis_equations.specs.HoldTimes.{holdAt, budget}
 use Rattle.analysis_hold_times.specs.Figures.{holdCell, budgetCell, Figures}
-use Rattle.analysis_hold_times.specs.Inner.{cell, Row}
+use Rattle.analysis_hold_times.specs.Inner.{cell, Row, Put}
 
 -- what a choice is at most
 pick-le : (b : Bool) {x y m : ℕ} → x ≤ m → y ≤ m → cond b x y ≤ m
@@ -37,10 +37,24 @@ hold-of p t {j} {q} c e a b = rw e (c .hold j q a b)
 pub budget-of : (p : Plan) (t : List ℕ) {k l q r : ℕ} → Figures p t → l ≡ k → r ≡ q → k < 8 → q < 16 → getD t (budgetCell l r) 0 ≡ budget p k q
 budget-of p t {k} {l} {q} c f e a b = rw (f, e) (c .budget k q a b)
 
--- a row is made
-pub row-done : (n : ℕ) (f : ℕ → ℕ) (l : List ℕ) {m : List ℕ} → n ≡ 16 → length l ≡ 16 → m ≡ placedBelow n f l → Row f m
-row-done n f l e s h =
-    rw (h, e) (record { long = placed-length 16 f l ∙ s; at = λ q lq. placed-at 16 q f l 0 lq (omega (arith, s)) })
+-- ── a row made cell by cell ──
+
+-- the figures f are in place at the resources below q, in what was l
+pub record Made (f : ℕ → ℕ) (l : List ℕ) (q : ℕ) (m : List ℕ) : Type 0 where
+  pub within : q ≤ 16
+  pub made : m ≡ placedBelow q f l
+
+pub row-none : (f : ℕ → ℕ) (l : List ℕ) → Made f l 0 l
+unfolding placedBelow
+row-none f l = record { within = omega arith; made = refl }
+
+pub row-next : (q : ℕ) (f : ℕ → ℕ) (l : List ℕ) {m : List ℕ} {v : ℕ} → Made f l q m → q < 16 → v ≡ f q → Made f l (q + 1) (set m q v)
+row-next q f l h lq e = record { within = omega arith; made = placed-step q f l (h .made) e }
+
+pub row-done : (q : ℕ) (f : ℕ → ℕ) (l : List ℕ) {m : List ℕ} → Made f l q m → 16 ≤ q → length l ≡ 16 → Row f m
+row-done q f l h lq s =
+    let e : q ≡ 16 = omega (arith, h .within) in
+    rw (h .made, e) (record { long = placed-length 16 f l ∙ s; at = λ x lx. placed-at 16 x f l 0 lx (omega (arith, s)) })
 
 -- a row of zeros, and two figures that agree
 pub row-zeros : (f : ℕ → ℕ) → ((q : ℕ) → q < 16 → f q ≡ 0) → Row f (replicate 16 0)
@@ -69,9 +83,8 @@ set-other (suc n) row i table j q d ln l =
     getD-set-other (setBelow n row i table) (i * 16 + n) (cell j q) (getD row n 0) 0 (λ e. d (omega arith))
     ∙ set-other n row i table j q d (omega arith) l
 
-pub set-done : (n : ℕ) (row : List ℕ) (i : ℕ) (table : List ℕ) {m : List ℕ} → m ≡ setBelow n row i table → n ≡ 16 → i * 16 + 16 ≤ length table
-    → (length m ≡ length table) × ((j q : ℕ) → q < 16 → getD m (cell j q) 0 ≡ cond (eqb j i) (getD row q 0) (getD table (cell j q) 0))
-set-done n row i table {m} h e s = (rw h (stamped-length n _ _ table), λ j q lq. rw h (one j q lq))
+pub set-done : (n : ℕ) (row : List ℕ) (i : ℕ) (table : List ℕ) {m : List ℕ} → m ≡ setBelow n row i table → n ≡ 16 → i * 16 + 16 ≤ length table → Put row i table m
+set-done n row i table {m} h e s = record { long = rw h (stamped-length n _ _ table); at = λ j q lq. rw h (one j q lq) }
   where
     one : (j q : ℕ) → q < 16 → getD (setBelow n row i table) (cell j q) 0 ≡ cond (eqb j i) (getD row q 0) (getD table (cell j q) 0)
     one j q lq =

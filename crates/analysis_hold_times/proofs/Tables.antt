@@ -1,22 +1,22 @@
 -- The table of hold times and budgets, processor by processor.
-use Prim.Native.Nat.{ℕ, _+_, _*_, _<_, _≤_}
+use Prim.Native.Nat.{ℕ, _+_, _<_, _≤_}
 use mathlib.Core.Bool.{Bool, true, false, cond, _&&_, and-false}
 use mathlib.Core.List.{List}
 use mathlib.Core.Path.{_≡_, refl, sym, ap, _∙_}
 use native.Mathlib.Omega.{arith}
-use borrow.Author.Tests.{ltb-true, ltb-false, lt-ltb, le-ltb, eqb-true, eq-eqb, ne-eqb}
-use lib.Dec.{eqb, ltb}
-use lib.ListN.{length, getD, replicate, length-replicate, getD-replicate}
+use borrow.Author.Tests.{ltb-true, ltb-false, lt-ltb, le-ltb, eq-eqb, ne-eqb}
+use lib.Dec.{ltb}
+use lib.ListN.{length, getD}
 use Rattle.folds.specs.Below.{anyBelow}
 use Rattle.folds.proofs.Tests.{is-not-false, same-test, any-none}
 use Rattle.folds.proofs.Arrays.{by-eq}
 use Rattle.folds.proofs.Ranges.{max-none}
 use Rattle.plan_reading.specs.Plan.{Plan, Valid}
-use Rattle.analysis_equations.specs.Sharing.{processorOf, sectionOn, uses, usedOn, global}
+use Rattle.analysis_equations.specs.Sharing.{processorOf, sectionOn, uses, usedOn}
 use Rattle.analysis_equations.specs.HoldTimes.{longestOn, holdAt, budget, userOn}
 use Rattle.analysis_equations.proofs.Laws.{budget-unused}
 use Rattle.analysis_hold_times.specs.Figures.{Figures}
-use Rattle.analysis_hold_times.specs.Inner.{cell, Sections, Held, Row}
+use Rattle.analysis_hold_times.specs.Inner.{cell, Sections, Held, Put, Row}
 use Rattle.analysis_hold_times.proofs.Holding.{Begun}
 
 module _ (p : Plan) (v : Valid p) where
@@ -59,21 +59,21 @@ module _ (p : Plan) (v : Valid p) where
 
   pub table-step : (k : ℕ) (old : List ℕ) {next most put : List ℕ} → k < p .processors → TableBelow k old
       → (Row (budget p k) most) × Held p k old next
-      → (length put ≡ length next) × ((j q : ℕ) → q < 16 → getD put (cell j q) 0 ≡ cond (eqb j (64 + k)) (getD most q 0) (getD next (cell j q) 0))
+      → Put most (64 + k) next put
       → TableBelow (k + 1) put
   table-step k old {next} {most} {put} lk h r b =
       record {
-        long = b .0 ∙ r .1 .long;
+        long = b .long ∙ r .1 .long;
         at = λ j q lj lq. other j q lq (λ e. omega arith) ∙ go j q lj lq (ltb j (p .tasks)) refl;
         shares = λ l q ll lq. by-eq (λ (d : Bool). getD put (cell (64 + l) q) 0 ≡ budget p l q) l k (λ e. own l q lq e) (λ d. behind l q lq d ∙ h .shares l q (omega (arith, d)) lq);
         rest = λ l q ll l8 lq. behind l q lq (λ e. omega arith) ∙ h .rest l q (omega arith) l8 lq;
       }
     where
       other : (j q : ℕ) → q < 16 → (j ≡ 64 + k → ⊥) → getD put (cell j q) 0 ≡ getD next (cell j q) 0
-      other j q lq d = b .1 j q lq ∙ rw (ne-eqb j (64 + k) d)
+      other j q lq d = b .at j q lq ∙ rw (ne-eqb j (64 + k) d)
 
       own : (l q : ℕ) → q < 16 → l ≡ k → getD put (cell (64 + l) q) 0 ≡ budget p l q
-      own l q lq e = rw e (b .1 (64 + k) q lq ∙ rw (eq-eqb (64 + k) (64 + k) refl) (r .0 .at q lq))
+      own l q lq e = rw e (b .at (64 + k) q lq ∙ rw (eq-eqb (64 + k) (64 + k) refl) (r .0 .at q lq))
 
       behind : (l q : ℕ) → q < 16 → (l ≡ k → ⊥) → getD put (cell (64 + l) q) 0 ≡ getD old (cell (64 + l) q) 0
       behind l q lq d = other (64 + l) q lq (λ e. d (omega arith)) ∙ r .1 .rest (64 + l) q (omega (arith, v .tasks)) lq

@@ -4,7 +4,7 @@ use mathlib.Core.Bool.{Bool, true, false, cond, _&&_, and-false}
 use mathlib.Core.List.{List}
 use mathlib.Core.Path.{_≡_, refl, sym, ap, ap₂, _∙_}
 use native.Mathlib.Omega.{arith}
-use borrow.Author.Tests.{ltb-true, ltb-false, lt-ltb, le-ltb, eqb-true, eq-eqb, ne-eqb}
+use borrow.Author.Tests.{ltb-true, ltb-false, lt-ltb, le-ltb, eq-eqb}
 use lib.Dec.{eqb, ltb}
 use lib.ListN.{getD, replicate}
 use Rattle.folds.specs.Below.{maxBelow, sumBelow}
@@ -16,7 +16,7 @@ use Rattle.plan_reading.specs.Plan.{Plan, Valid}
 use Rattle.analysis_equations.specs.Sharing.{processorOf, priorityOf, higher}
 use Rattle.analysis_hold_times.specs.Inner.{part, Row, rankOf, Sits, Orders}
 use Rattle.analysis_hold_times.proofs.Rows.{row-zeros, row-same}
-use Rattle.analysis_hold_times.proofs.Ranks.{load, rank-order, rank-below, rank-distinct}
+use Rattle.analysis_hold_times.proofs.Ranks.{rank-order, rank-below, rank-distinct}
 
 module _ (p : Plan) where
   -- the tasks of processor k with fewer than x above them

@@ -2,7 +2,7 @@
 use Prim.Native.Nat.{ℕ, _+_, _*_, _-_, _<_, _≤_}
 use mathlib.Core.Bool.{Bool, true, false, cond, _&&_}
 use mathlib.Core.List.{List}
-use mathlib.Core.Path.{_≡_, refl, sym, ap, _∙_}
+use mathlib.Core.Path.{_≡_, refl, _∙_}
 use native.Mathlib.Omega.{arith}
 use native.Mathlib.Nat.{mul-le-mul}
 use borrow.Author.Tests.{lt-ltb, le-ltb}
@@ -20,7 +20,7 @@ use Rattle.analysis_equations.proofs.Laws.{ceil-bound, used-at, budget-low, bud
 use Rattle.analysis_hold_times.specs.Figures.{Figures, budgetCell}
 use Rattle.analysis_requirements.specs.declared.Requirement.{Requirement}
 use Rattle.analysis_requirements.specs.Figures.{requirementOf}
-use Rattle.analysis_requirements.specs.Inner.{comparison}
+use Rattle.analysis_requirements.specs.Inner.{waitingAt, comparison}
 
 -- what the code's steps for Equation 6 need of the budget b, the wait time w, the fellows' hold times f and the count n
 pub record Waits (p : Plan) (i q b w f n : ℕ) : Type 0 where
@@ -31,10 +31,6 @@ pub record Waits (p : Plan) (i q b w f n : ℕ) : Type 0 where
   pub counted : n * ceilDiv (2 * f) b ≤ 255 * mostTurns
   pub told : n * ceilDiv (2 * f) b * w ≡ waitingOn p i q
   pub high : n * ceilDiv (2 * f) b * w ≤ mostWaiting
-
--- what task i waits for q, 0 where q is local or i does not use it
-abbrev pub waitingAt : Plan → ℕ → ℕ → ℕ
-waitingAt p i q = cond (global p q && uses p i q) (waitingOn p i q) 0
 
 module _ (p : Plan) (i q : ℕ) where
   pub waiting-local : global p q ≡ false → 0 ≡ waitingAt p i q

@@ -1,5 +1,5 @@
 -- The table of terms as it is filled: a turn of each of the three loops, and what stands there in the end.
-use Prim.Native.Nat.{ℕ, _+_, _*_, _%_, _<_, _≤_, max}
+use Prim.Native.Nat.{ℕ, _+_, _%_, _<_, _≤_, max}
 use mathlib.Core.Bool.{Bool, true, false, cond, not}
 use mathlib.Core.List.{List}
 use mathlib.Core.Path.{_≡_, refl, sym, ap, _∙_}

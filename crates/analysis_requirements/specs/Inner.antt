@@ -12,7 +12,7 @@ use Rattle.folds.specs.Below.{sumBelow, maxBelow, countBelow}
 use Rattle.folds.specs.Packed.{packedBelow}
 use Rattle.plan_reading.specs.Plan.{Plan, planOf, Checked}
 use Rattle.analysis_equations.specs.Sharing.{priorityOf, globalBy, global, uses, higher}
-use Rattle.analysis_equations.specs.Blocking.{ceilDiv, countOn}
+use Rattle.analysis_equations.specs.Blocking.{ceilDiv, countOn, waitingOn}
 use Rattle.analysis_equations.specs.Bounds.{mostPeriod}
 use Rattle.analysis_hold_times.specs.Figures.{Sharer}
 use Rattle.analysis_requirements.specs.declared.Requirement.{Requirement}
@@ -28,10 +28,11 @@ pub record TermsBelow (p : Plan) (r n s : ℕ) (t : List ℕ) : Type 0 where
   pub count : (j : ℕ) → j < mostTasks → getD t (countCell j) 0 ≡ countBelow s (globalBy p j)
   pub ceiling : (q : ℕ) → q < mostResources → getD t (ceilingCell q) 0 ≡ maxBelow s (λ x. cond (eqb (p .section x .resource) q) (priorityOf p (p .section x .task)) 0)
 
--- place b is of a's processor and higher there, or lower
+-- place b is of a's processor, and higher there
 abbrev pub above : ℕ → ℕ → Bool
 above a b = eqb (b / 256) (a / 256) && ltb a b
 
+-- or lower
 abbrev pub under : ℕ → ℕ → Bool
 under a b = eqb (b / 256) (a / 256) && ltb b a
 
@@ -55,6 +56,10 @@ pub record Waiter (f figures : List ℕ) (i q n : ℕ) : Type 0 where
   pub sharer : Sharer f figures i q
   pub used : uses (planOf f) i q ≡ true
   pub count : n ≡ countOn (planOf f) i q
+
+-- what task i waits for q, 0 where q is local or i does not use it
+abbrev pub waitingAt : Plan → ℕ → ℕ → ℕ
+waitingAt p i q = cond (global p q && uses p i q) (waitingOn p i q) 0
 
 -- a figure of each resource
 pub record Row (f : ℕ → ℕ) (t : List ℕ) : Type 0 where

@@ -11,20 +11,23 @@ use Rattle.analysis_equations.specs.Sharing.{processorOf, priorityOf, global}
 use Rattle.analysis_equations.specs.Blocking.{globalCount, ceiling, longestGlobal}
 use Rattle.analysis_hold_times.specs.Figures.{Known}
 
--- where those of task j stand: its longest global section, its place, and how many global sections it has
+-- where the longest global section of task j stands
 abbrev pub longestCell : ℕ → ℕ
 longestCell j = j
 
+-- its place
 abbrev pub placeCell : ℕ → ℕ
 placeCell j = mostTasks + j
 
+-- how many global sections it has
 abbrev pub countCell : ℕ → ℕ
 countCell j = 2 * mostTasks + j
 
--- and those of resource q: its ceiling, and whether it is global
+-- the ceiling of resource q
 abbrev pub ceilingCell : ℕ → ℕ
 ceilingCell q = 3 * mostTasks + q
 
+-- whether it is global
 abbrev pub sharedCell : ℕ → ℕ
 sharedCell q = 3 * mostTasks + mostResources + q
 

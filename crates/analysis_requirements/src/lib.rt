@@ -2,21 +2,19 @@
 // budgets, and a table of what else they are worked out from. Every function here is for the crates above, and says in its `requires` what
 // it relies on.
 ghost use mathlib.Core.Path.{_≡_};
-ghost use mathlib.Core.Bool.{cond, _&&_};
 ghost use Prim.Native.Nat.{_+_, _-_, _≤_, _<_};
 ghost use lib.IntN.{pos, _-ℤ_};
 ghost use lib.Signed.{mag};
 ghost use lib.ListN.{length, getD, replicate};
 ghost use Rattle.folds.specs.Signed.{greatestTo};
 ghost use Rattle.plan_reading.specs.Plan.{planOf, Checked};
-ghost use Rattle.analysis_equations.specs.Sharing.{global, uses};
 ghost use Rattle.analysis_equations.specs.Blocking.{countOn, longestLocal, blocking1, blocking2, waitingOn, waitingSide};
 ghost use Rattle.analysis_equations.specs.Requirement.{tolerance};
 ghost use Rattle.analysis_equations.specs.Bounds.{mostWaiting, mostPeriod, mostDemand};
 ghost use Rattle.analysis_hold_times.specs.Figures.{Known};
 ghost use Rattle.analysis_requirements.specs.Figures.{requirementOf};
 ghost use Rattle.analysis_requirements.specs.Terms.{countCell, termCount, Terms, Prepared};
-ghost use Rattle.analysis_requirements.specs.Inner.{TermsBelow, Asked, Counted, Waiter, Row, Above, Timed, Scanned, demandOf, comparison};
+ghost use Rattle.analysis_requirements.specs.Inner.{TermsBelow, Asked, Counted, Waiter, waitingAt, Row, Above, Timed, Scanned, demandOf, comparison};
 
 // What a task's requirement compares: met when the waiting side is at most the slack.
 pub struct Requirement {
@@ -208,7 +206,7 @@ fn waiting_on(file: &[u8], figures: &[u16], count: u16, i: usize, q: usize) -> u
 // The same where q is global and task i uses it, else 0.
 fn waiting_at(file: &[u8], figures: &[u16], terms: &[u16], count: u16, i: usize, q: usize) -> u64
     requires { ⌜ Counted (now file) (now figures) (now terms) i q count ⌝ }
-    ensures { λ r. ⌜ r ≡ cond (global (planOf (now (file .entry))) q && uses (planOf (now (file .entry))) i q) (waitingOn (planOf (now (file .entry))) i q) 0 ⌝ }
+    ensures { λ r. ⌜ r ≡ waitingAt (planOf (now (file .entry))) i q ⌝ }
     ensures { λ r. ⌜ r ≤ mostWaiting ⌝ }
 {
     if terms[SHARED + q] == 0 {

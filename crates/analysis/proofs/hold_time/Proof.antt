@@ -1,5 +1,5 @@
 -- The figure stands in the table, at the place of the task and the resource.
-use mathlib.Core.Path.{_≡_, sym, ap, _∙_}
+use mathlib.Core.Path.{sym, _∙_}
 use native.Mathlib.Omega.{arith}
 use borrow.Author.Needs.{needs}
 use Rattle.analysis.proofs.Told.{figure-given, figure-refused, figure-told}

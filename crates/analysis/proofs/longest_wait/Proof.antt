@@ -1,8 +1,6 @@
 -- The formula's figure, of the task and the resource that were asked about.
-use mathlib.Core.Path.{_≡_, sym, ap, _∙_}
-use native.Mathlib.Omega.{arith}
+use mathlib.Core.Path.{sym, _∙_}
 use borrow.Author.Needs.{needs}
-use Rattle.analysis.specs.Inner.{Uses}
 use Rattle.analysis.proofs.Told.{figure-given, figure-refused, figure-told}
 use Rattle.analysis.proofs.Users.{user-resource}
 use Rattle.analysis.proofs.longest_wait.Statement.{statement}

@@ -11,25 +11,25 @@ use Rattle.analysis.proofs.shares_of.Tie as tie
 budget-at-requires : tie.Need-budget-at-requires
 budget-at-requires c κs =
     let h = c .before .before .before .before .before .before .before .pre in
-    let v = valid-plan _ (h .0) in
+    let v = valid-plan _ (h .plan) in
     record {
       long = c .before .before .before .before .fill-figures .ensures .figures .long;
-      row = omega (arith, v .processors, h .1, c .wide2 .ensures .0);
-      resource = omega (arith, v .resources, h .2, c .before .before .wide .ensures .0);
+      row = omega (arith, v .processors, h .processor, c .wide2 .ensures .0);
+      resource = omega (arith, v .resources, h .resource, c .before .before .wide .ensures .0);
     }
 
 wait-in-requires : tie.Need-wait-in-requires
 wait-in-requires c κs =
     let h = c .before .before .before .before .before .before .before .before .before .pre in
-    (c .before .before .before .before .before .before .fill-figures .ensures, omega (arith, valid-plan _ (h .0) .resources, h .2, c .before .before .before .before .wide .ensures .0))
+    (c .before .before .before .before .before .before .fill-figures .ensures, omega (arith, valid-plan _ (h .plan) .resources, h .resource, c .before .before .before .before .wide .ensures .0))
 
 returns : tie.Need-returns
 returns c =
     let h = c .before .before .before .before .before .before .before .before .before .before .pre in
-    let v = valid-plan _ (h .0) in
+    let v = valid-plan _ (h .plan) in
     let e = c .before .before .before .before .before .wide .ensures .0 in (
       c .before .before .budget-at .ensures
-          ∙ budget-of _ _ (c .before .before .before .before .before .before .before .fill-figures .ensures .figures) (c .before .before .before .wide2 .ensures .0) e (omega (arith, v .processors, h .1)) (omega (arith, v .resources, h .2)),
+          ∙ budget-of _ _ (c .before .before .before .before .before .before .before .fill-figures .ensures .figures) (c .before .before .before .wide2 .ensures .0) e (omega (arith, v .processors, h .processor)) (omega (arith, v .resources, h .resource)),
       c .wait-in .ensures .0 ∙ ap (waitTime _ _) e,
     )
 

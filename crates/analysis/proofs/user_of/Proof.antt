@@ -1,5 +1,5 @@
 -- The number of the reading, then what is asked of the checked plan.
-use mathlib.Core.Path.{_≡_, sym, _∙_}
+use mathlib.Core.Path.{sym, _∙_}
 use borrow.Author.Needs.{needs}
 use Rattle.analysis.proofs.Told.{checked-file}
 use Rattle.analysis.proofs.Users.{user-unread, user-read}

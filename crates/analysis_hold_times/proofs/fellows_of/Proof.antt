@@ -1,6 +1,6 @@
 -- The invariant: the fellows below j are counted, and their hold times added up.
-use Prim.Native.Nat.{_+_, _*_, _≤_, _-_, _<_}
-use mathlib.Core.Path.{_≡_, sym, ap, _∙_}
+use Prim.Native.Nat.{_≤_, _-_}
+use mathlib.Core.Path.{_≡_, ap, _∙_}
 use native.Mathlib.Omega.{arith}
 use borrow.Author.Needs.{needs}
 use Rattle.plan_rules.specs.declared.TaskRow.{TaskRow}

@@ -1,9 +1,8 @@
 -- The invariant: the processors passed have their hold times and budgets in the tables.
-use Prim.Native.Nat.{ℕ, _+_, _*_, _-_, _<_, _≤_}
-use mathlib.Core.Path.{_≡_, refl}
+use Prim.Native.Nat.{_-_, _≤_}
+use mathlib.Core.Path.{_≡_, sym, _∙_}
 use native.Mathlib.Omega.{arith}
 use borrow.Author.Needs.{needs}
-use mathlib.Core.Path.{sym, _∙_}
 use Rattle.plan_reading.specs.Plan.{planOf, Checked}
 use Rattle.plan_reading.proofs.Laws.{valid-plan}
 use Rattle.analysis_hold_times.specs.Inner.{Orders, Tops, Flags}
@@ -21,14 +20,22 @@ abbrev μ-loop : tie.MeasureT-loop
 loop-holds : tie.Need-loop-holds Inv-loop μ-loop
 loop-holds c =
     let h = c .before .before .before .before .before .before .before .pre in
-    (omega arith, c .before .wide .ensures .0 ∙ c .before .before .counts .ensures .0, h .0, h .2, h .3, c .shared-flags .ensures, table-none _ _ (h .1))
+    (omega arith, c .before .wide .ensures .0 ∙ c .before .before .counts .ensures .0, h .known .plan, h .known .tasks, h .longest, c .shared-flags .ensures, table-none _ _ (h .known .sections))
 
 hold-rows-requires : tie.Need-hold-rows-requires Inv-loop μ-loop
 hold-rows-requires c κs =
     let l = c .before .before .loop in
     let i = l .inv in
     let v = valid-plan _ (i .2) in
-    (i .2, i .3, i .4, i .5, omega (arith, v .processors, i .1), i .6 .long, table-begun _ v (l .k) (i .6))
+    record {
+      plan = i .2;
+      tasks = i .3;
+      longest = i .4;
+      shared = i .5;
+      processor = omega (arith, v .processors, i .1);
+      long = i .6 .long;
+      begun = table-begun _ v (l .k) (i .6);
+    }
 
 set-row-requires : tie.Need-set-row-requires Inv-loop μ-loop
 set-row-requires c κs =
@@ -44,7 +51,7 @@ loop-again c =
     (omega arith, i .1, i .2, i .3, i .4, i .5, table-step _ v (l .k) _ (omega (arith, i .1)) (i .6) (c .before .before .before .before .before .before .hold-rows .ensures) (c .before .before .set-row .ensures))
 
 same-length : tie.Need-same-length Inv-loop μ-loop
-same-length c = c .before .loop .inv .6 .long ∙ sym (c .before .before .before .before .before .before .before .before .before .pre .1 .long)
+same-length c = c .before .loop .inv .6 .long ∙ sym (c .before .before .before .before .before .before .before .before .before .pre .known .sections .long)
 
 returns : tie.Need-returns Inv-loop μ-loop
 returns c =

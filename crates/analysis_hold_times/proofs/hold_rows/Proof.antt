@@ -1,154 +1,122 @@
 -- The invariant: the tasks passed have their hold times in the rows, and the sums and maxima are over them.
-use Prim.Native.Nat.{_+_, _*_, _-_, _<_, _≤_}
-use mathlib.Core.Path.{_≡_, refl}
+use Prim.Native.Nat.{ℕ, _-_, _≤_}
+use mathlib.Core.List.{List}
+use mathlib.Core.Path.{_≡_, refl, sym, _∙_}
 use native.Mathlib.Omega.{arith}
 use borrow.Author.Needs.{needs}
-use mathlib.Core.Path.{sym, _∙_}
-use Rattle.plan_reading.specs.Plan.{planOf, Checked}
+use Rattle.plan_reading.specs.Plan.{planOf}
 use Rattle.plan_reading.proofs.Laws.{valid-plan}
-use Rattle.analysis_hold_times.specs.Inner.{Orders, Tops, Flags}
+use Rattle.analysis_hold_times.specs.Inner.{Row, Walk, sharedOn}
 use Rattle.analysis_hold_times.proofs.Walks.{rank-tasks, next-sits, last-sits}
-use Rattle.analysis_hold_times.proofs.Holding.{HeldBelow, Begun, held-none, held-done, above-high, product-high, own-row, own-high, own-top, held-row, held-step}
+use Rattle.analysis_hold_times.proofs.Holding.{HeldBelow, Next, low, held-none, held-done, above-high, product-high, own-row, own-high, own-top, held-row, held-step}
 use Rattle.analysis_hold_times.proofs.Tops.{top-high}
 use Rattle.analysis_hold_times.proofs.hold_rows.Statement.{statement}
 use Rattle.analysis_hold_times.proofs.hold_rows.Tie as tie
 
+record Turn (f old order tops flags : List ℕ) (k n x : ℕ) (rows above most : List ℕ) : Type 0 where
+  within : x ≤ n
+  all : n ≡ planOf f .tasks
+  walk : Walk f old order tops flags k
+  held : HeldBelow (planOf f) (valid-plan f (walk .plan)) k old x rows above most
+
 abbrev Inv-loop : tie.InvT-loop
-Inv-loop file rows₀ order tops flags k n above₀ most₀ x₀ rows above most x =
-    (x ≤ n) × (n ≡ planOf file .tasks) × (h : Checked file) × Orders (planOf file) order × Tops (planOf file) 64 tops × Flags (planOf file) flags × (k < 8) × Begun (planOf file) (valid-plan file h) k rows₀ × HeldBelow (planOf file) (valid-plan file h) k rows₀ x rows above most
+Inv-loop file rows₀ order tops flags k n above₀ most₀ x₀ rows above most x = Turn file rows₀ order tops flags k n x rows above most
 
 abbrev μ-loop : tie.MeasureT-loop
 μ-loop file rows₀ order tops flags k n above₀ most₀ x₀ rows above most x = n - x
 
 loop-holds : tie.Need-loop-holds Inv-loop μ-loop
 loop-holds c =
-    let h = c .before .before .before .before .before .before .pre in
-    (omega arith, c .wide .ensures .0 ∙ c .before .counts .ensures .1, h .0, h .1, h .2, h .3, h .4, h .6, held-none _ _ _ _ (h .5))
+    let w = c .before .before .before .before .before .before .pre in
+    record { within = omega arith; all = c .wide .ensures .0 ∙ c .before .counts .ensures .1; walk = w; held = held-none _ _ _ _ (w .long) }
 
-shared-slice-read-wide : tie.Need-shared-slice-read-wide Inv-loop μ-loop
-shared-slice-read-wide c = let i = c .before .before .loop .inv in omega (arith, i .3 .long, valid-plan _ (i .2) .tasks, i .1)
+order-read : tie.Need-shared-slice-read-wide Inv-loop μ-loop
+order-read c = let i = c .before .before .loop .inv in omega (arith, i .walk .tasks .long, i .walk .processor, valid-plan _ (i .walk .plan) .tasks, i .all)
 
-same-length : tie.Need-same-length Inv-loop μ-loop
-same-length c = c .before .before .before .before .loop .inv .8 .long ∙ sym (c .before .before .before .before .before .before .before .before .before .before .before .pre .5)
-
+-- ── where the order ends ──
 returns : tie.Need-returns Inv-loop μ-loop
 returns c =
     let l = c .before .before .before .before .loop in
-    let i = l .inv in
-    let a = c .before .before .before .before .before .before .before .before .before .before .before .args in
-    let p = planOf (a .file .now) in
-    let v = valid-plan _ (i .2) in
-    held-done p v (a .k) _ (l .x) _ _ _ (i .8) (last-sits p (a .order .now) (a .k) (l .x) (i .3) (i .6) (omega (arith, v .tasks, i .1)) (c .before .wide2 .ensures .0) (c .if1 .taken))
+    let w = l .inv .walk in
+    let v = valid-plan _ (w .plan) in
+    held-done _ v _ _ (l .x) _ _ _ (l .inv .held) (last-sits _ _ _ (l .x) (w .tasks) (w .processor) (omega (arith, v .tasks, l .inv .all)) (c .before .wide2 .ensures .0) (c .if1 .taken))
+
+-- ── where a task is next ──
+abbrev Seated : Type 0
+Seated = tie.Else1 Inv-loop μ-loop
+
+next : (c : Seated) → let a = c .before .before .before .before .before .before .before .before .before .before .before .args in let l = c .before .before .before .before .loop in Next (planOf (a .file .now)) (valid-plan _ (l .inv .walk .plan)) (a .k) (a .rows .now) (l .x) (c .before .wide2 .result - 1) (l .rows) (l .above) (l .most) (a .flags) (a .tops .now)
+next c =
+    let l = c .before .before .before .before .loop in
+    let w = l .inv .walk in
+    let v = valid-plan _ (w .plan) in
+    record {
+      held = l .inv .held;
+      sits = next-sits _ _ _ (l .x) (w .tasks) (w .processor) (omega (arith, v .tasks, l .inv .all)) (c .before .wide2 .ensures .0) (omega arith);
+      shared = w .shared;
+      longest = w .longest;
+      begun = w .begun;
+    }
+
+abbrev Own : Type 0
+Own = tie.After-shared-row Inv-loop μ-loop
+
+abbrev seat : Own → Seated
+seat c = c .before .before
+
+own : (c : Own) → Row (sharedOn (planOf (seat c .before .before .before .before .before .before .before .before .before .before .before .args .file .now)) (seat c .before .wide2 .result - 1)) (c .shared-row .result)
+own c = own-row _ _ _ (next (seat c)) (c .shared-row .ensures)
 
 shared-row-requires : tie.Need-shared-row-requires Inv-loop μ-loop
-shared-row-requires c κs =
-    let l = c .before .before .before .before .before .loop in
-    let i = l .inv in
-    let a = c .before .before .before .before .before .before .before .before .before .before .before .before .args in
-    let p = planOf (a .file .now) in
-    let v = valid-plan _ (i .2) in
-    let s = next-sits p (a .order .now) (a .k) (l .x) (i .3) (i .6) (omega (arith, v .tasks, i .1)) (c .before .before .wide2 .ensures .0) (omega arith) in
-    (i .8 .long, omega (arith, v .tasks, s .below), product-high p v (a .k) _ (l .x) _ _ _ _ (a .flags) (a .tops .now) (i .8) s (i .5) (i .4) (i .7))
+shared-row-requires c κs = let n = next (c .before) in record { long = n .held .long; task = low _ _ _ n; low = product-high _ _ _ n }
 
 held-row-requires : tie.Need-held-row-requires Inv-loop μ-loop
 held-row-requires c κs =
-    let l = c .before .before .before .before .before .before .before .loop in
-    let i = l .inv in
-    let a = c .before .before .before .before .before .before .before .before .before .before .before .before .before .before .args in
-    let p = planOf (a .file .now) in
-    let v = valid-plan _ (i .2) in
-    let s = next-sits p (a .order .now) (a .k) (l .x) (i .3) (i .6) (omega (arith, v .tasks, i .1)) (c .before .before .before .before .wide2 .ensures .0) (omega arith) in
-    let o = own-row p v (a .k) _ (l .x) _ _ _ _ (a .flags) (a .tops .now) (i .8) s (i .5) (i .4) (i .7) (c .before .shared-row .ensures) in
-    (own-high p v (a .k) _ (l .x) _ _ _ _ (a .flags) (a .tops .now) (i .8) s (i .5) (i .4) (i .7) o, above-high p v (a .k) _ (l .x) (i .8))
+    let a = c .before in
+    let n = next (a .before .before) in
+    λ q l. (own-high _ _ _ n (own a) q l, above-high _ _ _ _ _ (n .held) q l)
 
 set-row-requires : tie.Need-set-row-requires Inv-loop μ-loop
-set-row-requires c κs =
-    let l = c .before .before .before .before .before .before .before .before .loop in
-    let i = l .inv in
-    let a = c .before .before .before .before .before .before .before .before .before .before .before .before .before .before .before .args in
-    let p = planOf (a .file .now) in
-    let v = valid-plan _ (i .2) in
-    let s = next-sits p (a .order .now) (a .k) (l .x) (i .3) (i .6) (omega (arith, v .tasks, i .1)) (c .before .before .before .before .before .wide2 .ensures .0) (omega arith) in
-    (omega (arith, i .8 .long, v .tasks, s .below), omega (arith, i .8 .long))
+set-row-requires c κs = let n = next (c .before .before .before .before) in (omega (arith, n .held .long, low _ _ _ n), n .held .long)
 
 longer-row-requires : tie.Need-longer-row-requires Inv-loop μ-loop
-longer-row-requires c κs =
-    let l = c .before .before .before .before .before .before .before .before .before .before .before .before .loop in
-    let i = l .inv in
-    let a = c .before .before .before .before .before .before .before .before .before .before .before .before .before .before .before .before .before .before .before .args in
-    let p = planOf (a .file .now) in
-    let v = valid-plan _ (i .2) in
-    let s = next-sits p (a .order .now) (a .k) (l .x) (i .3) (i .6) (omega (arith, v .tasks, i .1)) (c .before .before .before .before .before .before .before .before .before .wide2 .ensures .0) (omega arith) in
-    (c .before .before .before .set-row .ensures .0 ∙ i .8 .long, omega (arith, v .tasks, s .below))
+longer-row-requires c κs = let n = next (c .before .before .before .before .before .before .before .before) in (c .before .before .before .set-row .ensures .long ∙ n .held .long, low _ _ _ n)
 
-shared-slice-read-above-row : tie.Need-shared-slice-read-above-row Inv-loop μ-loop
-shared-slice-read-above-row c =
-    let l = c .before .before .before .before .before .before .before .before .before .before .before .before .before .before .loop in
-    let i = l .inv in
-    let a = c .before .before .before .before .before .before .before .before .before .before .before .before .before .before .before .before .before .before .before .before .before .args in
-    let p = planOf (a .file .now) in
-    let v = valid-plan _ (i .2) in
-    let s = next-sits p (a .order .now) (a .k) (l .x) (i .3) (i .6) (omega (arith, v .tasks, i .1)) (c .before .before .before .before .before .before .before .before .before .before .before .wide2 .ensures .0) (omega arith) in
-    omega (arith, i .4 .long, v .tasks, s .below)
+tops-read : tie.Need-shared-slice-read-above-row Inv-loop μ-loop
+tops-read c = let n = next (c .before .before .before .before .before .before .before .before .before .before) in omega (arith, n .longest .long, low _ _ _ n)
 
-shared-slice-read-above-row-2 : tie.Need-shared-slice-read-above-row-2 Inv-loop μ-loop
-shared-slice-read-above-row-2 c =
-    let l = c .before .before .before .before .before .before .before .before .before .before .before .before .before .before .before .loop in
-    let i = l .inv in
-    let a = c .before .before .before .before .before .before .before .before .before .before .before .before .before .before .before .before .before .before .before .before .before .before .args in
-    let p = planOf (a .file .now) in
-    let v = valid-plan _ (i .2) in
-    let s = next-sits p (a .order .now) (a .k) (l .x) (i .3) (i .6) (omega (arith, v .tasks, i .1)) (c .before .before .before .before .before .before .before .before .before .before .before .before .wide2 .ensures .0) (omega arith) in
-    omega (arith, i .4 .long, v .tasks, s .below)
+tops-read-2 : tie.Need-shared-slice-read-above-row-2 Inv-loop μ-loop
+tops-read-2 c = let n = next (c .before .before .before .before .before .before .before .before .before .before .before) in omega (arith, n .longest .long, low _ _ _ n)
 
 above-row-requires : tie.Need-above-row-requires Inv-loop μ-loop
 above-row-requires c κs =
-    let l = c .before .before .before .before .before .before .before .before .before .before .before .before .before .before .before .loop in
-    let i = l .inv in
-    let a = c .before .before .before .before .before .before .before .before .before .before .before .before .before .before .before .before .before .before .before .before .before .before .args in
-    let p = planOf (a .file .now) in
-    let v = valid-plan _ (i .2) in
-    let s = next-sits p (a .order .now) (a .k) (l .x) (i .3) (i .6) (omega (arith, v .tasks, i .1)) (c .before .before .before .before .before .before .before .before .before .before .before .before .wide2 .ensures .0) (omega arith) in
-    let o = own-row p v (a .k) _ (l .x) _ _ _ _ (a .flags) (a .tops .now) (i .8) s (i .5) (i .4) (i .7) (c .before .before .before .before .before .before .before .before .before .shared-row .ensures) in
-    (top-high p v (a .tops .now) _ (i .4) (omega (arith, v .tasks, s .below)), above-high p v (a .k) _ (l .x) (i .8), own-top p v (a .k) _ (l .x) _ _ _ _ (a .flags) (a .tops .now) (i .8) s (i .5) (i .4) (i .7) o)
+    let a = c .before .before .before .before .before .before .before .before .before in
+    let n = next (a .before .before) in
+    record { short = top-high _ (valid-plan _ (a .before .before .before .before .before .before .loop .inv .walk .plan)) _ _ (n .longest) (low _ _ _ n); low = above-high _ _ _ _ _ (n .held); within = own-top _ _ _ n (own a) }
 
 loop-again : tie.Need-loop-again Inv-loop μ-loop
 loop-again c =
-    let l = c .before .before .before .before .before .before .before .before .before .before .before .before .before .before .before .before .loop in
-    let i = l .inv in
-    let a = c .before .before .before .before .before .before .before .before .before .before .before .before .before .before .before .before .before .before .before .before .before .before .before .args in
-    let p = planOf (a .file .now) in
-    let v = valid-plan _ (i .2) in
-    let s = next-sits p (a .order .now) (a .k) (l .x) (i .3) (i .6) (omega (arith, v .tasks, i .1)) (c .before .before .before .before .before .before .before .before .before .before .before .before .before .wide2 .ensures .0) (omega arith) in
-    let o = own-row p v (a .k) _ (l .x) _ _ _ _ (a .flags) (a .tops .now) (i .8) s (i .5) (i .4) (i .7) (c .before .before .before .before .before .before .before .before .before .before .shared-row .ensures) in
-    let d = held-row p v (a .k) _ (l .x) _ _ _ _ (a .flags) (a .tops .now) (i .8) s (i .5) (i .4) (i .7) _ o (c .before .before .before .before .before .before .before .before .held-row .ensures) in (
-      omega arith,
-      i .1,
-      i .2,
-      i .3,
-      i .4,
-      i .5,
-      i .6,
-      i .7,
-      held-step p v (a .k) _ (l .x) _ _ _ _ (a .flags) (a .tops .now) (i .8) s (i .5) (i .4) (i .7) _ _ o d (c .before .before .before .before .before .before .before .set-row .ensures) refl refl (c .above-row .ensures) (c .before .before .before .longer-row .ensures),
-    )
-
-same-length-2 : tie.Need-same-length-2 Inv-loop μ-loop
-same-length-2 c = c .before .loop .inv .8 .long ∙ sym (c .before .before .before .before .before .before .before .before .pre .5)
+    let a = c .before .before .before .before .before .before .before .before .before .before in
+    let n = next (a .before .before) in
+    let i = a .before .before .before .before .before .before .loop .inv in
+    let d = held-row _ _ _ n _ (own a) (c .before .before .before .before .before .before .before .before .held-row .ensures) in
+    record {
+      within = omega arith;
+      all = i .all;
+      walk = i .walk;
+      held = held-step _ _ _ n _ _ (own a) d (c .before .before .before .before .before .before .before .set-row .ensures) refl refl (c .above-row .ensures) (c .before .before .before .longer-row .ensures);
+    }
 
 returns-2 : tie.Need-returns-2 Inv-loop μ-loop
 returns-2 c =
     let l = c .before .loop in
-    let i = l .inv in
-    let a = c .before .before .before .before .before .before .before .before .args in
-    let p = planOf (a .file .now) in
-    held-done p (valid-plan _ (i .2)) (a .k) _ (l .x) _ _ _ (i .8) (λ j lj own. omega (arith, rank-tasks p j lj, i .1))
+    held-done _ _ _ _ (l .x) _ _ _ (l .inv .held) (λ j lj own. omega (arith, l .inv .all, rank-tasks (planOf (c .before .before .before .before .before .before .before .before .args .file .now)) j lj))
 
 pub hold-rows-spec : {M : Type 1} → statement M
 hold-rows-spec =
     tie.close
     (tie.spec
-    Inv-loop μ-loop (λ c κs. search needs) (λ c κs. search needs) loop-holds (λ c. omega arith) (λ c. omega arith)
-    shared-slice-read-wide (λ c κs. search needs) same-length returns (λ c. omega arith) shared-row-requires held-row-requires
-    set-row-requires longer-row-requires (λ c. omega arith) shared-slice-read-above-row (λ c. omega arith) (λ c. omega arith)
-    shared-slice-read-above-row-2 above-row-requires (λ c. omega arith) (λ c. omega arith) loop-again same-length-2 returns-2)
+    Inv-loop μ-loop (λ c κs. c .before .before .before .before .pre .plan) (λ c κs. search needs) loop-holds (λ c. omega (arith, c .before .loop .inv .walk .processor)) (λ c. omega (arith, c .before .loop .inv .walk .processor, c .before .loop .inv .all, valid-plan _ (c .before .loop .inv .walk .plan) .tasks)) order-read (λ c κs. search needs)
+    (λ c. c .before .before .before .before .loop .inv .held .long ∙ sym (c .before .before .before .before .before .before .before .before .before .before .before .pre .long)) returns (λ c. omega arith) shared-row-requires held-row-requires
+    set-row-requires longer-row-requires (λ c. omega (arith, low _ _ _ (next (c .before .before .before .before .before .before .before .before .before)))) tops-read (λ c. omega (arith, low _ _ _ (next (c .before .before .before .before .before .before .before .before .before .before)))) (λ c. omega (arith, low _ _ _ (next (c .before .before .before .before .before .before .before .before .before .before)))) tops-read-2
+    above-row-requires (λ c. omega arith) (λ c. omega arith) loop-again (λ c. c .before .loop .inv .held .long ∙ sym (c .before .before .before .before .before .before .before .before .pre .long)) returns-2)

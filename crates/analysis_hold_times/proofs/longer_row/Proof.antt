@@ -1,39 +1,23 @@
 -- The invariant: the greater figures are in place at the resources below `q`.
-use Prim.Native.Nat.{_+_, _*_, _-_, _<_, _≤_}
-use mathlib.Core.Path.{_≡_, refl}
+use Prim.Native.Nat.{_-_, max}
 use native.Mathlib.Omega.{arith}
 use borrow.Author.Needs.{needs}
-use Prim.Native.Nat.{max}
-use mathlib.Core.Bool.{cond}
-use lib.Dec.{eqb, ltb}
-use lib.ListN.{getD, replicate}
-use Rattle.folds.specs.Bytes.{placedBelow}
-use Rattle.folds.proofs.Arrays.{placed-step}
+use lib.ListN.{getD}
 use Rattle.analysis_hold_times.specs.Inner.{cell}
-use Rattle.analysis_hold_times.proofs.Rows.{row-done}
+use Rattle.analysis_hold_times.proofs.Rows.{Made, row-none, row-next, row-done}
 use Rattle.analysis_hold_times.proofs.longer_row.Statement.{statement}
 use Rattle.analysis_hold_times.proofs.longer_row.Tie as tie
 
 abbrev Inv-loop : tie.InvT-loop
-Inv-loop rows i row next₀ q₀ next q = (q ≤ 16) × (next ≡ placedBelow q (λ x. max (getD row x 0) (getD rows (cell i x) 0)) row)
+Inv-loop rows i row next₀ q₀ next q = Made (λ x. max (getD row x 0) (getD rows (cell i x) 0)) row q next
 
 abbrev μ-loop : tie.MeasureT-loop
 μ-loop rows i row next₀ q₀ next q = 16 - q
-
-loop-holds : tie.Need-loop-holds Inv-loop μ-loop
-unfolding placedBelow
-loop-holds c = (omega arith, refl)
-
-loop-again : tie.Need-loop-again Inv-loop μ-loop
-loop-again c = let l = c .before .before .before .loop in (omega arith, placed-step (l .q) _ _ (l .inv .1) (c .longer .ensures))
-
-returns : tie.Need-returns Inv-loop μ-loop
-returns c = let l = c .before .loop in row-done (l .q) _ _ (omega arith) (search needs) (l .inv .1)
 
 pub longer-row-spec : {M : Type 1} → statement M
 longer-row-spec =
     tie.close
     (tie.spec
-    Inv-loop μ-loop loop-holds (λ c. omega arith) (λ c. omega arith) (λ c. omega arith) (λ c. omega arith) (λ c. omega arith)
-    (λ c. omega arith) (λ c κs. search needs) (λ c. omega arith) (λ c. omega arith) (λ c. omega arith) (λ c. omega arith)
-    loop-again returns)
+    Inv-loop μ-loop (λ c. row-none _ _) (λ c. omega arith) (λ c. omega arith) (λ c. omega arith) (λ c. omega arith) (λ c. omega arith) (λ c. omega arith) (λ c κs. search needs) (λ c. omega arith) (λ c. omega arith) (λ c. omega arith) (λ c. omega arith)
+    (λ c. let l = c .before .before .before .loop in row-next (l .q) _ _ (l .inv) (omega arith) (c .longer .ensures))
+    (λ c. let l = c .before .loop in row-done (l .q) _ _ (l .inv) (omega arith) (search needs)))

@@ -6,7 +6,7 @@ use Rattle.analysis_hold_times.proofs.tops_table.Statement.{statement}
 use Rattle.analysis_hold_times.proofs.tops_table.Tie as tie
 
 half-tops-requires : tie.Need-half-tops-requires
-half-tops-requires c κs = let h = c .before .before .before .pre in (h .0, tops-none _, h .1, h .2, omega arith)
+half-tops-requires c κs = record { known = c .before .before .before .pre; before = tops-none _; low = omega arith }
 
 pub tops-table-spec : {M : Type 1} → statement M
 tops-table-spec =

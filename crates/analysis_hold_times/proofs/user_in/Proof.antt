@@ -1,5 +1,5 @@
 -- The task found and the counts decide 11 and 12; the table's figure tells whether the task shares the resource.
-use Prim.Native.Nat.{ℕ, _<_}
+use Prim.Native.Nat.{_<_}
 use mathlib.Core.Path.{_≡_, sym, _∙_}
 use native.Mathlib.Omega.{arith}
 use borrow.Author.Needs.{needs}
@@ -60,4 +60,4 @@ user-in-spec =
     tie.close
     (tie.spec
     (λ c κs. c .before .before .pre .plan) (λ c κs. c .before .before .before .pre .plan) (λ c κs. search needs) returns returns-2 (λ c κs. search needs) hold-at-requires
-    (λ c κs. (start (c .before) .pre .plan, below (c .before), sym (hold (c .before)) ∙ c .if3 .taken)) returns-3 returns-4)
+    (λ c κs. let a = c .before in record { plan = start a .pre .plan; task = below a; zero = sym (hold a) ∙ c .if3 .taken }) returns-3 returns-4)

@@ -10,7 +10,7 @@ use Rattle.plan_reading.specs.Plan.{planOf}
 use Rattle.plan_reading.proofs.Laws.{valid-plan}
 use Rattle.analysis_equations.specs.Blocking.{waitingSide}
 use Rattle.analysis_equations.specs.Bounds.{mostWaiting}
-use Rattle.analysis_requirements.proofs.Sides.{waitingAt}
+use Rattle.analysis_requirements.specs.Inner.{waitingAt}
 use Rattle.analysis_requirements.proofs.waiting_side.Statement.{statement}
 use Rattle.analysis_requirements.proofs.waiting_side.Tie as tie
 
