@@ -3,7 +3,7 @@ use machine_rules::Answer;
 use machine_state::State;
 ghost use mathlib.Core.Path.{_≡_};
 ghost use Rattle.machine.specs.Replies.{reply};
-ghost use Rattle.machine.specs.Promise.{callOf, callsOf};
+ghost use Rattle.machine_calls.specs.Calls.{callWidth, callOf, callsOf};
 ghost use Rattle.bench_hooks.specs.Calling.{answerNumber, answerAfter, callNumber, rowNumber, stateAfter};
 
 // An answer as a number.
@@ -26,7 +26,7 @@ fn answer_number(answer: Answer) -> u64
 fn bytes_number(file: &[u8], state: State, letter: u8, tag: u8, resource: u8) -> u64
     ensures { λ r. ⌜ r ≡ callNumber (reply (now (file .entry)) state) (callOf letter tag resource) ⌝ }
 {
-    let decoded = machine::decode(letter, tag, resource);
+    let decoded = machine_calls::decode(letter, tag as u16, resource);
     if !decoded.known {
         return 0;
     }
@@ -45,7 +45,7 @@ pub extern "C" fn machine_answer(
     tag: u8,
     resource: u8,
 ) -> u64
-    ensures { λ r. ⌜ r ≡ callNumber (answerAfter (now (file .entry)) (callsOf (now (calls .entry)))) (callOf letter tag resource) ⌝ }
+    ensures { λ r. ⌜ r ≡ callNumber (answerAfter (now (file .entry)) (callsOf callWidth (now (calls .entry)))) (callOf letter tag resource) ⌝ }
 {
     let state = machine::run(file, calls);
     bytes_number(file, state, letter, tag, resource)
@@ -70,7 +70,7 @@ fn row_number(state: State, x: u8) -> u64
 // Makes a list of calls of three bytes on a fresh machine, and returns part x of its state; x from 0 to 127 shows all of it.
 #[no_mangle]
 pub extern "C" fn machine_row(file: &[u8], calls: &[u8], x: u8) -> u64
-    ensures { λ r. ⌜ r ≡ rowNumber (stateAfter (now (file .entry)) (callsOf (now (calls .entry)))) x ⌝ }
+    ensures { λ r. ⌜ r ≡ rowNumber (stateAfter (now (file .entry)) (callsOf callWidth (now (calls .entry)))) x ⌝ }
 {
     let state = machine::run(file, calls);
     row_number(state, x)

@@ -3,8 +3,10 @@ use crate::given;
 use crate::print;
 use crate::same;
 use machine::Reply;
+use machine_calls::CallBytes;
 use machine_rules::Answer;
-use machine_state::Line;
+use machine_rules::Call;
+use machine_state::LineRow;
 use machine_state::Standing;
 use machine_state::State;
 use plan_rules::TaskRow;
@@ -95,18 +97,17 @@ fn none(state: State) -> Outcome {
     }
 }
 
-// The call of this letter; a tick has tag 0 and resource 0.
-fn call(file: &[u8], state: State, letter: u8, tag: u16, resource: u8) -> Outcome {
-    match letter {
-        b'Q' => replied(machine::request(file, state, tag, resource)),
-        b'R' => replied(machine::release(file, state, tag, resource)),
-        b'T' => {
-            if (tag == 0) & (resource == 0) {
-                return tick(file, state);
-            }
-            none(state)
-        }
-        _ => none(state),
+// The call in these bytes, where they are one.
+fn call(file: &[u8], state: State, bytes: CallBytes) -> Outcome {
+    let decoded = machine_calls::decode(bytes.letter, bytes.tag, bytes.resource);
+    if !decoded.known {
+        return none(state);
+    }
+    let wanted = decoded.call;
+    match wanted {
+        Call::Request(tag, resource) => replied(machine::request(file, state, tag, resource)),
+        Call::Release(tag, resource) => replied(machine::release(file, state, tag, resource)),
+        Call::Tick => tick(file, state),
     }
 }
 
@@ -147,7 +148,7 @@ fn turn(rows: [TaskRow; sizes::TASKS], tasks: [Standing; sizes::TASKS], q: u8, k
 }
 
 // A held resource: the hold left, the budget left, and its processors in order.
-fn line(rows: [TaskRow; sizes::TASKS], tasks: [Standing; sizes::TASKS], q: u8, l: Line) {
+fn line(rows: [TaskRow; sizes::TASKS], tasks: [Standing; sizes::TASKS], q: u8, l: LineRow) {
     print::number(q as u64);
     print::text(b":");
     print::digits(l.hold_left as u64);
@@ -168,7 +169,7 @@ fn line(rows: [TaskRow; sizes::TASKS], tasks: [Standing; sizes::TASKS], q: u8, l
 fn held(
     rows: [TaskRow; sizes::TASKS],
     tasks: [Standing; sizes::TASKS],
-    lines: [Line; sizes::RESOURCES],
+    lines: [LineRow; sizes::RESOURCES],
 ) {
     let mut some = false;
     let mut q = 0;
@@ -194,13 +195,10 @@ pub fn shown(file: &[u8], state: State) {
     held(processors, tasks, lines);
 }
 
-// One of the calls of a list: a letter, a tag, a resource. After one that is refused the state is to be as it was.
-fn next(file: &[u8], state: State, bytes: &[u8]) -> State {
+// One of the calls of a list. After one that is refused the state is to be as it was.
+fn next(file: &[u8], state: State, bytes: CallBytes) -> State {
     print::text(b"; ");
-    let letter = given::byte(bytes, 0);
-    let tag = given::byte(bytes, 1);
-    let resource = given::byte(bytes, 2);
-    let outcome = call(file, state, letter, tag as u16, resource);
+    let outcome = call(file, state, bytes);
     let after = outcome.state;
     if outcome.refused & !same::states(after, state) {
         print::text(b" changed");
@@ -257,11 +255,7 @@ pub fn one(case: &[u8]) {
     let file = file(case);
     let rest = behind(case);
     let state = given::state(rest);
-    let bytes = given::part(rest, given::STATE, rest.len());
-    let letter = given::byte(bytes, 0);
-    let tag = given::word(bytes, 1);
-    let resource = given::byte(bytes, 3);
-    let outcome = call(file, state, letter, tag, resource);
+    let outcome = call(file, state, given::wide_call(rest, given::STATE));
     let after = outcome.state;
     print::unchanged(same::states(after, state));
     if !outcome.refused {

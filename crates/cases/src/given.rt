@@ -1,5 +1,7 @@
 // The parts of a case. Past its end a byte is 0 and a part is empty, so that no case can be unsafe.
-use machine_state::Line;
+use machine_calls::CallBytes;
+use machine_calls::WIDTH;
+use machine_state::LineRow;
 use machine_state::Standing;
 use machine_state::State;
 use plan_rules::Counts;
@@ -8,8 +10,8 @@ use plan_rules::SectionRow;
 use plan_rules::TaskRow;
 ghost use Prim.Native.Nat.{_≤_, _<_};
 
-// The bytes of a call in a list, and in a state those of a resource's line and of a task.
-const CALL: usize = 3;
+// The bytes of a call whose tag has two, and in a state those of a resource's line and of a task.
+const WIDE: usize = 4;
 
 const LINE: usize = 13;
 
@@ -72,15 +74,34 @@ pub fn without_end(s: &[u8], length: usize) -> &[u8] {
 
 // How many calls a list has.
 pub fn call_count(calls: &[u8]) -> usize {
-    calls.len() / CALL
+    calls.len() / WIDTH
 }
 
-// The bytes of call x of a list.
-pub fn call(calls: &[u8], x: usize) -> &[u8] {
-    if x < calls.len() / CALL {
-        return &calls[x * CALL..x * CALL + CALL];
+// The bytes of none.
+fn no_call() -> CallBytes {
+    CallBytes {
+        letter: 0,
+        tag: 0,
+        resource: 0,
     }
-    &calls[0..0]
+}
+
+// Call x of a list.
+pub fn call(calls: &[u8], x: usize) -> CallBytes {
+    if x < calls.len() / WIDTH {
+        return machine_calls::bytes_at(calls, x * WIDTH, WIDTH);
+    }
+    no_call()
+}
+
+// The call at `at` whose tag has two bytes.
+pub fn wide_call(s: &[u8], at: usize) -> CallBytes
+    requires { ⌜ at < 65536 ⌝ }
+{
+    if at + WIDE <= s.len() {
+        return machine_calls::bytes_at(s, at, WIDE);
+    }
+    no_call()
 }
 
 // As many bytes as both have, copied.
@@ -204,7 +225,7 @@ pub fn rows(case: &[u8]) -> Rows {
 
 // A state: for each resource how many are queued, 8 processors, in 2 bytes each the hold left and the budget left; then for each task
 // its resource and its place.
-fn line(s: &[u8], at: usize) -> Line
+fn line(s: &[u8], at: usize) -> LineRow
     requires { ⌜ at < 1000 ⌝ }
 {
     let queue = [
@@ -217,7 +238,7 @@ fn line(s: &[u8], at: usize) -> Line
         byte(s, at + 7),
         byte(s, at + 8),
     ];
-    Line {
+    LineRow {
         queued: byte(s, at),
         queue,
         hold_left: word(s, at + 9),
@@ -225,7 +246,7 @@ fn line(s: &[u8], at: usize) -> Line
     }
 }
 
-fn lines(s: &[u8]) -> [Line; sizes::RESOURCES] {
+fn lines(s: &[u8]) -> [LineRow; sizes::RESOURCES] {
     let first = line(s, 0);
     let mut rows = [first; sizes::RESOURCES];
     let mut q = 0;

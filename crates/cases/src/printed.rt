@@ -1,9 +1,10 @@
-// Calls of three bytes and their lines. A plan file stands at the front of the case, its length in two bytes before it; then comes a
+// Calls and their lines. A plan file stands at the front of the case, its length in two bytes before it; then comes a
 // state, where one is given, and how many bytes are lent.
 use crate::called;
 use crate::given;
 use crate::print;
 use crate::same;
+use machine_calls::CallBytes;
 use machine_state::State;
 use print_calls::Batch;
 use print_calls::CallLine;
@@ -14,16 +15,13 @@ const LINE: usize = 96;
 const LINES: usize = 1024;
 
 // Makes a call, with so many bytes of the buffer lent for its line.
-fn call(file: &[u8], state: State, room: usize, bytes: &[u8], buf: &mut [u8]) -> CallLine {
+fn call(file: &[u8], state: State, room: usize, bytes: CallBytes, buf: &mut [u8]) -> CallLine {
     let lent = given::at_most(room, buf.len());
-    let letter = given::byte(bytes, 0);
-    let tag = given::byte(bytes, 1);
-    let resource = given::byte(bytes, 2);
-    print_calls::call_line(file, state, letter, tag, resource, &mut buf[0..lent])
+    print_calls::call_line(file, state, bytes, &mut buf[0..lent])
 }
 
 // The line of one call, or why there is none; whether what lies behind it is as it was, or all where there is none.
-fn next(file: &[u8], state: State, room: usize, bytes: &[u8]) -> State {
+fn next(file: &[u8], state: State, room: usize, bytes: CallBytes) -> State {
     let mut buf = [same::FILL; LINE];
     let made = call(file, state, room, bytes, &mut buf);
     let line = made.line;

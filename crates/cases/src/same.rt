@@ -1,5 +1,5 @@
 // Whether what came out is what was to come.
-use machine_state::Line;
+use machine_state::LineRow;
 use machine_state::Standing;
 use machine_state::State;
 use plan::ReadAnswer;
@@ -124,7 +124,7 @@ pub fn rows(read: Rows, given: Rows, c: Counts) -> bool {
         & sections(read_sections, given_sections, c.sections as usize)
 }
 
-fn line(a: Line, b: Line) -> bool {
+fn line(a: LineRow, b: LineRow) -> bool {
     let first = a.queue;
     let second = b.queue;
     (a.queued == b.queued)
@@ -133,7 +133,7 @@ fn line(a: Line, b: Line) -> bool {
         & (a.budget_left == b.budget_left)
 }
 
-fn lines(a: [Line; sizes::RESOURCES], b: [Line; sizes::RESOURCES]) -> bool {
+fn lines(a: [LineRow; sizes::RESOURCES], b: [LineRow; sizes::RESOURCES]) -> bool {
     let mut all = true;
     let mut q = 0;
     while q < sizes::RESOURCES {

@@ -15,10 +15,10 @@ use Rattle.folds.specs.Below.{allBelow, anyBelow, sumBelow, maxBelow, countBelo
 use Rattle.folds.specs.Bytes.{number, width, fields, rowAt, placedBelow}
 use Rattle.folds.specs.Words.{wordBelow}
 use Rattle.print_text.specs.Text.{placesTo, digits}
-use Rattle.machine.specs.Promise.{callOf, callsBelow}
+use Rattle.machine_calls.specs.Calls.{callOf, tagAt, callsBelow}
 use Rattle.print_calls.specs.Output.{linesBelow, endLine, callsOutput, fileOutput, output}
 use Rattle.examples.specs.Listing.{listingPlan, listingCalls, listingText}
 
 pub listing-printed : output (listingPlan ++ listingCalls) ≡ listingText
-unfolding listingPlan listingCalls listingText tagNew priorityNew uniqueOk lengthsOk bytesOk sameBytes differ nameNew namesDiffer namesOk sectionSum sumsOk taskAt taskSpare startAt lengthAt resourceSpare sectionAt taskRows lengthRows sectionRows taskRowsOk lengthRowsOk sectionRowsOk taskCode sumsFit sectionCode restCode partsCode planOf headerCode checkCode refusal namePart planLength longestOn longestOff interference holdTime holdAt budget waitTime taskNumber sharingCode useCode processorCode requirementCode uses usedOn global busy requestCode releaseCode step answer allBelow anyBelow sumBelow maxBelow countBelow findBelow number width fields rowAt placedBelow wordBelow placesTo digits callOf callsBelow linesBelow endLine callsOutput fileOutput
+unfolding listingPlan listingCalls listingText tagNew priorityNew uniqueOk lengthsOk bytesOk sameBytes differ nameNew namesDiffer namesOk sectionSum sumsOk taskAt taskSpare startAt lengthAt resourceSpare sectionAt taskRows lengthRows sectionRows taskRowsOk lengthRowsOk sectionRowsOk taskCode sumsFit sectionCode restCode partsCode planOf headerCode checkCode refusal namePart planLength longestOn longestOff interference holdTime holdAt budget waitTime taskNumber sharingCode useCode processorCode requirementCode uses usedOn global busy requestCode releaseCode step answer allBelow anyBelow sumBelow maxBelow countBelow findBelow number width fields rowAt placedBelow wordBelow placesTo digits callOf tagAt callsBelow linesBelow endLine callsOutput fileOutput
 listing-printed = refl

@@ -18,7 +18,7 @@ use Rattle.machine_rules.specs.declared.Call.{Call}
 use Rattle.machine_rules.specs.declared.Call.the-variants.{Request, Release, Tick}
 use Rattle.machine_rules.specs.declared.Answer.{Answer}
 use Rattle.machine_rules.specs.declared.Answer.the-variants.{Refused}
-use Rattle.machine_rules.specs.Machine.{View, terms, callCode, requestTold, releaseTold, told, answerTold}
+use Rattle.machine_rules.specs.Machine.{View, terms, callCode, requestTold, releaseTold, acceptedAnswer, answerTold}
 use Rattle.machine_state.specs.declared.State.{State}
 use Rattle.machine_state.specs.Shows.{shows}
 use Rattle.machine_state.specs.Sound.{sound}
@@ -37,7 +37,7 @@ release-number : (p : Plan) (l : Rules.Line) → answerTold (releaseTold p l) .n
 release-number p (line h b []) = refl
 release-number p (line h b (turn k u us ∷ rest)) = refl
 
-told-number : (p : Plan) (s : View) (c : Call) → answerTold (told p s c) .number ≡ 0
+told-number : (p : Plan) (s : View) (c : Call) → answerTold (acceptedAnswer p s c) .number ≡ 0
 told-number p s (Request tag q) = request-number p (taskNumber p tag) q (s .lines q)
 told-number p s (Release tag q) = release-number p (released (terms p q) (s .lines q))
 told-number p s Tick = refl
@@ -47,7 +47,7 @@ module _ (f : List ℕ) (s : State) where
   pub reply-told : (c : Call) → answerTold (reply f s c) ≡ replyTold f s c
   unfolding reply replyTold
   reply-told c =
-      let x : Answer = told (planOf f) (shows (planOf f) s) c in
+      let x : Answer = acceptedAnswer (planOf f) (shows (planOf f) s) c in
       let k : ℕ = callRefusal f s c in
       by-eq (λ (b : Bool). answerTold (cond b x (Refused k)) ≡ record { number = k; values = cond b (answerTold x .values) [] }) k 0
       (λ e. ap (λ (n : ℕ). record { number = n; values = answerTold x .values }) (told-number (planOf f) (shows (planOf f) s) c ∙ sym e))
@@ -59,7 +59,7 @@ module _ (f : List ℕ) (s : State) where
   tick-cuts =
       let l : View = shows (planOf f) s in
       let k : ℕ = callRefusal f s Tick in
-      by-eq (λ (b : Bool). cutsIn (cond b (told (planOf f) l Tick) (Refused k)) ≡ cond b (countBelow 16 (λ q. cut (l .lines q))) 0) k 0
+      by-eq (λ (b : Bool). cutsIn (cond b (acceptedAnswer (planOf f) l Tick) (Refused k)) ≡ cond b (countBelow 16 (λ q. cut (l .lines q))) 0) k 0
       (λ e. word-ones 16 (λ q. cut (l .lines q)))
       (λ d. refl)
 

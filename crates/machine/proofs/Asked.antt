@@ -1,15 +1,15 @@
 -- What a request is refused for, what it tells where it is not, and what it then does.
 use Prim.Native.Nat.{ℕ, _+_, _*_, _<_, _≤_}
-use mathlib.Core.Bool.{Bool, true, false, cond}
+use mathlib.Core.Bool.{Bool, true, false, cond, not}
 use mathlib.Core.List.{List}
 use mathlib.Core.Logic.{_≢_, _⊎_, inl, inr}
 use mathlib.Core.Path.{_≡_, refl, sym, _∙_}
 use native.Mathlib.Omega.{arith}
 use native.Mathlib.Nat.{mul-le-mul}
-use borrow.Author.Tests.{eq-eqb, ne-eqb, eqb-true, lt-ltb, le-ltb, ltb-true, not-false}
+use borrow.Author.Tests.{ne-eqb, eqb-true, ltb-true, not-false}
 use lib.Dec.{eqb, ltb}
-use lib.ListN.{length, getD}
-use Rattle.folds.proofs.Tests.{and-parts, code-zero, code-next}
+use lib.ListN.{length}
+use Rattle.folds.proofs.Tests.{code-zero, code-next}
 use Rattle.folds.proofs.Arrays.{by-eq}
 use Rattle.plan_reading.specs.Plan.{Plan, Valid}
 use Rattle.analysis_equations.specs.Sharing.{processorOf, uses, global}
@@ -19,53 +19,47 @@ use Rattle.analysis_equations.proofs.Laws.{hold-low}
 use Rattle.machine_rules.specs.declared.Answer.{Answer}
 use Rattle.machine_rules.specs.declared.Answer.the-variants.{Granted, Waits}
 use Rattle.machine_rules.specs.declared.Call.the-variants.{Request}
-use Rattle.machine_rules.specs.Machine.{View, busy, requestCode, requestTold, answer, step}
-use Rattle.analysis_hold_times.specs.Holds.{cell, Cells, share, Shares}
+use Rattle.machine_rules.specs.Machine.{View, busy, requestCode, requestTold}
+use Rattle.analysis_hold_times.specs.Figures.{Figures}
 use Rattle.machine_state.specs.declared.State.{State}
 use Rattle.machine_state.specs.Shows.{standing, lineAt, shows, noneInLine}
 use Rattle.machine_state.specs.Sound.{sound}
-use Rattle.machine_state.specs.Seats.{Seats}
+use Rattle.machine_state.specs.Inner.{Seats}
 use Rattle.machine_state.proofs.Tables.{low-processor}
 use Rattle.machine_state.proofs.Good.{Whole}
-use Rattle.machine_state.proofs.Wholes.{hold-user, hold-resource, whole-of, sound-of}
-use Rattle.machine_steps.specs.Steps.{joined, taken, takenHolds}
+use Rattle.machine_state.proofs.Wholes.{hold-resource, whole-of, sound-of}
+use Rattle.machine_steps.specs.Inner.{Joining, joinedBy, taken, takenHolds}
 use Rattle.machine_steps.proofs.Joins.{aheadOf, entering, join-room, joined-whole, joined-shows}
 use Rattle.machine_steps.proofs.Asking.{taken-is, request-granted, request-waits, busy-is}
-use Rattle.machine.specs.Inner.{refusedAt, Done}
+use Rattle.machine.specs.Inner.{Acted}
 
 -- ── the number ──
-module _ (p : Plan) (l : View) (tag q : ℕ) {i : ℕ} (e : i ≡ taskNumber p tag) where
-  -- 11 to 14 are those of the use
-  use-refused : {k : ℕ} → k ≡ useCode p tag q → k ≢ 0 → k ≡ requestCode p l tag q
-  unfolding requestCode
-  use-refused {k} h d = rw (← h, ne-eqb k 0 d)
-
-  pub request-11 : p .tasks ≤ i → 11 ≡ requestCode p l tag q
+-- a task that may use the resource is there, and so is the resource
+module _ (p : Plan) (tag q : ℕ) (z : useCode p tag q ≡ 0) where
+  pub use-task : taskNumber p tag < p .tasks
   unfolding useCode
-  request-11 h = use-refused (rw (← e, le-ltb i (p .tasks) h)) (λ z. omega arith)
+  use-task = ltb-true _ _ (code-zero (ltb (taskNumber p tag) (p .tasks)) _ 10 z)
 
-  pub request-12 : i < p .tasks → p .resources ≤ q → 12 ≡ requestCode p l tag q
+  use-resource : q < p .resources
   unfolding useCode
-  request-12 a h = use-refused (rw (← e, lt-ltb i (p .tasks) a, le-ltb q (p .resources) h)) (λ z. omega arith)
+  use-resource = ltb-true _ _ (code-zero (ltb q (p .resources)) _ 11 (code-next (ltb (taskNumber p tag) (p .tasks)) _ 10 z))
 
-  pub request-share : {k : ℕ} → i < p .tasks → q < p .resources → k ≡ sharingCode p i q → 1 ≤ k → k ≡ requestCode p l tag q
+  use-sharing : sharingCode p (taskNumber p tag) q ≡ 0
   unfolding useCode
-  request-share a b h n = use-refused (rw (← e, lt-ltb i (p .tasks) a, lt-ltb q (p .resources) b) h) (λ z. omega arith)
+  use-sharing = code-next (ltb q (p .resources)) _ 11 (code-next (ltb (taskNumber p tag) (p .tasks)) _ 10 z)
 
-module _ (p : Plan) (v : Valid p) where
-  -- who has a hold time may use the resource, and the other way round
-  use-clear : (tag q : ℕ) {i : ℕ} → i ≡ taskNumber p tag → i < p .tasks → 1 ≤ holdAt p i q → useCode p tag q ≡ 0
-  unfolding useCode sharingCode
-  use-clear tag q {i} e a some =
-      let u = and-parts (global p q) (uses p i q) (hold-user p v i q some) in
-      rw (← e, lt-ltb i (p .tasks) a, lt-ltb q (p .resources) (hold-resource p v i q some), u .0, u .1)
+-- 11 to 14 are those of the use
+pub use-refused : (p : Plan) (l : View) (tag q : ℕ) {k : ℕ} → k ≡ useCode p tag q → k ≢ 0 → k ≡ requestCode p l tag q
+unfolding requestCode
+use-refused p l tag q {k} h d = rw (← h, ne-eqb k 0 d)
 
-  hold-some : (i q : ℕ) → sharingCode p i q ≡ 0 → 1 ≤ holdAt p i q
-  unfolding sharingCode holdAt
-  hold-some i q z =
-      let u : uses p i q ≡ true = code-zero (uses p i q) _ 12 z in
-      let g : global p q ≡ true = code-zero (global p q) 0 13 (code-next (uses p i q) _ 12 z) in
-      rw (g, u) (hold-low p v i q u)
+-- who may use the resource has a hold time
+hold-some : (p : Plan) → Valid p → (i q : ℕ) → sharingCode p i q ≡ 0 → 1 ≤ holdAt p i q
+unfolding sharingCode holdAt
+hold-some p v i q z =
+    let u : uses p i q ≡ true = code-zero (uses p i q) _ 12 z in
+    let g : global p q ≡ true = code-zero (global p q) 0 13 (code-next (uses p i q) _ 12 z) in
+    rw (g, u) (hold-low p v i q u)
 
 -- both are 0 where the number is
 clear-parts : (k : ℕ) (b : Bool) → cond (eqb k 0) (cond b 15 0) k ≡ 0 → (k ≡ 0) × (b ≡ false)
@@ -87,31 +81,24 @@ module _ (p : Plan) (v : Valid p) (s : State) (h : sound p s ≡ true) (tag q : 
   whole : Whole p s
   whole = whole-of p v s h
 
-  module _ {i : ℕ} (e : i ≡ taskNumber p tag) (a : i < p .tasks) (some : 1 ≤ holdAt p i q) where
-    pub request-15 : standing (s .tasks) i .resource ≢ 255 → 15 ≡ requestCode p (shows p s) tag q
-    unfolding requestCode
-    request-15 n =
-        rw (use-clear p v tag q e a some, ← e, busy-is p v s whole i a, ne-eqb (standing (s .tasks) i .resource) 255 n)
-
-    pub request-0 : standing (s .tasks) i .resource ≡ 255 → 0 ≡ requestCode p (shows p s) tag q
-    unfolding requestCode
-    request-0 z =
-        rw (use-clear p v tag q e a some, ← e, busy-is p v s whole i a, eq-eqb (standing (s .tasks) i .resource) 255 z)
+  -- 15 or none, by what the row of the task says
+  pub request-by : {i k : ℕ} {b : Bool} → useCode p tag q ≡ 0 → i ≡ taskNumber p tag → b ≡ not (eqb (standing (s .tasks) i .resource) 255)
+      → k ≡ cond b 15 0 → k ≡ requestCode p (shows p s) tag q
+  unfolding requestCode
+  request-by {i} z e h j = rw (z, ← e, busy-is p v s whole i (rw e (use-task p tag q z)), ← h) j
 
   -- what the number 0 tells
   pub request-free : {i : ℕ} → i ≡ taskNumber p tag → requestCode p (shows p s) tag q ≡ 0 → Free p s i q
-  unfolding requestCode useCode
+  unfolding requestCode
   request-free {i} e z =
       let c = clear-parts (useCode p tag q) (busy p (shows p s) i) (rw e z) in
-      let t = rw (← e) at (c .0) in
-      let a : i < p .tasks = ltb-true i (p .tasks) (code-zero (ltb i (p .tasks)) _ 10 t) in
-      let u = code-next (ltb i (p .tasks)) _ 10 t in
+      let a : i < p .tasks = rw e (use-task p tag q (c .0)) in
       let r : standing (s .tasks) i .resource ≡ 255 =
       eqb-true (standing (s .tasks) i .resource) 255 (not-false _ (sym (busy-is p v s whole i a) ∙ c .1)) in
       record {
         task = a;
-        resource = ltb-true q (p .resources) (code-zero (ltb q (p .resources)) _ 11 u);
-        some = hold-some p v i q (code-next (ltb q (p .resources)) _ 11 u);
+        resource = use-resource p tag q (c .0);
+        some = rw e (hold-some p v (taskNumber p tag) q (use-sharing p tag q (c .0)));
         idle = none r (whole .rows i (omega (arith, v .tasks)));
       }
     where
@@ -121,36 +108,24 @@ module _ (p : Plan) (v : Valid p) (s : State) (h : sound p s ≡ true) (tag q : 
       none r (inl e) = e
       none r (inr x) = let bad : ⊥ = omega (arith, v .resources, hold-resource p v i (standing (s .tasks) i .resource) x) in absurd bad
 
-  -- ── what a request does ──
-  pub ask-refused : {k : ℕ} → k ≡ requestCode p (shows p s) tag q → k ≢ 0 → Done p s (Request tag q) (refusedAt s k)
-  unfolding answer step
-  ask-refused {k} e d =
-      record {
-        answer = rw (← e, ne-eqb k 0 d);
-        unchanged = λ n. refl;
-        sound = h;
-        shows = rw (← e, ne-eqb k 0 d);
-      }
-
--- a request that is not refused, on a sound state, with the tables of the plan and the state
-pub record Accepted (p : Plan) (s : State) (tag q : ℕ) (holds budgets seats : List ℕ) : Type 0 where
+-- ── what a request does that is not refused ──
+-- on a sound state, with the tables of the plan and the state
+pub record Accepted (p : Plan) (s : State) (tag q : ℕ) (figures seats : List ℕ) : Type 0 where
   pub valid : Valid p
   pub sound : sound p s ≡ true
   pub tasks-long : length (s .tasks) ≡ 64
   pub lines-long : length (s .lines) ≡ 16
   pub code : requestCode p (shows p s) tag q ≡ 0
-  pub cells : Cells (holdAt p) holds
-  pub shares : Shares p budgets
+  pub table : Figures p figures
   pub seated : Seats p (s .tasks) seats
 
--- what the code calls the task, its processor and the resource: i, k and q, and the last two m and r where they index a table
-pub record Named (p : Plan) (tag q i k r m : ℕ) : Type 0 where
+-- what the code calls the task, its processor and the resource: i, k and r
+pub record Named (p : Plan) (tag q i k r : ℕ) : Type 0 where
   pub task : i ≡ taskNumber p tag
   pub processor : k ≡ processorOf p i
   pub resource : r ≡ q
-  pub core : m ≡ k
 
-module _ {p : Plan} {s : State} {tag q : ℕ} {holds budgets seats : List ℕ} (h : Accepted p s tag q holds budgets seats) where
+module _ {p : Plan} {s : State} {tag q : ℕ} {figures seats : List ℕ} (h : Accepted p s tag q figures seats) where
   abbrev v : Valid p
   v = h .valid
 
@@ -170,47 +145,50 @@ module _ {p : Plan} {s : State} {tag q : ℕ} {holds budgets seats : List ℕ} (
   low-core = low-processor p v i (may .task)
 
   -- it joins the line, whatever the answer
-  done : {a : Answer} → a ≡ requestTold p i q (shows p s .lines q) → Done p s (Request tag q) (record { answer = a; state = entering p s i q })
-  unfolding answer step
+  done : {a : Answer} → a ≡ requestTold p i q (shows p s .lines q) → Acted p s (Request tag q) (record { answer = a; state = entering p s i q })
   done e =
       record {
-        answer = rw (h .code) e;
-        unchanged = λ n. absurd (n (h .code));
+        answer = e;
         sound = sound-of p v (entering p s i q) (joined-whole p v s w (h .tasks-long) (h .lines-long) i q (may .task) (may .some) (may .idle));
-        shows = rw (h .code) (joined-shows p v s w (h .tasks-long) (h .lines-long) i q (may .task) (may .some) (may .idle));
+        shows = joined-shows p v s w (h .tasks-long) (h .lines-long) i q (may .task) (may .some) (may .idle);
       }
 
   -- and so the code has it
-  module _ {j k r m n : ℕ} (g : Named p tag q j k r m) (e : n ≡ taken seats r k) where
+  module _ {j k r n : ℕ} (g : Named p tag q j k r) (e : n ≡ taken seats r k) where
     ahead : n ≡ aheadOf p s i q
     ahead = e ∙ rw (g .processor, g .task, g .resource) (taken-is p v s w q (processorOf p i) low low-core (h .seated))
 
-    pub ask-room : n ≡ 0 → lineAt s q .queued < 8
-    ask-room z = join-room p v s w (h .tasks-long) (h .lines-long) i q (may .task) (may .some) (may .idle) (sym ahead ∙ z)
+    pub ask-joins : Joining figures s q j k n
+    ask-joins =
+        record {
+          figures-long = h .table .long;
+          resource = low;
+          task = omega (arith, g .task, v .tasks, may .task);
+          core = rw (g .processor, g .task) low-core;
+          room = λ z. join-room p v s w (h .tasks-long) (h .lines-long) i q (may .task) (may .some) (may .idle) (sym ahead ∙ z);
+        }
 
-    module _ {next : State} (made : next ≡ joined s q j k n (getD holds (cell j r) 0) (getD budgets (share m r) 0)) where
+    module _ {next : State} (made : next ≡ joinedBy figures s q j k n) where
       joined-is : next ≡ entering p s i q
       joined-is =
           made
           ∙ rw (
             ahead,
-            g .core,
             g .processor,
             g .task,
-            g .resource,
-            h .cells .at i q (omega (arith, v .tasks, may .task)) low,
-            h .shares .at (processorOf p i) q low-core low,
+            h .table .hold i q (omega (arith, v .tasks, may .task)) low,
+            h .table .budget (processorOf p i) q low-core low,
           )
 
-      pub ask-granted : lineAt s r .queued ≡ 0 → Done p s (Request tag q) (record { answer = Granted; state = next })
+      pub ask-granted : lineAt s r .queued ≡ 0 → Acted p s (Request tag q) (record { answer = Granted; state = next })
       ask-granted z = rw joined-is (done (sym (request-granted p v s w i q (rw (g .resource) at z))))
 
-      pub ask-waits : {x y : ℕ} → lineAt s r .queued ≢ 0 → x ≡ takenHolds holds seats r k → y ≡ waitTime p k r
-          → Done p s (Request tag q) (record { answer = Waits n (x + (n + 1) * y); state = next })
+      pub ask-waits : {x y : ℕ} → lineAt s r .queued ≢ 0 → x ≡ takenHolds figures seats r k → y ≡ waitTime p k r
+          → Acted p s (Request tag q) (record { answer = Waits n (x + (n + 1) * y); state = next })
       ask-waits {x} {y} d a b =
           let queued : 1 ≤ lineAt s q .queued = omega (arith, rw (g .resource) at d) in
           rw joined-is
-          (done (rw (e, a, b, g .processor, g .task, g .resource) (sym (request-waits p v s w i q queued low (may .task) (h .seated) (h .cells)))))
+          (done (rw (e, a, b, g .processor, g .task, g .resource) (sym (request-waits p v s w i q queued low (may .task) (h .seated) (h .table)))))
 
 -- a limit has 32 bits
 pub waits-high : (n w : ℕ) → n ≤ 64 → w ≤ 524280 → (n + 1) * w ≤ 34078200

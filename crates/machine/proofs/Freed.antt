@@ -17,20 +17,20 @@ use Rattle.queue_rules.specs.Rules.{holds}
 use Rattle.machine_rules.specs.declared.Answer.{Answer}
 use Rattle.machine_rules.specs.declared.Answer.the-variants.{Next}
 use Rattle.machine_rules.specs.declared.Call.the-variants.{Release}
-use Rattle.machine_rules.specs.Machine.{View, releaseCode, answer, step}
+use Rattle.machine_rules.specs.Machine.{View, releaseCode}
 use Rattle.folds.proofs.Searches.{on-eq}
-use Rattle.machine_state.specs.declared.Line.{Line}
+use Rattle.machine_state.specs.declared.LineRow.{LineRow}
 use Rattle.machine_state.specs.declared.State.{State}
 use Rattle.machine_state.specs.Shows.{lineAt, slot, shows}
 use Rattle.machine_state.specs.Sound.{sound}
-use Rattle.machine_state.specs.Seats.{seat, Seats}
+use Rattle.machine_state.specs.Inner.{seat, seatCount, Seats}
 use Rattle.machine_state.proofs.Good.{Whole}
 use Rattle.machine_state.proofs.Wholes.{whole-of, sound-of}
-use Rattle.machine_steps.specs.Steps.{Sized, Ready, left}
+use Rattle.machine_steps.specs.Inner.{Leaving, left}
 use Rattle.machine_steps.proofs.Passing.{flag, seat-read}
 use Rattle.machine_steps.proofs.Ready.{Tabled, sized, ready}
 use Rattle.machine_steps.proofs.Leaving.{head-low, holder-none, holder-seat, left-whole, left-shows, next-seat, next-told}
-use Rattle.machine.specs.Inner.{refusedAt, Done, firstSeat, NewHead, grantedTold}
+use Rattle.machine.specs.Inner.{firstSeat, NewHead, grantedTold, Acted}
 
 -- ── the number, test by test ──
 module _ (p : Plan) (m : View) (tag q : ℕ) where
@@ -54,14 +54,14 @@ module _ (p : Plan) (m : View) (tag q : ℕ) where
       (ltb-true _ _ (code-zero (ltb q (p .resources)) _ 11 a), code-zero _ 0 15 (code-next (ltb q (p .resources)) _ 11 a))
 
 -- a release of a resource that is there by a task that is there, and the seats of the state
-pub record Asks (p : Plan) (s : State) (tag q : ℕ) (seats : List ℕ) : Type 0 where
+pub record Releases (p : Plan) (s : State) (tag q : ℕ) (seats : List ℕ) : Type 0 where
   pub valid : Valid p
   pub whole : sound p s ≡ true
   pub seats-at : Seats p (s .tasks) seats
   pub task : taskNumber p tag < p .tasks
   pub resource : q < p .resources
 
-module _ {p : Plan} {s : State} {tag q : ℕ} {seats : List ℕ} (a : Asks p s tag q seats) where
+module _ {p : Plan} {s : State} {tag q : ℕ} {seats : List ℕ} (a : Releases p s tag q seats) where
   low : q < 16
   low = omega (arith, a .valid .resources, a .resource)
 
@@ -70,7 +70,7 @@ module _ {p : Plan} {s : State} {tag q : ℕ} {seats : List ℕ} (a : Asks p s t
 
   module _ (held : lineAt s q .queued ≢ 0) where
     -- the head's first seat is in the table
-    pub head-seat : seat q (slot (lineAt s q) 0) 0 < 8193
+    pub head-seat : seat q (slot (lineAt s q) 0) 0 < seatCount
     head-seat = omega (arith, low, head-low p (a .valid) s (whole-of p (a .valid) s (a .whole)) q low (omega arith))
 
     -- who sits there holds: x, read by copies of the numbers, beside the task's number i
@@ -89,7 +89,7 @@ module _ {p : Plan} {s : State} {tag q : ℕ} {seats : List ℕ} (a : Asks p s t
 
 -- ── the answer ──
 -- r is the head's first task, as its number plus 1, read by a copy w of the head's number
-module _ {p : Plan} {seats : List ℕ} {q gone : ℕ} {l : Line} (h : NewHead p seats q gone l) {w r : ℕ} (ew : w ≡ slot l 0)
+module _ {p : Plan} {seats : List ℕ} {q gone : ℕ} {l : LineRow} (h : NewHead p seats q gone l) {w r : ℕ} (ew : w ≡ slot l 0)
     (er : r ≡ getD seats ((q * 8 + w) * 64 + boolByte (eqb (slot l 0) gone)) 0) where
   first-read : r ≡ getD seats (firstSeat q gone l) 0
   first-read = rw flag at (seat-read seats q (slot l 0) (boolByte (eqb (slot l 0) gone)) ew er)
@@ -101,55 +101,54 @@ module _ {p : Plan} {seats : List ℕ} {q gone : ℕ} {l : Line} (h : NewHead p 
   unfolding grantedTold
   granted-next n e = rw (e, first-read, ne-eqb _ _ n)
 
--- ── refused ──
-pub free-refused : (p : Plan) (s : State) (tag q : ℕ) {k : ℕ} → sound p s ≡ true → k ≡ releaseCode p (shows p s) tag q → k ≢ 0
-    → Done p s (Release tag q) (refusedAt s k)
-unfolding answer step
-free-refused p s tag q h e n =
-    record {
-      answer = rw (← e, ne-eqb _ _ n);
-      unchanged = λ z. refl;
-      sound = h;
-      shows = rw (← e, ne-eqb _ _ n);
-    }
-
--- ── not refused ──
--- the release is right, and the tables are those of the state; r is a copy of the resource's number
-pub record Frees (p : Plan) (s : State) (tag q r : ℕ) (holds budgets keys seats : List ℕ) : Type 0 where
+-- ── what a release does that is not refused ──
+-- a resource that is held, and the tables of the state; r is a copy of the resource's number
+pub record Held (p : Plan) (s : State) (q r : ℕ) (figures keys seats : List ℕ) : Type 0 where
   pub valid : Valid p
   pub whole : sound p s ≡ true
-  pub tables : Tabled p s holds budgets keys seats
-  pub code : releaseCode p (shows p s) tag q ≡ 0
+  pub tables : Tabled p s figures keys seats
+  pub resource : q < 16
+  pub held : 1 ≤ lineAt s q .queued
   pub copy : r ≡ q
 
-module _ {p : Plan} {s : State} {tag q r : ℕ} {holds budgets keys seats : List ℕ} (f : Frees p s tag q r holds budgets keys seats) where
+-- what the number 0 of a release tells
+pub release-held : (p : Plan) → Valid p → (s : State) (tag q : ℕ) → releaseCode p (shows p s) tag q ≡ 0 → (q < 16) × (1 ≤ lineAt s q .queued)
+release-held p v s tag q e =
+    let z = release-zero p (shows p s) tag q e in (
+      omega (arith, v .resources, z .0),
+      on-eq (1 ≤ lineAt s q .queued) (lineAt s q .queued) 0
+          (λ f. absurd (true≢false (sym (z .1) ∙ holder-none p s q (taskNumber p tag) f))) (λ n. omega arith),
+    )
+
+module _ {p : Plan} {s : State} {q r : ℕ} {figures keys seats : List ℕ} (f : Held p s q r figures keys seats) where
   w : Whole p s
   w = whole-of p (f .valid) s (f .whole)
 
   pub free-low : r < 16
-  free-low = omega (arith, f .copy, f .valid .resources, release-zero p (shows p s) tag q (f .code) .0)
+  free-low = omega (arith, f .copy, f .resource)
 
   held : 1 ≤ lineAt s r .queued
-  held =
-      on-eq (1 ≤ lineAt s r .queued) (lineAt s r .queued) 0
-      (λ z. absurd (true≢false (sym (release-zero p (shows p s) tag q (f .code) .1) ∙ holder-none p s q (taskNumber p tag) (rw (f .copy) at z))))
-      (λ n. omega arith)
+  held = rw (f .copy) (f .held)
 
-  pub free-ready : (Sized holds budgets keys seats) × (r < 16) × (Ready seats r (lineAt s r))
-  free-ready = (sized p (f .valid) s w (f .tables), free-low, ready p (f .valid) s w (f .tables) r free-low held)
+  pub free-ready : Leaving figures keys seats r (lineAt s r)
+  free-ready =
+      record {
+        tables = sized p (f .valid) s w (f .tables);
+        resource = free-low;
+        ready = ready p (f .valid) s w (f .tables) r free-low held;
+      }
 
-  module _ {n : State} (e : n ≡ left holds budgets keys seats r s) where
+  module _ {n : State} (e : n ≡ left figures keys seats r s) where
     pub free-next : 1 ≤ lineAt n r .queued → NewHead p seats r (slot (lineAt s r) 0) (lineAt n r)
     free-next =
         rw e (λ a. let g = next-seat p (f .valid) s w (f .tables) r free-low held a in record { placed = g .0; some = g .1; task = g .2 })
 
     pub free-done : {a : Answer} → a ≡ grantedTold p seats r (slot (lineAt s r) 0) (lineAt n r)
-        → Done p s (Release tag q) (record { answer = a; state = n })
-    unfolding answer step grantedTold
-    free-done j =
+        → (tag : ℕ) → Acted p s (Release tag q) (record { answer = a; state = n })
+    unfolding grantedTold
+    free-done j tag =
         record {
-          answer = rw (f .code, ← f .copy, j, e) (sym (next-told p (f .valid) s w (f .tables) r free-low held));
-          unchanged = λ z. absurd (z (f .code));
+          answer = rw (← f .copy, j, e) (sym (next-told p (f .valid) s w (f .tables) r free-low held));
           sound = rw e (sound-of p (f .valid) _ (left-whole p (f .valid) s w (f .tables) r free-low held));
-          shows = rw (f .code, ← f .copy, e) (left-shows p (f .valid) s w (f .tables) r free-low held);
+          shows = rw (← f .copy, e) (left-shows p (f .valid) s w (f .tables) r free-low held);
         }

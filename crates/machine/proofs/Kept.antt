@@ -27,7 +27,7 @@ use Rattle.machine_state.proofs.One.{Shaped, one-state}
 use Rattle.machine.specs.Replies.{stateRefusal, callRefusal, reply, Next}
 use Rattle.machine.specs.Promise.{Returned, started, called, Promise, Demand3, Start, FromSound, Ran, FreshRan, LongestWait}
 use Rattle.machine.proofs.Answered.{state-refusal, state-accepted, plan-refused}
-use Rattle.machine.proofs.Acting.{sound-answer}
+use Rattle.machine.proofs.Replied.{sound-answer}
 
 module _ (f : List ℕ) (k : Accepted f) where
   -- on a sound state a call that is refused is so by its own number, and the rules leave the lines as they are
@@ -104,7 +104,7 @@ longest-wait f k =
     let p : Plan = planOf f in
     let v : Valid p = accepted-valid k in
     record {
-      told = λ start w calls s r tag q a m e.
+      never-told-more = λ start w calls s r tag q a m e.
           let x = sym (returned-answers f k start (shows p start) (w .sound, refl) calls s (Request tag q) r) ∙ e in
           (waits-asked p v _ tag q a m x, never-more p v (shows p start) (orderly start w) calls tag q a m x);
       kept = λ start w. never-longer p v (shows p start) (orderly start w);

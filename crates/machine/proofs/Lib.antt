@@ -1,6 +1,6 @@
 pub mod Lengths
 pub mod Answered
-pub mod Acting
+pub mod Replied
 pub mod Asked
 pub mod Freed
 pub mod Beaten

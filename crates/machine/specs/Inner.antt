@@ -1,56 +1,95 @@
 -- What the machine's private functions give. None of this is a rule of document 01.
 use Prim.Native.Nat.{ℕ, _-_, _≤_, _<_}
 use mathlib.Core.Bool.{true, cond}
-use mathlib.Core.List.{List}
-use mathlib.Core.Logic.{_≢_}
+use mathlib.Core.List.{List, [], _∷_}
 use mathlib.Core.Path.{_≡_}
 use lib.Count.{ones}
 use lib.Dec.{eqb}
-use lib.ListN.{getD}
+use lib.ListN.{length, getD}
+use Rattle.sizes.specs.Sizes.{mostResources}
 use Rattle.plan.specs.Acceptance.{refusal}
-use Rattle.plan_reading.specs.Plan.{Plan, planOf}
-use Rattle.analysis_equations.specs.HoldTimes.{holdAt}
-use Rattle.analysis_hold_times.specs.Holds.{Cells, Shares}
+use Rattle.plan_reading.specs.Plan.{Plan, planOf, Checked}
+use Rattle.analysis_hold_times.specs.Figures.{Known}
 use Rattle.machine_rules.specs.declared.Call.{Call}
 use Rattle.machine_rules.specs.declared.Answer.{Answer}
 use Rattle.machine_rules.specs.declared.Answer.the-variants.{Granted, Waits, Next, Free, Ticked, Refused}
-use Rattle.machine_rules.specs.Machine.{callCode, answer, step}
-use Rattle.machine_state.specs.declared.Line.{Line}
+use Rattle.machine_rules.specs.Machine.{requestCode, callCode, effect, acceptedAnswer}
+use Rattle.machine_state.specs.declared.LineRow.{LineRow}
 use Rattle.machine_state.specs.declared.State.{State}
-use Rattle.machine_state.specs.Shows.{shows, slot}
+use Rattle.machine_state.specs.Shows.{lineAt, shows, slot}
 use Rattle.machine_state.specs.Sound.{sound}
-use Rattle.machine_state.specs.Seats.{seat}
+use Rattle.machine_state.specs.Inner.{seat, seatCount, Keys, Seats}
 use Rattle.machine.specs.declared.Reply.{Reply}
+use Rattle.machine.specs.Replies as Replies
 
 -- what is known of a plan file once it has been looked at: its refusal, and of one that is accepted its hold times and budgets
-pub record Surveyed (f : List ℕ) (code : ℕ) (h b : List ℕ) : Type 0 where
-  pub told : code ≡ refusal f
-  pub holds : code ≡ 0 → Cells (holdAt (planOf f)) h
-  pub budgets : code ≡ 0 → Shares (planOf f) b
+pub record Surveyed (f : List ℕ) (code : ℕ) (t : List ℕ) : Type 0 where
+  pub refusal : code ≡ refusal f
+  pub known : code ≡ 0 → Known f t
 
--- the refusal k of a call on a state
+-- the refusal `code` of a call on a state
 abbrev pub refusedAt : State → ℕ → Reply
-refusedAt s k = record { answer = Refused k; state = s }
+refusedAt s code = record { answer = Refused code; state = s }
 
--- a call on a sound state did what the rules say
-pub record Done (p : Plan) (s : State) (c : Call) (r : Reply) : Type 0 where
-  pub answer : r .answer ≡ answer p (shows p s) c
-  pub unchanged : callCode p (shows p s) c ≢ 0 → r .state ≡ s
+-- ── what the functions of a call rely on ──
+
+-- a sound state of a plan that passed every check, and who sits where
+pub record OnSeats (f : List ℕ) (s : State) (seats : List ℕ) : Type 0 where
+  pub plan : Checked f
+  pub seated : Seats (planOf f) (s .tasks) seats
+  pub sound : sound (planOf f) s ≡ true
+
+-- and the hold times and budgets
+pub record OnSound (f : List ℕ) (s : State) (figures seats : List ℕ) : Type 0 where
+  pub known : Known f figures
+  pub seated : Seats (planOf f) (s .tasks) seats
+  pub sound : sound (planOf f) s ≡ true
+
+-- a request that is not refused
+pub record Asks (f : List ℕ) (s : State) (figures seats : List ℕ) (tag q : ℕ) : Type 0 where
+  pub on : OnSound f s figures seats
+  pub code : requestCode (planOf f) (shows (planOf f) s) tag q ≡ 0
+
+-- a resource that is held, to be released
+pub record Frees (f : List ℕ) (s : State) (figures keys seats : List ℕ) (q : ℕ) : Type 0 where
+  pub on : OnSound f s figures seats
+  pub keyed : Keys (planOf f) (s .tasks) keys
+  pub resource : q < mostResources
+  pub held : 1 ≤ lineAt s q .queued
+
+-- a call that is not refused
+pub record Makes (f : List ℕ) (s : State) (figures keys seats : List ℕ) (c : Call) : Type 0 where
+  pub on : OnSound f s figures seats
+  pub keyed : Keys (planOf f) (s .tasks) keys
+  pub code : callCode (planOf f) (shows (planOf f) s) c ≡ 0
+
+-- ── what they give ──
+
+-- such a call did what the rules say
+pub record Acted (p : Plan) (s : State) (c : Call) (r : Reply) : Type 0 where
+  pub answer : r .answer ≡ acceptedAnswer p (shows p s) c
   pub sound : sound p (r .state) ≡ true
-  pub shows : shows p (r .state) ≡ step p (shows p s) c
+  pub shows : shows p (r .state) ≡ effect p (shows p s) c
 
 -- the seat of the first task of the head, once the first task of processor `gone` left
-abbrev pub firstSeat : ℕ → ℕ → Line → ℕ
+abbrev pub firstSeat : ℕ → ℕ → LineRow → ℕ
 firstSeat q gone l = seat q (slot l 0) (cond (eqb (slot l 0) gone) 1 0)
 
 -- somebody sits there
-pub record NewHead (p : Plan) (seats : List ℕ) (q gone : ℕ) (l : Line) : Type 0 where
+pub record NewHead (p : Plan) (seats : List ℕ) (q gone : ℕ) (l : LineRow) : Type 0 where
   pub placed : slot l 0 < 8
   pub some : 1 ≤ getD seats (firstSeat q gone l) 0
   pub task : getD seats (firstSeat q gone l) 0 ≤ p .tasks
 
+-- a line of q once its holder left, with the tables
+pub record Grants (f seats : List ℕ) (q gone : ℕ) (l : LineRow) : Type 0 where
+  pub plan : Checked f
+  pub long : length seats ≡ seatCount
+  pub resource : q < mostResources
+  pub head : 1 ≤ l .queued → NewHead (planOf f) seats q gone l
+
 -- what a release is answered: the tag of that task, or free
-unfoldable pub grantedTold : Plan → List ℕ → ℕ → ℕ → Line → Answer
+unfoldable pub grantedTold : Plan → List ℕ → ℕ → ℕ → LineRow → Answer
 grantedTold p seats q gone l = cond (eqb (l .queued) 0) Free (Next (p .task (getD seats (firstSeat q gone l) 0 - 1) .tag))
 
 -- the ones in the first word of a tick's answer
@@ -61,3 +100,8 @@ cutsIn (Next tag) = 0
 cutsIn Free = 0
 cutsIn (Ticked cuts grants) = ones cuts
 cutsIn (Refused k) = 0
+
+-- the state after bytes that are one call or none: as it was where they are none
+abbrev pub AfterBytes : List ℕ → State → List Call → State → Type 0
+AfterBytes f s [] t = t ≡ s
+AfterBytes f s (c ∷ cs) t = Replies.Next f s c t

@@ -1,17 +1,16 @@
 -- Demand 3, whole: one claim about a whole list of calls, from a fresh machine; the same from every sound state; and the promise of
 -- the longest wait. Document 01, "The machine", last paragraph.
-use Prim.Native.Nat.{ℕ, zero, suc, _+_, _*_, _/_, _≤_}
-use mathlib.Core.Bool.{true, cond, _&&_}
+use Prim.Native.Nat.{ℕ, _≤_}
+use mathlib.Core.Bool.{true}
 use mathlib.Core.List.{List, [], _∷_, _++_}
 use mathlib.Core.Logic.{_≢_}
 use mathlib.Core.Path.{_≡_}
-use lib.Dec.{eqb}
-use lib.ListN.{length, getD}
+use lib.ListN.{length}
 use Rattle.plan_reading.specs.Plan.{planOf}
 use Rattle.plan.specs.Acceptance.{refusal, Accepted}
 use Rattle.analysis_equations.specs.Questions.{taskNumber, useCode}
 use Rattle.machine_rules.specs.declared.Call.{Call}
-use Rattle.machine_rules.specs.declared.Call.the-variants.{Request, Release, Tick}
+use Rattle.machine_rules.specs.declared.Call.the-variants.{Request}
 use Rattle.machine_rules.specs.declared.Answer.the-variants.{Waits}
 use Rattle.machine_rules.specs.Machine.{View, fresh, answer, after, run}
 use Rattle.machine_rules.specs.Waiting.{Served, EachSince}
@@ -19,7 +18,6 @@ use Rattle.machine_rules.specs.Longest.{longestWait, NeverLonger, EachReached}
 use Rattle.machine_state.specs.declared.State.{State}
 use Rattle.machine_state.specs.Shows.{freshState, shows}
 use Rattle.machine_state.specs.Sound.{sound}
-use Rattle.machine.specs.declared.Decoded.{Decoded}
 use Rattle.machine.specs.Replies.{stateRefusal, reply, Next}
 
 -- The state that the operations return after a list of calls: "each call gets the same plan and the state that the last one
@@ -83,7 +81,7 @@ pub record FreshRan (f : List ℕ) (calls : List Call) (end : State) : Type 0 wh
 pub record LongestKept (f : List ℕ) : Type 0 where
   -- no request, on the state that any list of calls returned from a sound one, is told more; and it is one of which the question is
   -- not refused
-  pub told : (start : State) → Start f start → (calls : List Call) (s : State) → Returned f start calls s
+  pub never-told-more : (start : State) → Start f start → (calls : List Call) (s : State) → Returned f start calls s
       → (tag q ahead most : ℕ) → reply f s (Request tag q) ≡ Waits ahead most
       → (useCode (planOf f) tag q ≡ 0) × (most ≤ longestWait (planOf f) (taskNumber (planOf f) tag) q)
   -- so nobody who waits is kept longer
@@ -96,31 +94,3 @@ pub record LongestKept (f : List ℕ) : Type 0 where
 -- for every plan file that is accepted
 abbrev pub LongestWait : Type 0
 LongestWait = (f : List ℕ) → Accepted f → LongestKept f
-
--- ── a list of calls as bytes ──
-
--- "calls of 3 bytes: a letter (Q request, R release, T tick), a tag, a resource. After T both are 0." Any other three bytes are no
--- call
-unfoldable pub callOf : ℕ → ℕ → ℕ → List Call
-callOf letter tag q =
-    cond (eqb letter 81) (Request tag q ∷ [])
-    (cond (eqb letter 82) (Release tag q ∷ [])
-    (cond (eqb letter 84 && (eqb tag 0 && eqb q 0)) (Tick ∷ []) []))
-
--- the calls that a decoding gives
-unfoldable pub decodedCalls : Decoded → List Call
-decodedCalls d = cond (d .known) (d .call ∷ []) []
-
--- the state after three bytes that are one call or none: as it was where they are none
-abbrev pub AfterBytes : List ℕ → State → List Call → State → Type 0
-AfterBytes f s [] t = t ≡ s
-AfterBytes f s (c ∷ cs) t = Next f s c t
-
--- the first n calls
-unfoldable pub callsBelow : ℕ → List ℕ → List Call
-callsBelow zero l = []
-callsBelow (suc n) l = callsBelow n l ++ callOf (getD l (n * 3) 0) (getD l (n * 3 + 1) 0) (getD l (n * 3 + 2) 0)
-
--- the calls in these bytes
-abbrev pub callsOf : List ℕ → List Call
-callsOf l = callsBelow (length l / 3) l

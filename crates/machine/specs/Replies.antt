@@ -15,7 +15,7 @@ use Rattle.machine_rules.specs.declared.Call.{Call}
 use Rattle.machine_rules.specs.declared.Call.the-variants.{Tick}
 use Rattle.machine_rules.specs.declared.Answer.{Answer}
 use Rattle.machine_rules.specs.declared.Answer.the-variants.{Refused}
-use Rattle.machine_rules.specs.Machine.{callCode, step, told, answerTold}
+use Rattle.machine_rules.specs.Machine.{callCode, step, acceptedAnswer, answerTold}
 use Rattle.machine_state.specs.declared.State.{State}
 use Rattle.machine_state.specs.Shows.{shows}
 use Rattle.machine_state.specs.Sound.{sound}
@@ -31,7 +31,7 @@ callRefusal f s c = cond (eqb (stateRefusal f s) 0) (callCode (planOf f) (shows 
 
 -- what the call is answered: by the rules on what the state shows, or the refusal
 unfoldable pub reply : List ℕ → State → Call → Answer
-reply f s c = cond (eqb (callRefusal f s c) 0) (told (planOf f) (shows (planOf f) s) c) (Refused (callRefusal f s c))
+reply f s c = cond (eqb (callRefusal f s c) 0) (acceptedAnswer (planOf f) (shows (planOf f) s) c) (Refused (callRefusal f s c))
 
 -- what the state is after the call: as it was where the call is refused, else a sound one that shows what the rules make of what it
 -- showed. Among states of the struct's lengths there is only one such (`next-one`)
@@ -42,7 +42,7 @@ pub record Next (f : List ℕ) (s : State) (c : Call) (next : State) : Type 0 wh
 
 -- what the answer tells: the refusal, or 0 and the values of the rules' answer
 unfoldable pub replyTold : List ℕ → State → Call → Outcome
-replyTold f s c = outcome (callRefusal f s c) (answerTold (told (planOf f) (shows (planOf f) s) c) .values)
+replyTold f s c = outcome (callRefusal f s c) (answerTold (acceptedAnswer (planOf f) (shows (planOf f) s) c) .values)
 
 -- the number of resources whose holds end in a tick; 0 where it is refused
 unfoldable pub cutCount : List ℕ → State → ℕ

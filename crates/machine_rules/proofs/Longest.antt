@@ -25,7 +25,7 @@ use Rattle.queue_rules.proofs.Once.{Once, EachOnce, once-tasks, ahead-among, ah
 use Rattle.machine_rules.specs.declared.Answer.the-variants.{Waits, Refused}
 use Rattle.machine_rules.specs.declared.Call.{Call}
 use Rattle.machine_rules.specs.declared.Call.the-variants.{Request}
-use Rattle.machine_rules.specs.Machine.{View, terms, requestCode, callCode, requestTold, told, answer, after}
+use Rattle.machine_rules.specs.Machine.{View, terms, requestCode, callCode, requestTold, acceptedAnswer, answer, after}
 use Rattle.machine_rules.specs.Waiting.{Event, Bounded, Asked}
 use Rattle.machine_rules.specs.Longest.{fellows, longestWait, NeverLonger}
 use Rattle.machine_rules.proofs.SoundLines.{known, SoundAt, accepted}
@@ -102,7 +102,7 @@ module _ (p : Plan) (v : Valid p) where
   unfolding answer
   request-most s tag q a m o =
       by-eq
-      (λ (d : Bool). cond d (told p s (Request tag q)) (Refused (callCode p s (Request tag q))) ≡ Waits a m → AtMost (taskNumber p tag) q a m)
+      (λ (d : Bool). cond d (acceptedAnswer p s (Request tag q)) (Refused (callCode p s (Request tag q))) ≡ Waits a m → AtMost (taskNumber p tag) q a m)
       (callCode p s (Request tag q)) 0
       (λ e x. told-most (taskNumber p tag) q a m (s .lines q) (o .sound q) (o .once q) (accepted p s tag q e .new) x)
       (λ n x. absurd (true≢false cc))
@@ -112,7 +112,7 @@ module _ (p : Plan) (v : Valid p) where
   unfolding answer requestCode
   waits-asked s tag q a m =
       by-eq
-      (λ (d : Bool). cond d (told p s (Request tag q)) (Refused (callCode p s (Request tag q))) ≡ Waits a m → useCode p tag q ≡ 0)
+      (λ (d : Bool). cond d (acceptedAnswer p s (Request tag q)) (Refused (callCode p s (Request tag q))) ≡ Waits a m → useCode p tag q ≡ 0)
       (callCode p s (Request tag q)) 0
       (λ e x. first-zero (useCode p tag q) _ e)
       (λ n x. absurd (true≢false cc))
@@ -144,4 +144,4 @@ module _ (p : Plan) (v : Valid p) where
         }
       where
         most : (tag q : ℕ) (w : Asked p s calls tag q) → AtMost (taskNumber p tag) q (w .ahead) (w .limit)
-        most tag q w = request-most (after p s (w .before)) tag q (w .ahead) (w .limit) (orderly-after p v s (w .before) o) (w .told)
+        most tag q w = request-most (after p s (w .before)) tag q (w .ahead) (w .limit) (orderly-after p v s (w .before) o) (w .answered)

@@ -12,7 +12,7 @@ use Rattle.queue_rules.proofs.Waiting.{entered-stands, entered-waits, entered-a
 use Rattle.machine_rules.specs.declared.Answer.the-variants.{Waits, Refused}
 use Rattle.machine_rules.specs.declared.Call.{Call}
 use Rattle.machine_rules.specs.declared.Call.the-variants.{Request}
-use Rattle.machine_rules.specs.Machine.{View, terms, callCode, requestTold, told, effect, step, answer, after}
+use Rattle.machine_rules.specs.Machine.{View, terms, callCode, requestTold, acceptedAnswer, effect, step, answer, after}
 use Rattle.machine_rules.specs.Waiting.{TaskKept, afterCall, Asked, Served}
 use Rattle.machine_rules.proofs.SoundLines.{SoundLines, accepted}
 use Rattle.machine_rules.proofs.OnceLines.{Orderly, orderly-after}
@@ -38,7 +38,7 @@ module _ (p : Plan) where
   request-waits s tag q a m =
       let i : ℕ = taskNumber p tag in
       let c : Call = Request tag q in
-      by-eq (λ (d : Bool). cond d (told p s c) (Refused (callCode p s c)) ≡ Waits a m → WaitsIn i q (cond d (effect p s c) s .lines q) m) (callCode p s c) 0
+      by-eq (λ (d : Bool). cond d (acceptedAnswer p s c) (Refused (callCode p s c)) ≡ Waits a m → WaitsIn i q (cond d (effect p s c) s .lines q) m) (callCode p s c) 0
       (λ e x. rw (eq-eqb q q refl) (told-waits i q (s .lines q) a m (accepted p s tag q e .new) x))
       (λ n x. absurd (true≢false cc))
 
@@ -52,7 +52,7 @@ module _ (p : Plan) (v : Valid p) (s : View) (o : Orderly p s) where
   asked-kept tag q w =
       let here : View = afterCall p s (w .before) (Request tag q) in
       let x : WaitsIn p (taskNumber p tag) q (here .lines q) (w .limit) =
-      rw (after-last p s (w .before) (Request tag q)) (request-waits p (after p s (w .before)) tag q (w .ahead) (w .limit) (w .told)) in
+      rw (after-last p s (w .before) (Request tag q)) (request-waits p (after p s (w .before)) tag q (w .ahead) (w .limit) (w .answered)) in
       rw (x .bound) at (served-from p v here (later (w .before ++ (Request tag q ∷ []))) (w .since) .task (taskNumber p tag) q (x .waits))
 
   -- the promise for a list of calls

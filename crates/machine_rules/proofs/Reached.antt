@@ -160,4 +160,4 @@ each-reached p v tags tag q e =
     let i : ℕ = taskNumber p tag in
     let u = asked-user p q tag e in
     other-user p q i (Reached p tag q) (u .shared)
-    (λ j w d. record { calls = comers p q j (fellow p i q) (p .tasks); told = all-ahead p v tags q i j u w d tag refl e })
+    (λ j w d. record { calls = comers p q j (fellow p i q) (p .tasks); told-exactly = all-ahead p v tags q i j u w d tag refl e })

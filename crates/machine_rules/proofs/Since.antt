@@ -129,7 +129,7 @@ module _ (p : Plan) (v : Valid p) where
           record {
             tag = tag;
             task = e;
-            request = record { before = before; since = since; list = l; ahead = a; limit = m; told = t };
+            request = record { before = before; since = since; list = l; ahead = a; limit = m; answered = t };
             still = rw (after-last p s before (Request tag q)) n;
           }
 

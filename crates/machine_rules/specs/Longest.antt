@@ -39,7 +39,7 @@ module _ (p : Plan) where
   -- so long is not said: with sections 1, 1 and 4 on one core and 1 on another the third task is told 5 and never waits more than 4
   pub record Reached (tag q : ℕ) : Type 0 where
     pub calls : List Call
-    pub told : answer p (run p calls) (Request tag q) ≡ Waits (length (fellows (taskNumber p tag) q)) (longestWait (taskNumber p tag) q)
+    pub told-exactly : answer p (run p calls) (Request tag q) ≡ Waits (length (fellows (taskNumber p tag) q)) (longestWait (taskNumber p tag) q)
 
   -- for each task and resource of which the question is not refused
   abbrev pub EachReached : Type 0

@@ -89,15 +89,16 @@ module _ (p : Plan) where
   abbrev pub regranted : View → ℕ → Bool
   regranted s q = cut (s .lines q) && held (ticked (terms q) (s .lines q))
 
-  -- "The tick's answer is two 16-bit words, bit q for resource q: those cut, and those with a new grant."
-  abbrev pub told : View → Call → Answer
-  told s (Request tag q) = requestTold (taskNumber p tag) q (s .lines q)
-  told s (Release tag q) = releaseTold (released (terms q) (s .lines q))
-  told s Tick = Ticked (wordBelow 16 (λ q. cut (s .lines q))) (wordBelow 16 (regranted s))
+  -- what a call is answered that is not refused. "The tick's answer is two 16-bit words, bit q for resource q: those cut, and those with
+  -- a new grant."
+  abbrev pub acceptedAnswer : View → Call → Answer
+  acceptedAnswer s (Request tag q) = requestTold (taskNumber p tag) q (s .lines q)
+  acceptedAnswer s (Release tag q) = releaseTold (released (terms q) (s .lines q))
+  acceptedAnswer s Tick = Ticked (wordBelow 16 (λ q. cut (s .lines q))) (wordBelow 16 (regranted s))
 
   -- what a call is answered
   unfoldable pub answer : View → Call → Answer
-  answer s c = cond (eqb (callCode s c) 0) (told s c) (Refused (callCode s c))
+  answer s c = cond (eqb (callCode s c) 0) (acceptedAnswer s c) (Refused (callCode s c))
 
   -- "each call gets the same plan and the state that the last one returned, refused or not"
   abbrev pub after : View → List Call → View

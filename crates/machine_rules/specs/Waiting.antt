@@ -94,7 +94,7 @@ module _ (p : Plan) where
     pub list : calls ≡ before ++ (Request tag q ∷ since)
     pub ahead : ℕ
     pub limit : ℕ
-    pub told : answer p (after p s before) (Request tag q) ≡ Waits ahead limit
+    pub answered : answer p (after p s before) (Request tag q) ≡ Waits ahead limit
 
   -- a call in the list by which core k joined the queue of q, or went to its tail, and was without q then; and the calls since
   pub record Sent (s : View) (calls : List Call) (k q : ℕ) : Type 0 where

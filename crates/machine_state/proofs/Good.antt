@@ -8,12 +8,12 @@ use Rattle.analysis_equations.specs.HoldTimes.{holdAt}
 use Rattle.machine_rules.specs.Machine.{terms}
 use Rattle.queue_ranks.proofs.Ranked.{Ranked, Queued, Timed}
 use Rattle.machine_state.specs.declared.Standing.{Standing}
-use Rattle.machine_state.specs.declared.Line.{Line}
+use Rattle.machine_state.specs.declared.LineRow.{LineRow}
 use Rattle.machine_state.specs.declared.State.{State}
 use Rattle.machine_state.specs.Shows.{standing, noneInLine, lineAt, slot, rank}
 
 -- the line of q, with the tasks' rows
-pub record Good (p : Plan) (ts : List Standing) (q : ℕ) (l : Line) : Type 0 where
+pub record Good (p : Plan) (ts : List Standing) (q : ℕ) (l : LineRow) : Type 0 where
   pub small : l .queued ≤ 8
   pub ranked : Ranked (p .tasks) (terms p q) (rank p ts q)
   pub queued : Queued (p .tasks) (p .processors) (rank p ts q) (l .queued) (slot l)

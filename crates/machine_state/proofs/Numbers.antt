@@ -14,7 +14,7 @@ use Rattle.folds.specs.Below.{allBelow}
 use Rattle.folds.specs.Bytes.{number}
 use Rattle.folds.proofs.Tests.{same-test, all-at, all-from, or-out}
 use Rattle.folds.proofs.Searches.{on-eq, on-le}
-use Rattle.machine_state.specs.Tests.{tailTest}
+use Rattle.machine_state.specs.Inner.{tailTest}
 
 module _ (s : List ℕ) where
   number-more : (w at : ℕ) → number (suc w) s at ≡ getD s at 0 + 256 * number w s (at + 1)

@@ -10,7 +10,7 @@ use Rattle.queue_rules.specs.Rules as Rules
 use Rattle.machine_rules.specs.Machine.{View}
 use Rattle.queue_ranks.proofs.Lists.{list-length}
 use Rattle.machine_state.specs.declared.Standing.{Standing}
-use Rattle.machine_state.specs.declared.Line.{Line}
+use Rattle.machine_state.specs.declared.LineRow.{LineRow}
 use Rattle.machine_state.specs.declared.State.{State}
 use Rattle.machine_state.specs.Shows.{noStanding, noLine, lineAt, shows}
 use Rattle.machine_state.specs.Sound.{sound}
@@ -24,7 +24,7 @@ pub record Shaped (s : State) : Type 0 where
   pub queues : (q : ℕ) → q < 16 → length (lineAt s q .queue) ≡ 8
 
 -- states of these lengths that agree in all rows are the same
-same-line : (a b : Line) → SameRow a b → length (a .queue) ≡ 8 → length (b .queue) ≡ 8 → a ≡ b
+same-line : (a b : LineRow) → SameRow a b → length (a .queue) ≡ 8 → length (b .queue) ≡ 8 → a ≡ b
 same-line a b r m n =
     ap₂ (λ (x : ℕ) (y : List ℕ). record { queued = x; queue = y; «hold_left» = a .«hold_left»; «budget_left» = a .«budget_left» }) (r .queued)
     (ext-getD 0 (a .queue) (b .queue) (m ∙ sym n) (λ j l. r .slots j (rw m at l)))
@@ -32,7 +32,7 @@ same-line a b r m n =
 
 same-state : (s t : State) → SameRows s t → Shaped s → Shaped t → s ≡ t
 same-state s t r m n =
-    ap₂ (λ (ls : List Line) (ts : List Standing). record { lines = ls; tasks = ts })
+    ap₂ (λ (ls : List LineRow) (ts : List Standing). record { lines = ls; tasks = ts })
     (ext-getD noLine (s .lines) (t .lines) (m .lines ∙ sym (n .lines)) (λ q l. line q (rw (m .lines) at l)))
     (ext-getD noStanding (s .tasks) (t .tasks) (m .tasks ∙ sym (n .tasks)) (λ i l. r .tasks i (rw (m .tasks) at l)))
   where

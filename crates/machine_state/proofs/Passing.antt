@@ -13,8 +13,9 @@ use Rattle.folds.specs.Below.{allBelow, anyBelow}
 use Rattle.folds.specs.Bytes.{number, placedBelow}
 use Rattle.folds.proofs.Tests.{and-parts, all-at, all-same}
 use Rattle.folds.proofs.Arrays.{by-eq, placed-length, placed-at, stampedBelow, stamped-length}
-use Rattle.machine_state.specs.declared.Line.{Line}
-use Rattle.machine_state.specs.Tests.{firstSeat, stands, tailTest, slotTest, coreTest, queueTest, clockTest, freeTest, lineTest}
+use Rattle.machine_state.specs.declared.LineRow.{LineRow}
+use Rattle.machine_state.specs.Shows.{slot}
+use Rattle.machine_state.specs.Inner.{seat, SeatSized, Headed, firstSeat, stands, tailTest, slotTest, coreTest, queueTest, clockTest, freeTest, lineTest}
 use Rattle.machine_state.proofs.Numbers.{all-zero}
 
 -- what stands at x of a list in which the numbers f k with k below n are struck off
@@ -65,19 +66,23 @@ module _ (seats : List ℕ) (q : ℕ) (queue : List ℕ) where
       struck true x = sym (or-true (eqb x 0))
       struck false x = sym (or-false (eqb x 0))
 
-  -- the head of a queue that passes, and its first task
-  pub head-passed : (c : ℕ) → queueTest seats q queue c ≡ true → 1 ≤ c → (getD queue 0 0 < 8) × (1 ≤ firstSeat seats q (getD queue 0 0))
-  unfolding queueTest slotTest
-  head-passed c e some =
-      let p = and-parts (allBelow c (slotTest seats q queue) && tailTest queue c) _ e in
-      let d = and-parts (allBelow c (slotTest seats q queue)) _ (p .0) in
-      let a = and-parts (ltb (getD queue 0 0) 8 && leb 1 (firstSeat seats q (getD queue 0 0))) _ (all-at c 0 (slotTest seats q queue) (d .0) some) in
-      let b = and-parts (ltb (getD queue 0 0) 8) _ (a .0) in
-      (ltb-true (getD queue 0 0) 8 (b .0), leb-true 1 _ (b .1))
+-- the head of a queue that passes, and its first task
+pub head-passed : (seats : List ℕ) (q : ℕ) (l : LineRow) → queueTest seats q (l .queue) (l .queued) ≡ true → 1 ≤ l .queued → Headed seats q l
+unfolding queueTest slotTest
+head-passed seats q l e some =
+    let slots : Bool = allBelow (l .queued) (slotTest seats q (l .queue)) in
+    let passed = and-parts slots _ (and-parts (slots && tailTest (l .queue) (l .queued)) _ e .0) .0 in
+    let first = and-parts (ltb (slot l 0) 8 && leb 1 (firstSeat seats q (slot l 0))) _ (all-at (l .queued) 0 (slotTest seats q (l .queue)) passed some) .0 in
+    let b = and-parts (ltb (slot l 0) 8) _ first in
+    record { placed = ltb-true (slot l 0) 8 (b .0); some = leb-true 1 _ (b .1) }
+
+pub head-low : {figures seats : List ℕ} {q : ℕ} {l : LineRow} → SeatSized figures seats → q < 16 → Headed seats q l
+    → firstSeat seats q (slot l 0) < 65
+head-low {figures} {seats} {q} {l} t b h = t .seats-low (seat q (slot l 0) 0) (omega (arith, h .placed))
 
 -- the row of a free resource
-pub free-line : (holds budgets seats : List ℕ) (q : ℕ) (l : Line) → l .queued ≡ 0 → freeTest seats q l ≡ lineTest holds budgets seats q l
+pub free-line : (figures seats : List ℕ) (q : ℕ) (l : LineRow) → l .queued ≡ 0 → freeTest seats q l ≡ lineTest figures seats q l
 unfolding freeTest lineTest queueTest coreTest clockTest allBelow anyBelow
-free-line holds budgets seats q l e =
+free-line figures seats q l e =
     rw (e, all-same 8 (λ k. eqb (firstSeat seats q k) 0 || false) (λ k. eqb (firstSeat seats q k) 0) (λ k b. or-false (eqb (firstSeat seats q k) 0)))
     (and-assoc (tailTest (l .queue) 0 && allBelow 8 (λ k. eqb (firstSeat seats q k) 0)) (eqb (l .«hold_left») 0) (eqb (l .«budget_left») 0))

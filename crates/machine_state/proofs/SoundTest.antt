@@ -17,17 +17,16 @@ use Rattle.plan_reading.specs.Plan.{Plan, Valid}
 use Rattle.analysis_equations.specs.Sharing.{processorOf}
 use Rattle.analysis_equations.specs.HoldTimes.{holdAt, budget}
 use Rattle.machine_rules.specs.Machine.{terms}
-use Rattle.analysis_hold_times.specs.Holds.{cell, Cells, Shares}
+use Rattle.analysis_hold_times.specs.Figures.{holdCell, Figures}
 use Rattle.queue_ranks.specs.Ranks.{taskAt}
 use Rattle.folds.proofs.Searches.{on-eq, on-le, find-is}
 use Rattle.queue_ranks.proofs.Ranked.{Ranked, task-rank, task-first, sole, ranks-few, full}
 use Rattle.machine_state.specs.declared.Standing.{Standing}
-use Rattle.machine_state.specs.declared.Line.{Line}
+use Rattle.machine_state.specs.declared.LineRow.{LineRow}
 use Rattle.machine_state.specs.declared.State.{State}
 use Rattle.machine_state.specs.Shows.{standing, noneInLine, lineAt, slot, rank}
 use Rattle.machine_state.specs.Sound.{serves, slotFits, coreFits, holderOf, clockFits, lineFits, sound}
-use Rattle.machine_state.specs.Seats.{seat, keyOf, Keys, seatedAt, Seats}
-use Rattle.machine_state.specs.Tests.{taskTest, firstSeat, tailTest, slotTest, coreTest, queueTest, clockTest, lineTest, stateTest}
+use Rattle.machine_state.specs.Inner.{seat, noSeat, keyOf, Keys, seatedAt, Seats, taskTest, firstSeat, tailTest, slotTest, coreTest, queueTest, clockTest, lineTest, stateTest}
 use Rattle.machine_state.proofs.Tables.{Stands, key-in, key-on}
 use Rattle.machine_state.proofs.Passing.{slot-high, head-passed}
 use Rattle.machine_state.proofs.Good.{Whole}
@@ -57,18 +56,18 @@ zero-not x =
     on-eq (eqb x 0 ≡ not (leb 1 x)) x 0 (λ e. rw e) (λ n. let a : 1 ≤ x = omega arith in rw (ne-eqb x 0 n, le-leb 1 x a))
 
 -- ── the row of a task, by its seat ──
-module _ (holds seats : List ℕ) (s : Standing) (key u : ℕ) where
-  row-idle : key ≡ 8192 → taskTest holds seats s key u ≡ (eqb (s .resource) 255 && eqb (s .place) 255)
+module _ (figures seats : List ℕ) (s : Standing) (key u : ℕ) where
+  row-idle : key ≡ noSeat → taskTest figures seats s key u ≡ (eqb (s .resource) 255 && eqb (s .place) 255)
   unfolding taskTest
-  row-idle e = rw (eq-eqb key 8192 e)
+  row-idle e = rw (eq-eqb key noSeat e)
 
-  module _ (n : key ≢ 8192) where
-    row-out : taskTest holds seats s key u ≡ true
-        → (1 ≤ getD holds (cell u (key / 512)) 0) × (getD seats key 0 ≡ u + 1) × (1 ≤ key % 64 → 1 ≤ getD seats (key - 1) 0)
+  module _ (n : key ≢ noSeat) where
+    row-out : taskTest figures seats s key u ≡ true
+        → (1 ≤ getD figures (holdCell u (key / 512)) 0) × (getD seats key 0 ≡ u + 1) × (1 ≤ key % 64 → 1 ≤ getD seats (key - 1) 0)
     unfolding taskTest
     row-out t =
-        let d = and-parts (leb 1 (getD holds (cell u (key / 512)) 0) && eqb (getD seats key 0) (u + 1)) _ (rw (ne-eqb key 8192 n) at t) in
-        let e = and-parts (leb 1 (getD holds (cell u (key / 512)) 0)) _ (d .0) in (
+        let d = and-parts (leb 1 (getD figures (holdCell u (key / 512)) 0) && eqb (getD seats key 0) (u + 1)) _ (rw (ne-eqb key noSeat n) at t) in
+        let e = and-parts (leb 1 (getD figures (holdCell u (key / 512)) 0)) _ (d .0) in (
           leb-true 1 _ (e .0),
           eqb-true _ (u + 1) (e .1),
           λ a. or-out (eqb (key % 64) 0) _ (1 ≤ getD seats (key - 1) 0) (d .1)
@@ -76,11 +75,11 @@ module _ (holds seats : List ℕ) (s : Standing) (key u : ℕ) where
               (λ y. leb-true 1 _ y),
         )
 
-    row-in : 1 ≤ getD holds (cell u (key / 512)) 0 → getD seats key 0 ≡ u + 1 → (1 ≤ key % 64 → 1 ≤ getD seats (key - 1) 0)
-        → taskTest holds seats s key u ≡ true
+    row-in : 1 ≤ getD figures (holdCell u (key / 512)) 0 → getD seats key 0 ≡ u + 1 → (1 ≤ key % 64 → 1 ≤ getD seats (key - 1) 0)
+        → taskTest figures seats s key u ≡ true
     unfolding taskTest
     row-in a b c =
-        rw (ne-eqb key 8192 n)
+        rw (ne-eqb key noSeat n)
         (both (both (le-leb 1 _ a) (eq-eqb _ (u + 1) b))
         (on-eq ((eqb (key % 64) 0 || leb 1 (getD seats (key - 1) 0)) ≡ true) (key % 64) 0
         (λ z. rw (eq-eqb (key % 64) 0 z))
@@ -109,24 +108,24 @@ module _ (p : Plan) (ts : List Standing) where
         let l = full r k 1 (omega arith) a in
         seat-is k 0 (taskAt (p .tasks) (rank p ts q k) 1) l (task-rank (p .tasks) 1 (rank p ts q k) l)
 
-module _ (p : Plan) (v : Valid p) (ts : List Standing) (holds budgets keys seats : List ℕ)
-    (hs : Cells (holdAt p) holds) (bs : Shares p budgets) (ks : Keys p ts keys) (ss : Seats p ts seats) where
+module _ (p : Plan) (v : Valid p) (ts : List Standing) (figures keys seats : List ℕ)
+    (fs : Figures p figures) (ks : Keys p ts keys) (ss : Seats p ts seats) where
   -- the row of task u passes
   abbrev passes : ℕ → Bool
-  passes u = taskTest holds seats (standing ts u) (getD keys u 0) u
+  passes u = taskTest figures seats (standing ts u) (getD keys u 0) u
 
   -- whose seat is in a queue: a task whose row names a resource and a place
-  queued : (u : ℕ) → u < 64 → getD keys u 0 ≢ 8192 → (u < p .tasks) × (standing ts u .resource < 16) × (standing ts u .place < 64)
+  queued : (u : ℕ) → u < 64 → getD keys u 0 ≢ noSeat → (u < p .tasks) × (standing ts u .resource < 16) × (standing ts u .place < 64)
   queued u l n =
       on-le ((u < p .tasks) × (standing ts u .resource < 16) × (standing ts u .place < 64)) (p .tasks) u
       (λ a. absurd (n (ks .rest u l a)))
       (λ a. let b = key-on (standing ts u) (processorOf p u) (λ e. n (ks .at u a ∙ e)) in (a, b .0, b .1))
 
   -- the seat of a row that is in line for nothing
-  idle-key : (u : ℕ) → u < 64 → standing ts u ≡ noneInLine → getD keys u 0 ≡ 8192
+  idle-key : (u : ℕ) → u < 64 → standing ts u ≡ noneInLine → getD keys u 0 ≡ noSeat
   unfolding keyOf
   idle-key u l e =
-      on-le (getD keys u 0 ≡ 8192) (p .tasks) u (λ a. ks .rest u l a) (λ a. ks .at u a ∙ ap (λ (s : Standing). keyOf s (processorOf p u)) e)
+      on-le (getD keys u 0 ≡ noSeat) (p .tasks) u (λ a. ks .rest u l a) (λ a. ks .at u a ∙ ap (λ (s : Standing). keyOf s (processorOf p u)) e)
 
   -- task u in line for q, which stands in place j of k's queue
   record Sits (q k j u : ℕ) : Type 0 where
@@ -144,13 +143,13 @@ module _ (p : Plan) (v : Valid p) (ts : List Standing) (holds budgets keys seats
       key-is : getD keys u 0 ≡ seat q k j
       key-is = ks .at u lu ∙ key-in (standing ts u) (processorOf p u) q k j b lj h
 
-      key-seated : getD keys u 0 ≢ 8192
+      key-seated : getD keys u 0 ≢ noSeat
       key-seated e = omega (arith, key-is, small)
 
-      hold-is : getD holds (cell u (getD keys u 0 / 512)) 0 ≡ holdAt p u q
+      hold-is : getD figures (holdCell u (getD keys u 0 / 512)) 0 ≡ holdAt p u q
       hold-is =
           let e : getD keys u 0 / 512 ≡ q = omega (arith, key-is, small) in
-          rw e (hs .at u q l b)
+          rw e (fs .hold u q l b)
 
       here-is : getD seats (getD keys u 0) 0 ≡ seatedAt p ts q k j
       here-is = ap (λ (x : ℕ). getD seats x 0) key-is ∙ ss .at q k j b small lj
@@ -165,12 +164,12 @@ module _ (p : Plan) (v : Valid p) (ts : List Standing) (holds budgets keys seats
 
     sits-of : passes u ≡ true → Sits q k j u
     sits-of t =
-        on-eq (Sits q k j u) (getD keys u 0) 8192
-        (λ e. let f = row-none (standing ts u) (sym (row-idle holds seats (standing ts u) (getD keys u 0) u e) ∙ t) in
+        on-eq (Sits q k j u) (getD keys u 0) noSeat
+        (λ e. let f = row-none (standing ts u) (sym (row-idle figures seats (standing ts u) (getD keys u 0) u e) ∙ t) in
         let bad : ⊥ = omega (arith, h .1, ap (λ (s : Standing). s .resource) f) in absurd bad)
         (λ n. let a = queued u l n in
         let lj : j < 64 = rw (h .2) at (a .2) in
-        let o = row-out holds seats (standing ts u) (getD keys u 0) u n t in
+        let o = row-out figures seats (standing ts u) (getD keys u 0) u n t in
         record {
           low = lj;
           hold = rw (hold-is (a .0) lj) at (o .0);
@@ -181,7 +180,7 @@ module _ (p : Plan) (v : Valid p) (ts : List Standing) (holds budgets keys seats
     sits-in : Sits q k j u → passes u ≡ true
     sits-in w =
         let lu = holder-low p v u q (w .hold) .0 in
-        row-in holds seats (standing ts u) (getD keys u 0) u (key-seated lu (w .low))
+        row-in figures seats (standing ts u) (getD keys u 0) u (key-seated lu (w .low))
         (rw (hold-is lu (w .low)) (w .hold))
         (here-is lu (w .low) ∙ w .here)
         (λ a. let x : 1 ≤ j = omega (arith, place-is lu (w .low)) in rw (before-is lu (w .low) x) (w .before x))
@@ -214,7 +213,7 @@ module _ (p : Plan) (v : Valid p) (ts : List Standing) (holds budgets keys seats
     }
 
   -- ── a line, where the ranks are sound ──
-  module _ (q : ℕ) (b : q < 16) (r : Ranked (p .tasks) (terms p q) (rank p ts q)) (l : Line) where
+  module _ (q : ℕ) (b : q < 16) (r : Ranked (p .tasks) (terms p q) (rank p ts q)) (l : LineRow) where
     -- the first seat of processor k is taken where it has a task in line
     first-at : (k : ℕ) → k < 8 → firstSeat seats q k ≡ seatedAt p ts q k 0
     first-at k lk = ss .at q k 0 b lk (omega arith)
@@ -285,24 +284,24 @@ module _ (p : Plan) (v : Valid p) (ts : List Standing) (holds budgets keys seats
 
     -- the hold time of the head's first task, by its seat
     head-is : slot l 0 < 8 → 1 ≤ firstSeat seats q (slot l 0)
-        → getD holds (cell (firstSeat seats q (slot l 0) - 1) q) 0 ≡ holdAt p (taskAt (p .tasks) (rank p ts q (slot l 0)) 1) q
+        → getD figures (holdCell (firstSeat seats q (slot l 0) - 1) q) 0 ≡ holdAt p (taskAt (p .tasks) (rank p ts q (slot l 0)) 1) q
     head-is lk some =
         let a = first-served (slot l 0) lk some in
         let f : firstSeat seats q (slot l 0) - 1 ≡ taskAt (p .tasks) (rank p ts q (slot l 0)) 1 =
         omega (arith, first-at (slot l 0) lk, seat-first p ts q r (slot l 0) a) in
-        rw f (hs .at (taskAt (p .tasks) (rank p ts q (slot l 0)) 1) q (omega (arith, v .tasks, full r (slot l 0) 1 (omega arith) a)) b)
+        rw f (fs .hold (taskAt (p .tasks) (rank p ts q (slot l 0)) 1) q (omega (arith, v .tasks, full r (slot l 0) 1 (omega arith) a)) b)
 
-    clock-same : queueTest seats q (l .queue) (l .queued) ≡ true → clockTest holds budgets seats q l ≡ clockFits p ts q l
+    clock-same : queueTest seats q (l .queue) (l .queued) ≡ true → clockTest figures seats q l ≡ clockFits p ts q l
     unfolding clockTest clockFits
     clock-same t =
-        on-eq (clockTest holds budgets seats q l ≡ clockFits p ts q l) (l .queued) 0
+        on-eq (clockTest figures seats q l ≡ clockFits p ts q l) (l .queued) 0
         (λ z. rw (eq-eqb (l .queued) 0 z))
-        (λ z. let h = head-passed seats q (l .queue) (l .queued) t (omega arith) in
-        rw (ne-eqb (l .queued) 0 z, head-is (h .0) (h .1), bs .at (slot l 0) q (h .0) b)
+        (λ z. let h = head-passed seats q l t (omega arith) in
+        rw (ne-eqb (l .queued) 0 z, head-is (h .placed) (h .some), fs .budget (slot l 0) q (h .placed) b)
         (and-assoc (leb 1 (l .«hold_left») && leb (l .«hold_left») (holdAt p (holderOf p ts q l) q)) (leb (l .«hold_left») (l .«budget_left»))
         (leb (l .«budget_left») (budget p (slot l 0) q))))
 
-    line-same : lineTest holds budgets seats q l ≡ lineFits p ts q l
+    line-same : lineTest figures seats q l ≡ lineFits p ts q l
     unfolding lineTest lineFits queueTest
     line-same = same-test _ _ there back
       where
@@ -321,14 +320,14 @@ module _ (p : Plan) (v : Valid p) (ts : List Standing) (holds budgets keys seats
         queue-is : few ≡ true → queue ≡ (slots && cores)
         queue-is t = ap₂ _&&_ (slots-same (leb-true (l .queued) 8 t)) cores-same
 
-        there : (few && queue && clockTest holds budgets seats q l) ≡ true → (few && slots && (cores && clockFits p ts q l)) ≡ true
+        there : (few && queue && clockTest figures seats q l) ≡ true → (few && slots && (cores && clockFits p ts q l)) ≡ true
         there t =
-            let a = and-parts (few && queue) (clockTest holds budgets seats q l) t in
+            let a = and-parts (few && queue) (clockTest figures seats q l) t in
             let d = and-parts few queue (a .0) in
             let e = and-parts slots cores (sym (queue-is (d .0)) ∙ d .1) in
             both (both (d .0) (e .0)) (both (e .1) (sym (clock-same (d .1)) ∙ a .1))
 
-        back : (few && slots && (cores && clockFits p ts q l)) ≡ true → (few && queue && clockTest holds budgets seats q l) ≡ true
+        back : (few && slots && (cores && clockFits p ts q l)) ≡ true → (few && queue && clockTest figures seats q l) ≡ true
         back t =
             let a = and-parts (few && slots) (cores && clockFits p ts q l) t in
             let d = and-parts few slots (a .0) in
@@ -364,17 +363,17 @@ module _ (p : Plan) (v : Valid p) (ts : List Standing) (holds budgets keys seats
       j = standing ts u .place
 
 -- the whole state
-pub sound-test : (p : Plan) → Valid p → (s : State) (holds budgets keys seats : List ℕ) → Cells (holdAt p) holds → Shares p budgets
-    → Keys p (s .tasks) keys → Seats p (s .tasks) seats → stateTest holds budgets keys seats s ≡ sound p s
+pub sound-test : (p : Plan) → Valid p → (s : State) (figures keys seats : List ℕ) → Figures p figures
+    → Keys p (s .tasks) keys → Seats p (s .tasks) seats → stateTest figures keys seats s ≡ sound p s
 unfolding stateTest
-sound-test p v s holds budgets keys seats hs bs ks ss =
-    same-test (stateTest holds budgets keys seats s) (sound p s) (λ t. sound-of p v s (to t)) (λ t. from (whole-of p v s t))
+sound-test p v s figures keys seats fs ks ss =
+    same-test (stateTest figures keys seats s) (sound p s) (λ t. sound-of p v s (to t)) (λ t. from (whole-of p v s t))
   where
     pass : ℕ → Bool
-    pass u = taskTest holds seats (standing (s .tasks) u) (getD keys u 0) u
+    pass u = taskTest figures seats (standing (s .tasks) u) (getD keys u 0) u
 
     line : ℕ → Bool
-    line q = lineTest holds budgets seats q (lineAt s q)
+    line q = lineTest figures seats q (lineAt s q)
 
     to : (allBelow 64 pass && allBelow 16 line) ≡ true → Whole p s
     to t =
@@ -382,29 +381,29 @@ sound-test p v s holds budgets keys seats hs bs ks ss =
         let rows : (u : ℕ) → u < 64 → pass u ≡ true = λ u l. all-at 64 u pass (a .0) l in
         record {
           rows = λ u l. row u l (rows u l);
-          lines = λ q l. let r = ranked p v (s .tasks) holds budgets keys seats hs bs ks ss rows q l in
+          lines = λ q l. let r = ranked p v (s .tasks) figures keys seats fs ks ss rows q l in
               good-of p v (s .tasks) q (lineAt s q) r
-              (sym (line-same p v (s .tasks) holds budgets keys seats hs bs ks ss q l r (lineAt s q)) ∙ all-at 16 q line (a .1) l);
+              (sym (line-same p v (s .tasks) figures keys seats fs ks ss q l r (lineAt s q)) ∙ all-at 16 q line (a .1) l);
         }
       where
         row : (u : ℕ) → u < 64 → pass u ≡ true → (standing (s .tasks) u ≡ noneInLine) ⊎ (1 ≤ holdAt p u (standing (s .tasks) u .resource))
         row u l t =
-            on-eq ((standing (s .tasks) u ≡ noneInLine) ⊎ (1 ≤ holdAt p u (standing (s .tasks) u .resource))) (getD keys u 0) 8192
-            (λ e. inl (row-none (standing (s .tasks) u) (sym (row-idle holds seats (standing (s .tasks) u) (getD keys u 0) u e) ∙ t)))
-            (λ n. let a = queued p v (s .tasks) holds budgets keys seats hs bs ks ss u l n in
-            inr (sits-of p v (s .tasks) holds budgets keys seats hs bs ks ss (standing (s .tasks) u .resource) (processorOf p u)
+            on-eq ((standing (s .tasks) u ≡ noneInLine) ⊎ (1 ≤ holdAt p u (standing (s .tasks) u .resource))) (getD keys u 0) noSeat
+            (λ e. inl (row-none (standing (s .tasks) u) (sym (row-idle figures seats (standing (s .tasks) u) (getD keys u 0) u e) ∙ t)))
+            (λ n. let a = queued p v (s .tasks) figures keys seats fs ks ss u l n in
+            inr (sits-of p v (s .tasks) figures keys seats fs ks ss (standing (s .tasks) u .resource) (processorOf p u)
             (standing (s .tasks) u .place) u l (a .1) (refl, refl, refl) t .hold))
 
     from : Whole p s → (allBelow 64 pass && allBelow 16 line) ≡ true
     from w =
         both (all-from 64 pass (λ u l. row u l (w .rows u l)))
-        (all-from 16 line (λ q l. line-same p v (s .tasks) holds budgets keys seats hs bs ks ss q l (w .lines q l .ranked) (lineAt s q)
+        (all-from 16 line (λ q l. line-same p v (s .tasks) figures keys seats fs ks ss q l (w .lines q l .ranked) (lineAt s q)
         ∙ of-good p v (s .tasks) q (lineAt s q) (w .lines q l)))
       where
         row : (u : ℕ) → u < 64 → (standing (s .tasks) u ≡ noneInLine) ⊎ (1 ≤ holdAt p u (standing (s .tasks) u .resource)) → pass u ≡ true
         row u l (inl e) =
-            row-idle holds seats (standing (s .tasks) u) (getD keys u 0) u (idle-key p v (s .tasks) holds budgets keys seats hs bs ks ss u l e)
+            row-idle figures seats (standing (s .tasks) u) (getD keys u 0) u (idle-key p v (s .tasks) figures keys seats fs ks ss u l e)
             ∙ ap (λ (t : Standing). eqb (t .resource) 255 && eqb (t .place) 255) e
         row u l (inr h) =
             let b = holder-low p v u (standing (s .tasks) u .resource) h .1 in
-            row-of p v (s .tasks) holds budgets keys seats hs bs ks ss u l b h (w .lines (standing (s .tasks) u .resource) b .ranked)
+            row-of p v (s .tasks) figures keys seats fs ks ss u l b h (w .lines (standing (s .tasks) u .resource) b .ranked)

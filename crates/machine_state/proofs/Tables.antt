@@ -16,20 +16,22 @@ use Rattle.folds.proofs.Tests.{and-parts, is-not-false, same-test}
 use Rattle.folds.proofs.Figures.{max-same}
 use Rattle.folds.proofs.Ranges.{max-where-bound}
 use Rattle.folds.proofs.Arrays.{by-eq, placed-length, placed-later, placed-at, placed-step, stampedBelow, stamped-length}
+use Rattle.folds.proofs.Searches.{on-le}
 use Rattle.plan_reading.specs.Plan.{Plan, Valid}
 use Rattle.analysis_equations.specs.Sharing.{processorOf}
+use Rattle.analysis_hold_times.specs.Figures.{Figures}
 use Rattle.machine_state.specs.declared.Standing.{Standing}
 use Rattle.machine_state.specs.Shows.{standing, rank}
-use Rattle.machine_state.specs.Seats.{seat, keyOf, Keys, Seats}
+use Rattle.machine_state.specs.Inner.{seat, noSeat, seatCount, keyOf, Keys, Seats, Sized}
 
 module _ (p : Plan) where
   -- the seats of the tasks below n
   abbrev pub keysBelow : List Standing → ℕ → List ℕ
-  keysBelow ts n = placedBelow n (λ u. keyOf (standing ts u) (processorOf p u)) (replicate 64 8192)
+  keysBelow ts n = placedBelow n (λ u. keyOf (standing ts u) (processorOf p u)) (replicate 64 noSeat)
 
 -- who of the tasks below n sits where
 abbrev pub seatsBelow : List ℕ → ℕ → List ℕ
-seatsBelow keys n = stampedBelow n (λ u. getD keys u 0) (λ u. u + 1) (replicate 8193 0)
+seatsBelow keys n = stampedBelow n (λ u. getD keys u 0) (λ u. u + 1) (replicate seatCount 0)
 
 module _ (p : Plan) (v : Valid p) where
   pub low-processor : (u : ℕ) → u < p .tasks → processorOf p u < 8
@@ -40,9 +42,9 @@ module _ (p : Plan) (v : Valid p) where
   keys-done ts n e f =
       rw (f, e)
       (record {
-        long = placed-length (p .tasks) key (replicate 64 8192) ∙ length-replicate {A = ℕ} 64 8192;
-        at = λ u l. placed-at (p .tasks) u key (replicate 64 8192) 0 l (rw length-replicate (v .tasks));
-        rest = λ u l m. placed-later (p .tasks) u key (replicate 64 8192) 0 m ∙ getD-replicate {A = ℕ} 64 u 8192 0 l;
+        long = placed-length (p .tasks) key (replicate 64 noSeat) ∙ length-replicate {A = ℕ} 64 noSeat;
+        at = λ u l. placed-at (p .tasks) u key (replicate 64 noSeat) 0 l (rw length-replicate (v .tasks));
+        rest = λ u l m. placed-later (p .tasks) u key (replicate 64 noSeat) 0 m ∙ getD-replicate {A = ℕ} 64 u noSeat 0 l;
       })
     where
       key : ℕ → ℕ
@@ -63,11 +65,11 @@ module _ (s : Standing) where
   unfolding keyOf
   key-at m t = rw t
 
-  pub key-off : (m : ℕ) → inLine ≡ false → keyOf s m ≡ 8192
+  pub key-off : (m : ℕ) → inLine ≡ false → keyOf s m ≡ noSeat
   unfolding keyOf
   key-off m t = rw t
 
-  pub key-on : (m : ℕ) → keyOf s m ≢ 8192 → (s .resource < 16) × (s .place < 64)
+  pub key-on : (m : ℕ) → keyOf s m ≢ noSeat → (s .resource < 16) × (s .place < 64)
   key-on m n = row-low (is-not-false inLine (λ t. n (key-off m t)))
 
 -- a turn that puts nothing down, where it would put down what stands there
@@ -94,7 +96,7 @@ key-out : (s : Standing) (m q k j : ℕ) → m < 8 → k < 8 → q < 16 → j < 
 unfolding keyOf
 key-out s m q k j lm lk lq lj h = go (ltb (s .resource) 16) (ltb (s .place) 64) refl h
   where
-    go : (a b : Bool) → ltb (s .place) 64 ≡ b → cond (a && b) (seat (s .resource) m (s .place)) 8192 ≡ seat q k j → Stands s m q k j
+    go : (a b : Bool) → ltb (s .place) 64 ≡ b → cond (a && b) (seat (s .resource) m (s .place)) noSeat ≡ seat q k j → Stands s m q k j
     go true true t e = let l = ltb-true (s .place) 64 t in (omega arith, omega arith, omega arith)
     go true false t e = let bad : ⊥ = omega arith in absurd bad
     go false b t e = let bad : ⊥ = omega arith in absurd bad
@@ -119,11 +121,11 @@ module _ (p : Plan) (ts : List Standing) where
       (λ t. eq-eqb _ _ (rank-in q k j u (key-out (standing ts u) (processorOf p u) q k j lm lk lq lj (eqb-true _ _ t))))
       (λ t. eq-eqb _ _ (key-in (standing ts u) (processorOf p u) q k j lq lj (rank-out q k j u (eqb-true _ _ t))))
 
-key-high : (s : Standing) (m : ℕ) → m < 8 → keyOf s m < 8193
+key-high : (s : Standing) (m : ℕ) → m < 8 → keyOf s m < seatCount
 unfolding keyOf
 key-high s m l = go (ltb (s .resource) 16) (ltb (s .place) 64) refl refl
   where
-    go : (a b : Bool) → ltb (s .resource) 16 ≡ a → ltb (s .place) 64 ≡ b → cond (a && b) (seat (s .resource) m (s .place)) 8192 < 8193
+    go : (a b : Bool) → ltb (s .resource) 16 ≡ a → ltb (s .place) 64 ≡ b → cond (a && b) (seat (s .resource) m (s .place)) noSeat < seatCount
     go true true x y = omega (arith, ltb-true (s .resource) 16 x, ltb-true (s .place) 64 y)
     go true false x y = omega arith
     go false b x y = omega arith
@@ -146,17 +148,31 @@ stamped-last (suc n) m f x l =
     later s h = omega arith
 
 module _ (p : Plan) (v : Valid p) (ts : List Standing) (keys : List ℕ) (h : Keys p ts keys) where
-  pub seat-high : (u : ℕ) → u < p .tasks → getD keys u 0 < 8193
+  pub seat-high : (u : ℕ) → u < p .tasks → getD keys u 0 < seatCount
   seat-high u l = rw (h .at u l) (key-high (standing ts u) (processorOf p u) (low-processor p v u l))
+
+  -- and that of any row, task or not
+  pub keys-low : (u : ℕ) → u < 64 → getD keys u 0 < seatCount
+  keys-low u l =
+      on-le (getD keys u 0 < seatCount) (p .tasks) u (λ m. omega (arith, h .rest u l m)) (λ m. seat-high u m)
+
+  -- so the tables have their sizes
+  pub sized-by : {figures seats : List ℕ} → Figures p figures → Seats p ts seats → Sized figures keys seats
+  sized-by f t =
+      record {
+        tables = record { figures-long = f .long; seats-long = t .long; seats-low = t .low };
+        keys-long = h .long;
+        keys-low = keys-low;
+      }
 
   -- the end of the loop that seats the tasks
   pub seats-done : (n : ℕ) {t : List ℕ} → n ≡ p .tasks → t ≡ seatsBelow keys n → Seats p ts t
   seats-done n e f =
       rw (f, e)
       (record {
-        long = stamped-length (p .tasks) key (λ u. u + 1) (replicate 8193 0) ∙ length-replicate {A = ℕ} 8193 0;
-        at = λ q k j lq lk lj. stamped-last (p .tasks) 8193 key (seat q k j) (omega arith) ∙ max-same (p .tasks) _ _ (one q k j lq lk lj);
-        low = λ x l. omega (arith, v .tasks, stamped-last (p .tasks) 8193 key x l, last x);
+        long = stamped-length (p .tasks) key (λ u. u + 1) (replicate seatCount 0) ∙ length-replicate {A = ℕ} seatCount 0;
+        at = λ q k j lq lk lj. stamped-last (p .tasks) seatCount key (seat q k j) (omega arith) ∙ max-same (p .tasks) _ _ (one q k j lq lk lj);
+        low = λ x l. omega (arith, v .tasks, stamped-last (p .tasks) seatCount key x l, last x);
       })
     where
       key : ℕ → ℕ

@@ -22,7 +22,7 @@ use Rattle.queue_ranks.proofs.Lists.{list-length, list-get}
 use Rattle.queue_ranks.proofs.Ranked.{task-rank, full, sole}
 use Rattle.queue_ranks.proofs.Reading.{tasks-in, in-line, out-line}
 use Rattle.machine_state.specs.declared.Standing.{Standing}
-use Rattle.machine_state.specs.declared.Line.{Line}
+use Rattle.machine_state.specs.declared.LineRow.{LineRow}
 use Rattle.machine_state.specs.declared.State.{State}
 use Rattle.machine_state.specs.Shows.{noStanding, noLine, noneInLine, standing, lineAt, slot, rank, shows}
 use Rattle.machine_state.specs.Sound.{sound}
@@ -31,7 +31,7 @@ use Rattle.machine_state.proofs.Good.{Good, Whole}
 use Rattle.machine_state.proofs.Wholes.{row-same, rank-own, holder-low, hold-resource, whole-of}
 
 -- two rows of a resource that agree in what the struct has room for
-pub record SameRow (a b : Line) : Type 0 where
+pub record SameRow (a b : LineRow) : Type 0 where
   pub queued : a .queued ≡ b .queued
   pub slots : (j : ℕ) → j < 8 → slot a j ≡ slot b j
   pub hold : a .«hold_left» ≡ b .«hold_left»
@@ -73,7 +73,7 @@ module _ (p : Plan) (v : Valid p) (s : State) (w : Whole p s) where
     budget = refl;
   }
     where
-      row : Line
+      row : LineRow
       row = lineAt s q
 
       ranks : ℕ → ℕ → ℕ

@@ -20,7 +20,7 @@ use Rattle.queue_ranks.specs.Ranks.{taskAt}
 use Rattle.folds.proofs.Searches.{on-eq, on-le, find-is}
 use Rattle.queue_ranks.proofs.Ranked.{At, Ranked, task-rank, task-first, max-there, sole}
 use Rattle.machine_state.specs.declared.Standing.{Standing}
-use Rattle.machine_state.specs.declared.Line.{Line}
+use Rattle.machine_state.specs.declared.LineRow.{LineRow}
 use Rattle.machine_state.specs.declared.State.{State}
 use Rattle.machine_state.specs.Shows.{standing, noneInLine, lineAt, slot, rank}
 use Rattle.machine_state.specs.Sound.{idle, beside, alone, backed, taskFits, serves, slotFits, coreFits, holderOf, clockFits, lineFits, sound}
@@ -165,7 +165,7 @@ module _ (p : Plan) (v : Valid p) where
               (λ w m i. omega (arith, task-first (p .tasks) (standing ts u .place) w (beside p ts u) m (eqb-true _ _ i)))))
 
     -- a line, where the ranks are sound
-    pub good-of : (q : ℕ) (l : Line) → Ranked (p .tasks) (terms p q) (rank p ts q) → lineFits p ts q l ≡ true → Good p ts q l
+    pub good-of : (q : ℕ) (l : LineRow) → Ranked (p .tasks) (terms p q) (rank p ts q) → lineFits p ts q l ≡ true → Good p ts q l
     unfolding lineFits slotFits coreFits clockFits
     good-of q l r h =
         let c = and-parts (leb (l .queued) 8 && allBelow 8 (slotFits p ts q l)) _ h in
@@ -220,7 +220,7 @@ module _ (p : Plan) (v : Valid p) where
                 (λ i x e. record { index = i; within = x; is = eqb-true _ _ e })
 
     -- ── to the test ──
-    pub of-good : (q : ℕ) (l : Line) → Good p ts q l → lineFits p ts q l ≡ true
+    pub of-good : (q : ℕ) (l : LineRow) → Good p ts q l → lineFits p ts q l ≡ true
     unfolding lineFits slotFits coreFits clockFits
     of-good q l w =
         both (both (le-leb _ _ (w .small)) (all-from 8 (slotFits p ts q l) slots)) (both (all-from (p .processors) (coreFits p ts q l) cores) clock)

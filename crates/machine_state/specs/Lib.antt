@@ -1,5 +1,4 @@
 pub mod Shows
 pub mod Sound
 pub mod Rows
-pub mod Seats
-pub mod Tests
+pub mod Inner

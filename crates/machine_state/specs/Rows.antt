@@ -12,7 +12,7 @@ use Rattle.queue_rules.specs.Rules.{Turn, turn, inLine, aheadIn}
 use Rattle.machine_rules.specs.Machine.{View, terms}
 use Rattle.queue_ranks.specs.Ranks.{listFrom}
 use Rattle.machine_state.specs.declared.Standing.{Standing}
-use Rattle.machine_state.specs.declared.Line.{Line}
+use Rattle.machine_state.specs.declared.LineRow.{LineRow}
 use Rattle.machine_state.specs.declared.State.{State}
 use Rattle.machine_state.specs.Shows.{noneInLine}
 
@@ -23,7 +23,7 @@ slotOf (turn k u us ∷ rest) zero = k
 slotOf (turn k u us ∷ rest) (suc j) = slotOf rest j
 
 -- the row of a resource with this line: how many processors are queued, which, and the "hold left" and "budget left"
-abbrev pub lineOf : Rules.Line → Line
+abbrev pub lineOf : Rules.Line → LineRow
 lineOf (Rules.line h b queue) =
     record { queued = length queue; queue = listFrom 8 0 (slotOf queue); «hold_left» = h; «budget_left» = b }
 

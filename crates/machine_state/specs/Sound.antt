@@ -13,7 +13,7 @@ use Rattle.analysis_equations.specs.Sharing.{processorOf, uses, global}
 use Rattle.analysis_equations.specs.HoldTimes.{holdAt, budget}
 use Rattle.queue_ranks.specs.Ranks.{taskAt}
 use Rattle.machine_state.specs.declared.Standing.{Standing}
-use Rattle.machine_state.specs.declared.Line.{Line}
+use Rattle.machine_state.specs.declared.LineRow.{LineRow}
 use Rattle.machine_state.specs.declared.State.{State}
 use Rattle.machine_state.specs.Shows.{standing, lineAt, slot, rank}
 
@@ -43,27 +43,27 @@ module _ (p : Plan) (ts : List Standing) where
   serves q k = anyBelow (p .tasks) (λ u. leb 1 (rank p ts q k u))
 
   -- slot i of the queue of q: below the count a processor "with a task in line", "just once"; from there on the filling
-  unfoldable pub slotFits : ℕ → Line → ℕ → Bool
+  unfoldable pub slotFits : ℕ → LineRow → ℕ → Bool
   slotFits q l i =
       cond (ltb i (l .queued)) (serves q (slot l i) && allBelow i (λ j. not (eqb (slot l j) (slot l i)))) (eqb (slot l i) 255)
 
   -- "each processor with a task in line" is queued
-  unfoldable pub coreFits : ℕ → Line → ℕ → Bool
+  unfoldable pub coreFits : ℕ → LineRow → ℕ → Bool
   coreFits q l k = not (serves q k) || anyBelow (l .queued) (λ i. eqb (slot l i) k)
 
   -- the head's first task
-  abbrev pub holderOf : ℕ → Line → ℕ
+  abbrev pub holderOf : ℕ → LineRow → ℕ
   holderOf q l = taskAt (p .tasks) (rank p ts q (slot l 0)) 1
 
   -- "the head's first task holds, and 1 ≤ hold left ≤ its hold time, hold left ≤ budget left ≤ the budget"
-  unfoldable pub clockFits : ℕ → Line → Bool
+  unfoldable pub clockFits : ℕ → LineRow → Bool
   clockFits q l =
       cond (eqb (l .queued) 0) (eqb (l .«hold_left») 0 && eqb (l .«budget_left») 0)
       (leb 1 (l .«hold_left») && leb (l .«hold_left») (holdAt p (holderOf q l) q)
       && (leb (l .«hold_left») (l .«budget_left») && leb (l .«budget_left») (budget p (slot l 0) q)))
 
   -- the row of resource q
-  unfoldable pub lineFits : ℕ → Line → Bool
+  unfoldable pub lineFits : ℕ → LineRow → Bool
   lineFits q l = leb (l .queued) 8 && allBelow 8 (slotFits q l) && (allBelow (p .processors) (coreFits q l) && clockFits q l)
 
 -- the state is sound

@@ -1,15 +1,22 @@
 // The state of the machine by value, the test whether it is sound, and the tables by which a call looks it up. The functions here
 // are for the crates above: each says in its `requires` what it relies on.
 ghost use mathlib.Core.Path.{_≡_};
-ghost use Prim.Native.Nat.{ℕ, _+_, _*_, _≤_, _<_};
+ghost use mathlib.Core.Bool.{_&&_, not};
+ghost use Prim.Native.Nat.{ℕ, _*_, _≤_, _<_};
 ghost use lib.ListN.{length, getD, replicate};
 ghost use lib.Dec.{eqb};
 ghost use Rattle.folds.specs.Below.{allBelow};
 ghost use Rattle.folds.specs.Bytes.{number, placedBelow};
 ghost use Rattle.plan_reading.specs.Plan.{planOf, Checked};
-ghost use Rattle.machine_state.specs.Shows.{freshState, noLine, standing, slot};
-ghost use Rattle.machine_state.specs.Seats.{seat, Keys, Seats};
-ghost use Rattle.machine_state.specs.Tests.{taskTest, firstSeat, tailTest, queueTest, clockTest, freeTest, lineTest, stateTest};
+ghost use Rattle.analysis_hold_times.specs.Figures.{Known};
+ghost use Rattle.machine_state.specs.Shows.{freshState, noLine, standing, noneInLine, inLineAt, movedUp};
+ghost use Rattle.machine_state.specs.Inner.{seat, seatCount, Keys, Seats, taskTest, firstSeat, tailTest, queueTest, clockTest, freeTest, lineTest, stateTest};
+ghost use Rattle.machine_state.specs.Inner.{tasksTest, linesTest, InQueue, Unseated, SeatSized, Sized, TaskSeat, QueueRow, HeadRow, SeatedState};
+
+// The seats of all queues of tasks, and one for those who are in none.
+pub const SEATS: usize = sizes::RESOURCES * sizes::PROCESSORS * sizes::TASKS + 1;
+
+const NO_SEAT: u16 = 8192;
 
 // A task: the resource it is in line for, and its place in its processor's queue for it, from 0; 255 and 255 for none.
 pub struct Standing {
@@ -19,55 +26,100 @@ pub struct Standing {
 
 // A resource: the number of processors queued, and they in order, then 255; the ticks left of the hold and of the head's budget,
 // 0 where it is free.
-pub struct Line {
+pub struct LineRow {
     pub queued: u8,
-    pub queue: [u8; 8],
+    pub queue: [u8; sizes::PROCESSORS],
     pub hold_left: u16,
     pub budget_left: u16,
 }
 
 pub struct State {
-    pub lines: [Line; 16],
-    pub tasks: [Standing; 64],
+    pub lines: [LineRow; sizes::RESOURCES],
+    pub tasks: [Standing; sizes::TASKS],
+}
+
+// The seats of the tasks of a state, and whether it is sound.
+pub struct Seated {
+    pub keys: [u16; sizes::TASKS],
+    pub sound: bool,
+}
+
+// The row of a task that is in line for nothing.
+pub fn idle() -> Standing
+    ensures { λ r. ⌜ r ≡ noneInLine ⌝ }
+{
+    Standing {
+        resource: sizes::ABSENT,
+        place: sizes::ABSENT,
+    }
+}
+
+// That of one in this place of its processor's queue for a resource.
+pub fn in_line(resource: u8, place: u8) -> Standing
+    ensures { λ r. ⌜ r ≡ inLineAt resource place ⌝ }
+{
+    Standing { resource, place }
+}
+
+// The row once the first of its queue left, who was another.
+pub fn moved_up(s: Standing) -> Standing
+    requires { ⌜ 1 ≤ s .place ⌝ }
+    ensures { λ r. ⌜ r ≡ movedUp s ⌝ }
+{
+    Standing {
+        resource: s.resource,
+        place: s.place - 1,
+    }
+}
+
+// Whether a row has the filling of one that is in line for nothing.
+fn is_idle(s: Standing) -> bool
+    ensures { λ r. ⌜ r ≡ (eqb (s .resource) 255 && eqb (s .place) 255) ⌝ }
+{
+    (s.resource == sizes::ABSENT) & (s.place == sizes::ABSENT)
+}
+
+// Whether a task of a sound state is in line for something.
+pub fn is_in_line(s: Standing) -> bool
+    ensures { λ r. ⌜ r ≡ not (eqb (s .resource) 255) ⌝ }
+{
+    s.resource != sizes::ABSENT
 }
 
 // Nobody in line.
 pub fn fresh() -> State
     ensures { λ r. ⌜ r ≡ freshState ⌝ }
 {
-    let line = Line {
+    let line = LineRow {
         queued: 0,
-        queue: [255u8; 8],
+        queue: [sizes::ABSENT; sizes::PROCESSORS],
         hold_left: 0,
         budget_left: 0,
     };
-    let standing = Standing {
-        resource: 255,
-        place: 255,
-    };
+    let standing = idle();
     State {
-        lines: [line; 16],
-        tasks: [standing; 64],
+        lines: [line; sizes::RESOURCES],
+        tasks: [standing; sizes::TASKS],
     }
 }
 
 // The seat of a task of a processor in the queue that its row names.
 fn seat_of(s: Standing, processor: u8) -> u16
-    requires { ⌜ (processor < 8) × (s .resource < 16) × (s .place < 64) ⌝ }
+    requires { ⌜ InQueue s processor ⌝ }
     ensures { λ r. ⌜ r ≡ seat (s .resource) processor (s .place) ⌝ }
 {
     let queue = folds::half(s.resource) * 8 + folds::half(processor);
     queue * 64 + folds::half(s.place)
 }
 
-// The seats of the tasks; 8,192 stays for those in no queue.
-pub fn key_table(file: &[u8], tasks: [Standing; 64]) -> [u16; 64]
+// The seats of the tasks; those in no queue have none.
+fn key_table(file: &[u8], tasks: [Standing; 64]) -> [u16; 64]
     requires { ⌜ Checked (now file) ⌝ }
     ensures { λ r. ⌜ Keys (planOf (now (file .entry))) tasks r ⌝ }
 {
     let counts = plan_reading::checked::counts(file);
     let n = folds::wide(counts.tasks);
-    let mut keys = [8192u16; 64];
+    let mut keys = [NO_SEAT; 64];
     let mut u = 0;
     while u < n {
         let row = plan_reading::checked::task(file, u);
@@ -81,8 +133,8 @@ pub fn key_table(file: &[u8], tasks: [Standing; 64]) -> [u16; 64]
 }
 
 // Puts down who sits where, each as its number plus 1, where nobody sat.
-pub fn fill_seats(file: &[u8], tasks: [Standing; 64], keys: &[u16], seats: &mut [u8])
-    requires { ⌜ (Checked (now file)) × (Keys (planOf (now file)) tasks (now keys)) × (now seats ≡ replicate 8193 0) ⌝ }
+fn fill_seats(file: &[u8], tasks: [Standing; 64], keys: &[u16], seats: &mut [u8])
+    requires { ⌜ Unseated (now file) tasks (now keys) (now seats) ⌝ }
     ensures { λ u. ⌜ Seats (planOf (now (file .entry))) tasks (now (seats .exit)) ⌝ }
 {
     let counts = plan_reading::checked::counts(file);
@@ -95,36 +147,36 @@ pub fn fill_seats(file: &[u8], tasks: [Standing; 64], keys: &[u16], seats: &mut 
     }
 }
 
-// Whether the row of task u, whose seat is `key`, is as it must be. `base` is 8,192 for each task before u, so that one division
-// finds its hold time.
-fn task_ok(holds: &[u16], seats: &[u8], s: Standing, key: u16, u: usize, base: usize) -> bool
-    requires { ⌜ (length (now holds) ≡ 1024) × (length (now seats) ≡ 8193) × (u < 64) × (key < 8193) × (base ≡ u * 8192) ⌝ }
-    ensures { λ r. ⌜ r ≡ taskTest (now (holds .entry)) (now (seats .entry)) s key u ⌝ }
+// Whether the row of task u, whose seat is `key`, is as it must be. `base` has all seats of queues for each task before u, so that one
+// division finds its hold time.
+fn task_ok(figures: &[u16], seats: &[u8], s: Standing, key: u16, u: usize, base: usize) -> bool
+    requires { ⌜ TaskSeat (now figures) (now seats) key u base ⌝ }
+    ensures { λ r. ⌜ r ≡ taskTest (now (figures .entry)) (now (seats .entry)) s key u ⌝ }
 {
-    if key == 8192 {
-        return (s.resource == 255) & (s.place == 255);
+    if key == NO_SEAT {
+        return is_idle(s);
     }
     let at = key as usize;
-    let hold = holds[(base + at) / 512];
+    let hold = figures[(base + at) / 512];
     let own = seats[at];
     let back = (0 < at % 64) as usize;
     (1 <= hold) & (folds::wide(own) == u + 1) & (1 <= seats[at - back])
 }
 
 // Whether all are.
-fn tasks_ok(tasks: [Standing; 64], holds: &[u16], keys: &[u16], seats: &[u8]) -> bool
-    requires { ⌜ (length (now holds) ≡ 1024) × (length (now keys) ≡ 64) × (length (now seats) ≡ 8193) × ((u : ℕ) → u < 64 → getD (now keys) u 0 < 8193) ⌝ }
-    ensures { λ r. ⌜ r ≡ allBelow 64 (λ u. taskTest (now (holds .entry)) (now (seats .entry)) (standing tasks u) (getD (now (keys .entry)) u 0) u) ⌝ }
+fn tasks_ok(tasks: [Standing; 64], figures: &[u16], keys: &[u16], seats: &[u8]) -> bool
+    requires { ⌜ Sized (now figures) (now keys) (now seats) ⌝ }
+    ensures { λ r. ⌜ r ≡ tasksTest (now (figures .entry)) (now (keys .entry)) (now (seats .entry)) tasks ⌝ }
 {
     let mut ok = true;
     let mut u = 0;
     let mut base = 0;
     while u < 64 {
         let s = tasks[u];
-        let fits = task_ok(holds, seats, s, keys[u], u, base);
+        let fits = task_ok(figures, seats, s, keys[u], u, base);
         ok = ok & fits;
         u += 1;
-        base += 8192;
+        base += SEATS - 1;
     }
     ok
 }
@@ -142,7 +194,7 @@ fn eight(b: [u8; 8]) -> u64
 
 // Who has the first seat of each processor's queue for q.
 fn first_seats(seats: &[u8], q: usize, first: &mut [u8; 8])
-    requires { ⌜ (length (now seats) ≡ 8193) × (q < 16) ⌝ }
+    requires { ⌜ (length (now seats) ≡ seatCount) × (q < 16) ⌝ }
     ensures { λ u. ⌜ now (first .exit) ≡ placedBelow 8 (firstSeat (now (seats .entry)) q) (now (first .entry)) ⌝ }
 {
     let mut k = 0;
@@ -163,7 +215,7 @@ fn tail_ok(queue: [u8; 8], c: u8) -> bool
 
 // Whether a queue of c for q is as it must be: each processor in it is struck off those with a task in line, and none is left.
 fn queue_ok(queue: [u8; 8], c: u8, seats: &[u8], q: usize) -> bool
-    requires { ⌜ (length (now seats) ≡ 8193) × (q < 16) × (1 ≤ c) × (c ≤ 8) ⌝ }
+    requires { ⌜ QueueRow (now seats) q c ⌝ }
     ensures { λ r. ⌜ r ≡ queueTest (now (seats .entry)) q queue c ⌝ }
 {
     let mut rest = [0u8; 8];
@@ -185,9 +237,9 @@ fn queue_ok(queue: [u8; 8], c: u8, seats: &[u8], q: usize) -> bool
 }
 
 // Whether the hold left and the budget left of q are within their bounds.
-fn clock_ok(line: Line, holds: &[u16], budgets: &[u16], seats: &[u8], q: usize) -> bool
-    requires { ⌜ (length (now holds) ≡ 1024) × (length (now budgets) ≡ 128) × (length (now seats) ≡ 8193) × (q < 16) × (1 ≤ line .queued → slot line 0 < 8) × (1 ≤ line .queued → 1 ≤ getD (now seats) (seat q (slot line 0) 0) 0) × (1 ≤ line .queued → getD (now seats) (seat q (slot line 0) 0) 0 < 65) ⌝ }
-    ensures { λ r. ⌜ r ≡ clockTest (now (holds .entry)) (now (budgets .entry)) (now (seats .entry)) q line ⌝ }
+fn clock_ok(line: LineRow, figures: &[u16], seats: &[u8], q: usize) -> bool
+    requires { ⌜ HeadRow (now figures) (now seats) q line ⌝ }
+    ensures { λ r. ⌜ r ≡ clockTest (now (figures .entry)) (now (seats .entry)) q line ⌝ }
 {
     let left = line.hold_left;
     let rest = line.budget_left;
@@ -197,14 +249,14 @@ fn clock_ok(line: Line, holds: &[u16], budgets: &[u16], seats: &[u8], q: usize) 
     let queue = line.queue;
     let head = folds::wide(queue[0]);
     let first = folds::wide(seats[(q * 8 + head) * 64]) - 1;
-    let most = holds[first * 16 + q];
-    let budget = budgets[head * 16 + q];
+    let most = analysis_hold_times::hold_at(figures, first, q);
+    let budget = analysis_hold_times::budget_at(figures, head, q);
     (1 <= left) & (left <= most) & (left <= rest) & (rest <= budget)
 }
 
 // Whether nobody has the first seat of a processor's queue for q.
 fn none_waits(seats: &[u8], q: usize) -> bool
-    requires { ⌜ (length (now seats) ≡ 8193) × (q < 16) ⌝ }
+    requires { ⌜ (length (now seats) ≡ seatCount) × (q < 16) ⌝ }
     ensures { λ r. ⌜ r ≡ allBelow 8 (λ k. eqb (firstSeat (now (seats .entry)) q k) 0) ⌝ }
 {
     let mut ok = true;
@@ -217,8 +269,8 @@ fn none_waits(seats: &[u8], q: usize) -> bool
 }
 
 // Whether the row of a free resource q is as it must be.
-fn free_ok(line: Line, seats: &[u8], q: usize) -> bool
-    requires { ⌜ (length (now seats) ≡ 8193) × (q < 16) ⌝ }
+fn free_ok(line: LineRow, seats: &[u8], q: usize) -> bool
+    requires { ⌜ (length (now seats) ≡ seatCount) × (q < 16) ⌝ }
     ensures { λ r. ⌜ r ≡ freeTest (now (seats .entry)) q line ⌝ }
 {
     let queue = line.queue;
@@ -227,9 +279,9 @@ fn free_ok(line: Line, seats: &[u8], q: usize) -> bool
 }
 
 // Whether the row of resource q is as it must be.
-fn line_ok(line: Line, holds: &[u16], budgets: &[u16], seats: &[u8], q: usize) -> bool
-    requires { ⌜ (length (now holds) ≡ 1024) × (length (now budgets) ≡ 128) × (length (now seats) ≡ 8193) × (q < 16) × ((x : ℕ) → x < 8193 → getD (now seats) x 0 < 65) ⌝ }
-    ensures { λ r. ⌜ r ≡ lineTest (now (holds .entry)) (now (budgets .entry)) (now (seats .entry)) q line ⌝ }
+fn line_ok(line: LineRow, figures: &[u16], seats: &[u8], q: usize) -> bool
+    requires { ⌜ (SeatSized (now figures) (now seats)) × (q < 16) ⌝ }
+    ensures { λ r. ⌜ r ≡ lineTest (now (figures .entry)) (now (seats .entry)) q line ⌝ }
 {
     if line.queued == 0 {
         return free_ok(line, seats, q);
@@ -237,21 +289,21 @@ fn line_ok(line: Line, holds: &[u16], budgets: &[u16], seats: &[u8], q: usize) -
     if line.queued <= 8 {
         let queue = line.queue;
         if queue_ok(queue, line.queued, seats, q) {
-            return clock_ok(line, holds, budgets, seats, q);
+            return clock_ok(line, figures, seats, q);
         }
     }
     false
 }
 
 // Whether all are.
-fn lines_ok(lines: [Line; 16], holds: &[u16], budgets: &[u16], seats: &[u8]) -> bool
-    requires { ⌜ (length (now holds) ≡ 1024) × (length (now budgets) ≡ 128) × (length (now seats) ≡ 8193) × ((x : ℕ) → x < 8193 → getD (now seats) x 0 < 65) ⌝ }
-    ensures { λ r. ⌜ r ≡ allBelow 16 (λ q. lineTest (now (holds .entry)) (now (budgets .entry)) (now (seats .entry)) q (getD lines q noLine)) ⌝ }
+fn lines_ok(lines: [LineRow; 16], figures: &[u16], seats: &[u8]) -> bool
+    requires { ⌜ SeatSized (now figures) (now seats) ⌝ }
+    ensures { λ r. ⌜ r ≡ linesTest (now (figures .entry)) (now (seats .entry)) lines ⌝ }
 {
     let mut q = 0;
     while q < 16 {
         let line = lines[q];
-        if !line_ok(line, holds, budgets, seats, q) {
+        if !line_ok(line, figures, seats, q) {
             return false;
         }
         q += 1;
@@ -260,11 +312,23 @@ fn lines_ok(lines: [Line; 16], holds: &[u16], budgets: &[u16], seats: &[u8]) -> 
 }
 
 // Whether a state is sound, by the tables of its plan.
-pub fn passes(state: State, holds: &[u16], budgets: &[u16], keys: &[u16], seats: &[u8]) -> bool
-    requires { ⌜ (length (now holds) ≡ 1024) × (length (now budgets) ≡ 128) × (length (now keys) ≡ 64) × (length (now seats) ≡ 8193) × ((x : ℕ) → x < 8193 → getD (now seats) x 0 < 65) × ((u : ℕ) → u < 64 → getD (now keys) u 0 < 8193) ⌝ }
-    ensures { λ r. ⌜ r ≡ stateTest (now (holds .entry)) (now (budgets .entry)) (now (keys .entry)) (now (seats .entry)) state ⌝ }
+fn passes(state: State, figures: &[u16], keys: &[u16], seats: &[u8]) -> bool
+    requires { ⌜ Sized (now figures) (now keys) (now seats) ⌝ }
+    ensures { λ r. ⌜ r ≡ stateTest (now (figures .entry)) (now (keys .entry)) (now (seats .entry)) state ⌝ }
 {
     let tasks = state.tasks;
     let lines = state.lines;
-    tasks_ok(tasks, holds, keys, seats) & lines_ok(lines, holds, budgets, seats)
+    tasks_ok(tasks, figures, keys, seats) & lines_ok(lines, figures, seats)
+}
+
+// Seats the tasks of a state where nobody sat, and tests it: the seats, and whether it is sound.
+pub fn seat_tasks(file: &[u8], figures: &[u16], state: State, seats: &mut [u8]) -> Seated
+    requires { ⌜ (Known (now file) (now figures)) × (now seats ≡ replicate seatCount 0) ⌝ }
+    ensures { λ r. ⌜ SeatedState (planOf (now (file .entry))) state (now (seats .exit)) r ⌝ }
+{
+    let tasks = state.tasks;
+    let keys = key_table(file, tasks);
+    fill_seats(file, tasks, &keys, seats);
+    let sound = passes(state, figures, &keys, seats);
+    Seated { keys, sound }
 }

@@ -23,17 +23,17 @@ use Rattle.folds.proofs.Searches.{on-le, find-is}
 use Rattle.machine_steps.proofs.Ready.{seat-task}
 use Rattle.queue_ranks.proofs.Lists.{list-snoc, list-length}
 use Rattle.queue_ranks.proofs.Ranked.{task-rank, ranks-few, full}
-use Rattle.analysis_hold_times.specs.Holds.{cell, Cells}
+use Rattle.analysis_hold_times.specs.Figures.{holdCell, Figures}
 use Rattle.machine_state.specs.declared.Standing.{Standing}
-use Rattle.machine_state.specs.declared.Line.{Line}
+use Rattle.machine_state.specs.declared.LineRow.{LineRow}
 use Rattle.machine_state.specs.declared.State.{State}
 use Rattle.machine_state.specs.Shows.{standing, lineAt, slot, rank, shows, noneInLine}
-use Rattle.machine_state.specs.Seats.{seat, Seats}
+use Rattle.machine_state.specs.Inner.{seat, Seats}
 use Rattle.machine_state.proofs.Tables.{low-processor}
 use Rattle.machine_state.proofs.Good.{Whole}
 use Rattle.machine_state.proofs.Wholes.{hold-resource}
 use Rattle.machine_state.proofs.Told.{ahead-list, stands-is}
-use Rattle.machine_steps.specs.Steps.{taken, takenHolds}
+use Rattle.machine_steps.specs.Inner.{taken, takenHolds}
 
 -- a sum over a list goes from its head, one over a range from its end
 sum-last : (f : ℕ → ℕ) (us : List ℕ) (u : ℕ) → sumOf f (us ++ (u ∷ [])) ≡ sumOf f us + f u
@@ -93,20 +93,20 @@ module _ (p : Plan) (v : Valid p) (s : State) (w : Whole p s) (q k : ℕ) (lq : 
     pub ahead-count : length (tasksOf k (queueOf (shows p s .lines q))) ≡ taken seats q k
     ahead-count = ap length (ahead-list p v s w q k lq) ∙ list-length most 1 (taskAt (p .tasks) ranks) ∙ sym taken-is
 
-    module _ {holds : List ℕ} (c : Cells (holdAt p) holds) where
-      pub taken-holds : takenHolds holds seats q k ≡ sumOf (terms p q .hold) (listFrom most 1 (taskAt (p .tasks) ranks))
+    module _ {figures : List ℕ} (c : Figures p figures) where
+      pub taken-holds : takenHolds figures seats q k ≡ sumOf (terms p q .hold) (listFrom most 1 (taskAt (p .tasks) ranks))
       unfolding takenHolds
       taken-holds =
           rw taken-is (sum-same most _ _ hold ∙ sum-list most (λ u. holdAt p u q) (taskAt (p .tasks) ranks))
         where
-          hold : (j : ℕ) → j < most → getD holds (cell (getD seats (seat q k j) 0 - 1) q) 0 ≡ holdAt p (taskAt (p .tasks) ranks (suc j)) q
+          hold : (j : ℕ) → j < most → getD figures (holdCell (getD seats (seat q k j) 0 - 1) q) 0 ≡ holdAt p (taskAt (p .tasks) ranks (suc j)) q
           hold j l =
               let u : ℕ = taskAt (p .tasks) ranks (suc j) in
               let a : u < p .tasks = full (w .lines q lq .ranked) k (suc j) (omega arith) l in
               let e : getD seats (seat q k j) 0 - 1 ≡ u = omega (arith, seat-taken j l) in
-              rw e (c .at u q (omega (arith, v .tasks)) lq)
+              rw e (c .hold u q (omega (arith, v .tasks)) lq)
 
-      pub ahead-holds : sumOf (terms p q .hold) (tasksOf k (queueOf (shows p s .lines q))) ≡ takenHolds holds seats q k
+      pub ahead-holds : sumOf (terms p q .hold) (tasksOf k (queueOf (shows p s .lines q))) ≡ takenHolds figures seats q k
       ahead-holds = ap (sumOf (terms p q .hold)) (ahead-list p v s w q k lq) ∙ sym taken-holds
 
 -- ── the answer ──
@@ -123,15 +123,15 @@ module _ (p : Plan) (v : Valid p) (s : State) (w : Whole p s) (i q : ℕ) where
   unfolding shows listFrom
   request-granted e = rw e
 
-  pub request-waits : {seats holds : List ℕ} → 1 ≤ lineAt s q .queued → q < 16 → i < p .tasks → Seats p (s .tasks) seats → Cells (holdAt p) holds
+  pub request-waits : {seats figures : List ℕ} → 1 ≤ lineAt s q .queued → q < 16 → i < p .tasks → Seats p (s .tasks) seats → Figures p figures
       → requestTold p i q (shows p s .lines q)
       ≡ Waits (taken seats q (processorOf p i))
-      (takenHolds holds seats q (processorOf p i) + (taken seats q (processorOf p i) + 1) * waitTime p (processorOf p i) q)
+      (takenHolds figures seats q (processorOf p i) + (taken seats q (processorOf p i) + 1) * waitTime p (processorOf p i) q)
   unfolding shows
-  request-waits {seats} {holds} a lq lt t c =
+  request-waits {seats} {figures} a lq lt t c =
       let k : ℕ = processorOf p i in
       let lk : k < 8 = low-processor p v i lt in
-      let l : Line = lineAt s q in
+      let l : LineRow = lineAt s q in
       told-held p i q (p .tasks) (rank p (s .tasks) q) (l .queued) (slot l) (l .«hold_left») (l .«budget_left») a
       ∙ ap₂ (λ (x y : ℕ). Waits x (y + (x + 1) * waitTime p k q)) (ahead-count p v s w q k lq lk t) (ahead-holds p v s w q k lq lk t c)
 

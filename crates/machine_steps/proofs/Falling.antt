@@ -19,11 +19,11 @@ use Rattle.folds.proofs.Searches.{on-eq, on-le}
 use Rattle.queue_ranks.proofs.Leave.{Leaves}
 use Rattle.machine_state.specs.declared.Standing.{Standing}
 use Rattle.machine_state.specs.declared.State.{State}
-use Rattle.machine_state.specs.Shows.{noStanding, noneInLine, standing, lineAt, slot, rank}
-use Rattle.machine_state.specs.Seats.{queueAt, seat, keyOf}
+use Rattle.machine_state.specs.Shows.{noStanding, noneInLine, movedUp, standing, lineAt, slot, rank}
+use Rattle.machine_state.specs.Inner.{queueAt, seat, noSeat, keyOf}
 use Rattle.machine_state.proofs.Good.{Whole}
 use Rattle.machine_state.proofs.Tables.{low-processor}
-use Rattle.machine_steps.specs.Steps.{fallen, lowered}
+use Rattle.machine_steps.specs.Inner.{fallen, lowered}
 use Rattle.queue_ranks.proofs.Ranked.{ranks-few}
 use Rattle.machine_steps.proofs.Ready.{Tabled}
 
@@ -44,16 +44,16 @@ rank-own s m q k e f = rw (eq-eqb m k e, eq-eqb (s .resource) q f)
 fall-away : (b : Bool) (s : Standing) (q : ℕ) → q ≢ 255 → s .resource ≢ q → fallen b s .resource ≢ q
 unfolding fallen
 fall-away true s q h n =
-    by-eq (λ (d : Bool). cond d noneInLine (record { resource = s .resource; place = s .place - 1 }) .resource ≢ q) (s .place) 0
+    by-eq (λ (d : Bool). cond d noneInLine (movedUp s) .resource ≢ q) (s .place) 0
     (λ e f. h (sym f)) (λ e. n)
 fall-away false s q h n = n
 
 fall-own : (s : Standing) (m q k : ℕ) → q ≢ 255 → m ≡ k → s .resource ≡ q → rankOf (fallen true s) m q k ≡ s .place
 unfolding fallen
 fall-own s m q k h e f =
-    by-eq (λ (d : Bool). rankOf (cond d noneInLine (record { resource = s .resource; place = s .place - 1 })) m q k ≡ s .place) (s .place) 0
+    by-eq (λ (d : Bool). rankOf (cond d noneInLine (movedUp s)) m q k ≡ s .place) (s .place) 0
     (λ z. rank-away noneInLine m q k (λ i. h (sym i)) ∙ sym z)
-    (λ z. rank-own (record { resource = s .resource; place = s .place - 1 }) m q k e f ∙ omega arith)
+    (λ z. rank-own (movedUp s) m q k e f ∙ omega arith)
 
 fall-rank : (b c : Bool) (s : Standing) (m q k : ℕ) → q ≢ 255 → (m ≡ k → s .resource ≡ q → b ≡ c)
     → rankOf (fallen b s) m q k ≡ rankOf s m q k - cond c 1 0
@@ -74,7 +74,7 @@ pub record Ended (s : State) (E : ℕ → Bool) (ended : List ℕ) : Type 0 wher
   pub at : (k q : ℕ) → k < 8 → q < 16 → getD ended (queueAt k q) 0 ≡ cond (E q && eqb k (slot (lineAt s q) 0)) 1 0
   pub none : getD ended 128 0 ≡ 0
 
-module _ (p : Plan) (v : Valid p) (s : State) (w : Whole p s) {holds budgets keys seats : List ℕ} (t : Tabled p s holds budgets keys seats)
+module _ (p : Plan) (v : Valid p) (s : State) (w : Whole p s) {figures keys seats : List ℕ} (t : Tabled p s figures keys seats)
     {E : ℕ → Bool} {ended : List ℕ} (x : Ended s E ended) where
   -- the first of u's queue leaves
   abbrev falls : ℕ → Bool
@@ -104,8 +104,8 @@ module _ (p : Plan) (v : Valid p) (s : State) (w : Whole p s) {holds budgets key
   falls-none : (u : ℕ) → u < 64 → standing (s .tasks) u ≡ noneInLine → falls u ≡ false
   unfolding keyOf
   falls-none u l e =
-      let c : getD keys u 0 ≡ 8192 =
-      on-le (getD keys u 0 ≡ 8192) (p .tasks) u (λ a. t .keys-at .rest u l a) (λ a. t .keys-at .at u a ∙ rw e) in
+      let c : getD keys u 0 ≡ noSeat =
+      on-le (getD keys u 0 ≡ noSeat) (p .tasks) u (λ a. t .keys-at .rest u l a) (λ a. t .keys-at .at u a ∙ rw e) in
       rw (c, x .none)
 
   -- the rank of each task
@@ -139,7 +139,7 @@ module _ (p : Plan) (v : Valid p) (s : State) (w : Whole p s) {holds budgets key
 
       there : (b : Bool) (r : Standing) → 1 ≤ holdAt p u (r .resource) → Fits (fallen b r)
       there true r h =
-          by-eq (λ (d : Bool). Fits (cond d noneInLine (record { resource = r .resource; place = r .place - 1 }))) (r .place) 0
+          by-eq (λ (d : Bool). Fits (cond d noneInLine (movedUp r))) (r .place) 0
           (λ e. inl refl) (λ e. inr h)
       there false r h = inr h
 

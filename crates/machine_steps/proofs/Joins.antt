@@ -27,12 +27,12 @@ use Rattle.queue_ranks.proofs.Same.{same-ranked, same-queued, same-timed, same-
 use Rattle.queue_ranks.proofs.Join.{Joins, enter-free, enter-new, enter-there}
 use Rattle.queue_ranks.proofs.JoinKeeps.{join-ranked, join-queued, join-queued-new, join-timed, join-timed-new}
 use Rattle.machine_state.specs.declared.Standing.{Standing}
-use Rattle.machine_state.specs.declared.Line.{Line}
+use Rattle.machine_state.specs.declared.LineRow.{LineRow}
 use Rattle.machine_state.specs.declared.State.{State}
-use Rattle.machine_state.specs.Shows.{noStanding, noLine, standing, lineAt, slot, rank, shownLine, shows, noneInLine}
+use Rattle.machine_state.specs.Shows.{noStanding, noLine, standing, lineAt, slot, rank, shownLine, shows, noneInLine, inLineAt}
 use Rattle.machine_state.proofs.Good.{Good, Whole}
 use Rattle.machine_state.proofs.Wholes.{hold-resource}
-use Rattle.machine_steps.specs.Steps.{pushed, joinedLines, joined}
+use Rattle.machine_steps.specs.Inner.{pushed, joinedLines, joined}
 
 -- ── ranks of a row ──
 module _ (p : Plan) (ts : List Standing) (q k u : ℕ) where
@@ -60,7 +60,7 @@ module _ (p : Plan) (v : Valid p) (i q : ℕ) where
       (max-where-at (p .tasks) i (λ j. eqb (processorOf p j) (processorOf p i)) (λ j. holdAt p j q) l (eq-eqb (processorOf p i) (processorOf p i) refl))
 
 -- the line of a row is sound and shows m
-record Keeps (p : Plan) (ts : List Standing) (q : ℕ) (l : Line) (m : Rules.Line) : Type 0 where
+record Keeps (p : Plan) (ts : List Standing) (q : ℕ) (l : LineRow) (m : Rules.Line) : Type 0 where
   good : Good p ts q l
   shown : shownLine p ts q l ≡ m
 
@@ -89,11 +89,11 @@ module _ (p : Plan) (v : Valid p) (s : State) (w : Whole p s) (len : length (s .
   resource : standing (s .tasks) i .resource ≡ 255
   resource = ap (λ (x : Standing). x .resource) idle
 
-  row : standing after i ≡ record { resource = q; place = ahead }
-  row = getD-set-same (s .tasks) i (record { resource = q; place = ahead }) noStanding (omega (arith, v .tasks))
+  row : standing after i ≡ inLineAt q ahead
+  row = getD-set-same (s .tasks) i (inLineAt q ahead) noStanding (omega (arith, v .tasks))
 
   row-other : (u : ℕ) → u ≢ i → standing after u ≡ standing (s .tasks) u
-  row-other u n = getD-set-other (s .tasks) i u (record { resource = q; place = ahead }) noStanding n
+  row-other u n = getD-set-other (s .tasks) i u (inLineAt q ahead) noStanding n
 
   joins : Joins (p .tasks) (terms p q) (rank p (s .tasks) q) (rank p after q) i
   joins =
@@ -106,7 +106,7 @@ module _ (p : Plan) (v : Valid p) (s : State) (w : Whole p s) (len : length (s .
       }
 
   -- ── the line of q ──
-  abbrev l : Line
+  abbrev l : LineRow
   l = lineAt s q
 
   abbrev slots : List ℕ
@@ -213,7 +213,7 @@ module _ (p : Plan) (v : Valid p) (s : State) (w : Whole p s) (len : length (s .
   unfolding joinedLines
   apart-line r n = go (eqb ahead 0)
     where
-      line : Line
+      line : LineRow
       line = pushed l k (holdAt p i q) (budget p k q)
 
       go : (b : Bool) → getD (cond b (set (s .lines) q line) (s .lines)) r noLine ≡ lineAt s r
@@ -230,7 +230,7 @@ module _ (p : Plan) (v : Valid p) (s : State) (w : Whole p s) (len : length (s .
   apart-good : (r : ℕ) → r < 16 → r ≢ q → Good p after r (lineAt (entering p s i q) r)
   apart-good r lr n =
       let g : Good p (s .tasks) r (lineAt s r) = w .lines r lr in
-      let m : Line = lineAt s r in
+      let m : LineRow = lineAt s r in
       let same : (k u : ℕ) → u < p .tasks → rank p (s .tasks) r k u ≡ rank p after r k u = apart-rank r lr n in
       rw (apart-line r n)
       (record {

@@ -18,12 +18,12 @@ use Rattle.folds.proofs.Searches.{same-eqb}
 use Rattle.queue_ranks.proofs.Ranked.{full}
 use Rattle.queue_ranks.proofs.Reading.{holds-none, holds-first}
 use Rattle.queue_ranks.proofs.Leave.{Leaves}
-use Rattle.machine_state.specs.declared.Line.{Line}
+use Rattle.machine_state.specs.declared.LineRow.{LineRow}
 use Rattle.machine_state.specs.declared.State.{State}
 use Rattle.machine_state.specs.Shows.{noLine, lineAt, slot, rank, shownLine, shows}
-use Rattle.machine_state.specs.Seats.{queueAt, seat, Seats}
+use Rattle.machine_state.specs.Inner.{queueAt, seat, Seats}
 use Rattle.machine_state.proofs.Good.{Whole}
-use Rattle.machine_steps.specs.Steps.{passed, left}
+use Rattle.machine_steps.specs.Inner.{passed, left}
 use Rattle.machine_steps.proofs.Ready.{Tabled, seat-some, first-task}
 use Rattle.machine_steps.proofs.Falling.{Ended, ranks-leave, ranks-stay, rows-after}
 use Rattle.machine_steps.proofs.Passed.{Shown, stays-shown, past-shows, all-shown, Held, good-held, first-after, passed-shown}
@@ -36,14 +36,14 @@ mark-at m i x li lx =
     (λ n. getD-set-other (replicate {A = ℕ} m 0) i x 1 0 n ∙ getD-replicate {A = ℕ} m x 0 0 lx)
 
 -- the task that a line begins with once the first of processor `gone` left, by the seats from before, as its number plus 1
-abbrev pub nextSeat : List ℕ → ℕ → Line → ℕ → ℕ
+abbrev pub nextSeat : List ℕ → ℕ → LineRow → ℕ → ℕ
 nextSeat seats q l gone = getD seats (seat q (slot l 0) (cond (eqb (slot l 0) gone) 1 0)) 0
 
 -- who holds: nobody where nobody is queued, else who sits first
 pub holder-none : (p : Plan) (s : State) (q i : ℕ) → lineAt s q .queued ≡ 0 → Rules.holds i (shows p s .lines q) ≡ false
 unfolding shows
 holder-none p s q i e =
-    let l : Line = lineAt s q in holds-none (p .tasks) (rank p (s .tasks) q) i (l .queued) (slot l) (l .«hold_left») (l .«budget_left») e
+    let l : LineRow = lineAt s q in holds-none (p .tasks) (rank p (s .tasks) q) i (l .queued) (slot l) (l .«hold_left») (l .«budget_left») e
 
 module _ (p : Plan) (v : Valid p) (s : State) (w : Whole p s) (q : ℕ) (lq : q < 16) (held : 1 ≤ lineAt s q .queued) where
   pub head-low : slot (lineAt s q) 0 < 8
@@ -53,20 +53,20 @@ module _ (p : Plan) (v : Valid p) (s : State) (w : Whole p s) (q : ℕ) (lq : q 
       → Rules.holds i (shows p s .lines q) ≡ eqb (getD seats (seat q (slot (lineAt s q) 0) 0) 0) (i + 1)
   unfolding shows
   holder-seat {seats} t i =
-      let g : Line = lineAt s q in
+      let g : LineRow = lineAt s q in
       let seated : getD seats (seat q (slot g 0) 0) 0 ≡ taskAt (p .tasks) (rank p (s .tasks) q (slot g 0)) 1 + 1 =
       seat-some p s w t q (slot g 0) 0 lq head-low (omega arith) (first-task p s w q 0 lq held) in
       holds-first (p .tasks) (rank p (s .tasks) q) i (g .queued) (slot g) (g .«hold_left») (g .«budget_left») held
       ∙ same-eqb (taskAt (p .tasks) (rank p (s .tasks) q (slot g 0)) 1) i _ (i + 1) (λ e. omega arith) (λ e. omega arith)
 
-module _ (p : Plan) (v : Valid p) (s : State) (w : Whole p s) {holds budgets keys seats : List ℕ} (t : Tabled p s holds budgets keys seats) where
+module _ (p : Plan) (v : Valid p) (s : State) (w : Whole p s) {figures keys seats : List ℕ} (t : Tabled p s figures keys seats) where
   module _ (q : ℕ) (lq : q < 16) (held : 1 ≤ lineAt s q .queued) where
     gone-low : slot (lineAt s q) 0 < 8
     gone-low = head-low p v s w q lq held
 
     -- ── the state after it ──
     abbrev L : State
-    L = left holds budgets keys seats q s
+    L = left figures keys seats q s
 
     ended : Ended s (λ r. eqb r q) (set (replicate 129 0) (queueAt (slot (lineAt s q) 0) q) 1)
     ended = record {
@@ -87,29 +87,29 @@ module _ (p : Plan) (v : Valid p) (s : State) (w : Whole p s) {holds budgets key
     line-held : Held p (s .tasks) q (lineAt s q)
     line-held = good-held p (s .tasks) q (lineAt s q) (w .lines q lq) held
 
-    pub left-line : lineAt (left holds budgets keys seats q s) q ≡ passed holds budgets seats q (lineAt s q)
-    left-line = getD-set-same (s .lines) q (passed holds budgets seats q (lineAt s q)) noLine (omega (arith, t .lines-long))
+    pub left-line : lineAt (left figures keys seats q s) q ≡ passed figures seats q (lineAt s q)
+    left-line = getD-set-same (s .lines) q (passed figures seats q (lineAt s q)) noLine (omega (arith, t .lines-long))
 
     left-shown : (r : ℕ) → r < 16 → Shown p (L .tasks) r (lineAt L r) (change (shows p s .lines) q (Rules.released (terms p q)) r)
     unfolding shows
     left-shown r lr =
         by-eq (λ (b : Bool). Shown p (L .tasks) r (lineAt L r) (cond b (Rules.released (terms p q) (shows p s .lines r)) (shows p s .lines r))) r q
         (λ e. rw (e, left-line) (passed-shown p v s w t (L .tasks) q lq (lineAt s q) line-held leaves))
-        (λ n. rw (getD-set-other (s .lines) q r (passed holds budgets seats q (lineAt s q)) noLine n)
+        (λ n. rw (getD-set-other (s .lines) q r (passed figures seats q (lineAt s q)) noLine n)
         (stays-shown p (s .tasks) (L .tasks) r (lineAt s r) (ranks-stay p v s w t ended r lr (ne-eqb r q n)) (w .lines r lr)))
 
-    pub left-whole : Whole p (left holds budgets keys seats q s)
+    pub left-whole : Whole p (left figures keys seats q s)
     left-whole = record { rows = rows-after p v s w t ended; lines = λ r lr. left-shown r lr .good }
 
-    pub left-shows : shows p (left holds budgets keys seats q s) ≡ record { lines = change (shows p s .lines) q (Rules.released (terms p q)) }
+    pub left-shows : shows p (left figures keys seats q s) ≡ record { lines = change (shows p s .lines) q (Rules.released (terms p q)) }
     left-shows =
         all-shown p L (change (shows p s .lines) q (Rules.released (terms p q)))
-        (length-set (s .lines) q (passed holds budgets seats q (lineAt s q)) ∙ t .lines-long) left-shown
+        (length-set (s .lines) q (passed figures seats q (lineAt s q)) ∙ t .lines-long) left-shown
         (λ r a. rw (ne-eqb r q (λ e. omega arith)) (past-shows p s r (t .lines-long) a))
 
     -- ── the answer ──
     -- the line after it, who is granted next, and the first task of its head
-    abbrev after : Line
+    abbrev after : LineRow
     after = lineAt L q
 
     abbrev granted : ℕ

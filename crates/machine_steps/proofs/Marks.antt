@@ -18,23 +18,23 @@ use Rattle.folds.proofs.Arrays.{stampedBelow, stamped-step, stamped-at}
 use Rattle.folds.proofs.EachLaws.{each-at, each-later}
 use Rattle.folds.proofs.WordLaws.{word-done, word-same}
 use Rattle.machine_state.specs.declared.Standing.{Standing}
-use Rattle.machine_state.specs.declared.Line.{Line}
+use Rattle.machine_state.specs.declared.LineRow.{LineRow}
 use Rattle.machine_state.specs.Shows.{noStanding, noLine, slot}
-use Rattle.machine_state.specs.Seats.{queueAt}
-use Rattle.machine_steps.specs.Steps.{fallen, lowered, ends, endedOf, stepped, steppedLines, cutWord, grantWord}
+use Rattle.machine_state.specs.Inner.{queueAt}
+use Rattle.machine_steps.specs.Inner.{fallen, lowered, ends, endedOf, stepped, steppedLines, cutWord, grantWord}
 
 -- where a tick cuts the holder, somebody is queued
-pub cut-queued : (l : Line) → ends l ≡ true → 1 ≤ l .queued
+pub cut-queued : (l : LineRow) → ends l ≡ true → 1 ≤ l .queued
 cut-queued l e = ltb-true 0 (l .queued) (and-parts (ltb 0 (l .queued)) (eqb (l .«hold_left») 1) e .0)
 
 -- the queues of the resources below n that lose their first
-abbrev pub endedBelow : List Line → ℕ → List ℕ
+abbrev pub endedBelow : List LineRow → ℕ → List ℕ
 endedBelow ls n =
     stampedBelow n (λ q. cond (ends (getD ls q noLine)) (queueAt (slot (getD ls q noLine) 0) q) 128)
     (λ q. cond (ends (getD ls q noLine)) 1 0) (replicate 129 0)
 
 -- a turn of the loop where the tick cuts the holder, one where it does not, and its end
-module _ (ls : List Line) (n : ℕ) {m : List ℕ} (p : m ≡ endedBelow ls n) where
+module _ (ls : List LineRow) (n : ℕ) {m : List ℕ} (p : m ≡ endedBelow ls n) where
   ended-cut : {k : ℕ} → ends (getD ls n noLine) ≡ true → k ≡ slot (getD ls n noLine) 0 → set m (n * 8 + k) 1 ≡ endedBelow ls (n + 1)
   ended-cut e q = stamped-step n _ _ _ p (rw (e, q)) (rw e)
 
@@ -46,32 +46,32 @@ module _ (ls : List Line) (n : ℕ) {m : List ℕ} (p : m ≡ endedBelow ls n) w
   ended-done e = rw (← e, p)
 
 -- a resource with a new grant, by its line before the tick
-module _ (holds budgets seats : List ℕ) (ls : List Line) where
+module _ (figures seats : List ℕ) (ls : List LineRow) where
   abbrev pub newly : ℕ → Bool
-  newly q = ends (getD ls q noLine) && ltb 0 (stepped holds budgets seats q (getD ls q noLine) .queued)
+  newly q = ends (getD ls q noLine) && ltb 0 (stepped figures seats q (getD ls q noLine) .queued)
 
-  pub grants-done : (n : ℕ) {w : ℕ} → 16 ≤ length ls → n ≡ 16 → w ≡ wordBelow n newly → w ≡ grantWord ls (steppedLines holds budgets seats ls)
+  pub grants-done : (n : ℕ) {w : ℕ} → 16 ≤ length ls → n ≡ 16 → w ≡ wordBelow n newly → w ≡ grantWord ls (steppedLines figures seats ls)
   unfolding grantWord steppedLines
   grants-done n h e p =
       word-done 16 n newly e p
       ∙ word-same 16 _ _
-      (λ q l. ap (λ (x : Line). ends (getD ls q noLine) && ltb 0 (x .queued)) (sym (each-at noLine (λ r x. stepped holds budgets seats r x) 16 q ls l h)))
+      (λ q l. ap (λ (x : LineRow). ends (getD ls q noLine) && ltb 0 (x .queued)) (sym (each-at noLine (λ r x. stepped figures seats r x) 16 q ls l h)))
 
   -- a turn of the loop over the lines: the line that it takes is as it was, and so are the bits that it adds
-  module _ (n : ℕ) {m : List Line} (p : m ≡ eachBelow noLine (λ r l. stepped holds budgets seats r l) n ls) where
+  module _ (n : ℕ) {m : List LineRow} (p : m ≡ eachBelow noLine (λ r l. stepped figures seats r l) n ls) where
     pub line-kept : getD m n noLine ≡ getD ls n noLine
-    line-kept = ap (λ (x : List Line). getD x n noLine) p ∙ each-later _ _ n n _ (omega arith)
+    line-kept = ap (λ (x : List LineRow). getD x n noLine) p ∙ each-later _ _ n n _ (omega arith)
 
     module _ {on : Bool} (e : on ≡ ends (getD m n noLine)) where
       pub ends-kept : on ≡ ends (getD ls n noLine)
-      ends-kept = e ∙ ap (λ (x : Line). ends x) line-kept
+      ends-kept = e ∙ ap (λ (x : LineRow). ends x) line-kept
 
       pub kept-queued : on ≡ true → 1 ≤ getD ls n noLine .queued
       kept-queued t = cut-queued (getD ls n noLine) (sym ends-kept ∙ t)
 
       -- the marks, where the tick cuts the holder and where it does not
       pub mark-cut : {t : List ℕ} {k : ℕ} → t ≡ endedBelow ls n → on ≡ true → k ≡ slot (getD m n noLine) 0 → set t (n * 8 + k) 1 ≡ endedBelow ls (n + 1)
-      mark-cut f t k = ended-cut ls n f (sym ends-kept ∙ t) (k ∙ ap (λ (x : Line). slot x 0) line-kept)
+      mark-cut f t k = ended-cut ls n f (sym ends-kept ∙ t) (k ∙ ap (λ (x : LineRow). slot x 0) line-kept)
 
       pub mark-kept : {t : List ℕ} → t ≡ endedBelow ls n → on ≡ false → set t 128 0 ≡ endedBelow ls (n + 1)
       mark-kept f t = ended-kept ls n f (sym ends-kept ∙ t)
@@ -79,11 +79,11 @@ module _ (holds budgets seats : List ℕ) (ls : List Line) where
       pub cut-bit : {b : ℕ} → b ≡ bitOf on n → b ≡ bitOf (ends (getD ls n noLine)) n
       cut-bit f = f ∙ ap (λ (x : Bool). bitOf x n) ends-kept
 
-      pub grant-bit : {b : ℕ} {after : Line} → after ≡ stepped holds budgets seats n (getD m n noLine) → b ≡ bitOf (on && ltb 0 (after .queued)) n → b ≡ bitOf (newly n) n
+      pub grant-bit : {b : ℕ} {after : LineRow} → after ≡ stepped figures seats n (getD m n noLine) → b ≡ bitOf (on && ltb 0 (after .queued)) n → b ≡ bitOf (newly n) n
       grant-bit g f =
           f
-          ∙ ap₂ (λ (x : Bool) (y : Line). bitOf (x && ltb 0 (y .queued)) n) ends-kept
-          (g ∙ ap (λ (x : Line). stepped holds budgets seats n x) line-kept)
+          ∙ ap₂ (λ (x : Bool) (y : LineRow). bitOf (x && ltb 0 (y .queued)) n) ends-kept
+          (g ∙ ap (λ (x : LineRow). stepped figures seats n x) line-kept)
 
 -- ── a tick that cuts nobody ──
 
@@ -108,7 +108,7 @@ each-kept {A} d g (suc n) l h =
     ap₂ (λ (x : List A) (y : A). set x n y) (each-kept d g n l (λ u b. h u (omega arith))) (h n (omega arith)) ∙ set-getD l n d
 
 -- the rows of the tasks stay as they are
-pub rows-kept : (keys : List ℕ) (ls : List Line) (ts : List Standing) → ((u : ℕ) → u < 64 → getD keys u 0 < 8193) → cutWord ls ≡ 0 → lowered keys (endedOf ls) ts ≡ ts
+pub rows-kept : (keys : List ℕ) (ls : List LineRow) (ts : List Standing) → ((u : ℕ) → u < 64 → getD keys u 0 < 8193) → cutWord ls ≡ 0 → lowered keys (endedOf ls) ts ≡ ts
 unfolding cutWord endedOf lowered fallen
 rows-kept keys ls ts low e = each-kept noStanding _ 64 ts (λ u l. rw (unmarked (getD keys u 0 / 64) (omega (arith, low u l))))
   where

@@ -26,21 +26,21 @@ use Rattle.queue_ranks.proofs.Same.{same-queue, same-queued, same-timed, same-r
 use Rattle.queue_ranks.proofs.Leave.{Leaves, leave-max, after-first, begin-none, begin-some, leave-last, leave-next, leave-back}
 use Rattle.queue_ranks.proofs.LeaveKeeps.{leave-ranked, next-queued, last-queued, back-queued, free-timed, begin-timed, next-timed}
 use Rattle.machine_state.specs.declared.Standing.{Standing}
-use Rattle.machine_state.specs.declared.Line.{Line}
+use Rattle.machine_state.specs.declared.LineRow.{LineRow}
 use Rattle.machine_state.specs.declared.State.{State}
 use Rattle.machine_state.specs.Shows.{noLine, lineAt, slot, rank, shownLine, shows}
-use Rattle.machine_state.specs.Seats.{seat}
+use Rattle.machine_state.specs.Inner.{seat}
 use Rattle.machine_state.proofs.Good.{Good, Whole}
-use Rattle.machine_steps.specs.Steps.{shifted, turned, holdOf, begun, passed}
+use Rattle.machine_steps.specs.Inner.{shifted, turned, holdOf, begun, passed}
 use Rattle.machine_steps.proofs.Ready.{Tabled, seat-task}
 
 -- the line is sound and shows m
-pub record Shown (p : Plan) (ts : List Standing) (q : ℕ) (l : Line) (m : Rules.Line) : Type 0 where
+pub record Shown (p : Plan) (ts : List Standing) (q : ℕ) (l : LineRow) (m : Rules.Line) : Type 0 where
   pub good : Good p ts q l
   pub shows : shownLine p ts q l ≡ m
 
 -- a line whose ranks stay
-pub stays-shown : (p : Plan) (ts us : List Standing) (q : ℕ) (l : Line) → ((k u : ℕ) → u < p .tasks → rank p ts q k u ≡ rank p us q k u)
+pub stays-shown : (p : Plan) (ts us : List Standing) (q : ℕ) (l : LineRow) → ((k u : ℕ) → u < p .tasks → rank p ts q k u ≡ rank p us q k u)
     → Good p ts q l → Shown p us q l (shownLine p ts q l)
 stays-shown p ts us q l same g =
     let R = rank p ts q in
@@ -68,7 +68,7 @@ unfolding shows
 all-shown p s m e h o = ap (λ (l : Lines). record { lines = l }) (fun-ext (λ r. on-le (shows p s .lines r ≡ m r) 16 r (λ a. past-shows p s r e a ∙ sym (o r a)) (λ a. h r a .shows)))
 
 -- a held line, whatever is left of the hold
-pub record Held (p : Plan) (ts : List Standing) (q : ℕ) (l : Line) : Type 0 where
+pub record Held (p : Plan) (ts : List Standing) (q : ℕ) (l : LineRow) : Type 0 where
   pub some : 1 ≤ l .queued
   pub small : l .queued ≤ 8
   pub ranked : Ranked (p .tasks) (terms p q) (rank p ts q)
@@ -76,7 +76,7 @@ pub record Held (p : Plan) (ts : List Standing) (q : ℕ) (l : Line) : Type 0 wh
   pub rest : (i : ℕ) → l .queued ≤ i → i < 8 → slot l i ≡ 255
   pub within : l .«budget_left» ≤ budget p (slot l 0) q
 
-pub good-held : (p : Plan) (ts : List Standing) (q : ℕ) (l : Line) → Good p ts q l → 1 ≤ l .queued → Held p ts q l
+pub good-held : (p : Plan) (ts : List Standing) (q : ℕ) (l : LineRow) → Good p ts q l → 1 ≤ l .queued → Held p ts q l
 good-held p ts q l g a =
     record { some = a; small = g .small; ranked = g .ranked; queued = g .queued; rest = g .rest; within = g .timed .runs a .3 }
 
@@ -99,8 +99,8 @@ shifted-rest : (l : List ℕ) (c i : ℕ) → ((i : ℕ) → c ≤ i → i < 8 �
 shifted-rest l c i h a b =
     on-eq (getD (shifted l) i 0 ≡ 255) i 7 (λ e. rw e) (λ n. shifted-at l i (omega arith) ∙ h (suc i) a (omega arith))
 
-module _ (p : Plan) (v : Valid p) (s : State) (w : Whole p s) {holds budgets keys seats : List ℕ} (t : Tabled p s holds budgets keys seats)
-    (us : List Standing) (q : ℕ) (lq : q < 16) (l : Line) (h : Held p (s .tasks) q l)
+module _ (p : Plan) (v : Valid p) (s : State) (w : Whole p s) {figures keys seats : List ℕ} (t : Tabled p s figures keys seats)
+    (us : List Standing) (q : ℕ) (lq : q < 16) (l : LineRow) (h : Held p (s .tasks) q l)
     (x : Leaves (p .tasks) (rank p (s .tasks) q) (rank p us q) (slot l 0)) where
   -- ranks before and after
   abbrev R : ℕ → ℕ → ℕ
@@ -138,18 +138,18 @@ module _ (p : Plan) (v : Valid p) (s : State) (w : Whole p s) {holds budgets key
   first-after k lk a = seat-after k lk ∙ rw (lt-ltb _ _ (full ranked k 1 (omega arith) a))
 
   hold-after : (k : ℕ) → k < 8 → 1 ≤ maxBelow (p .tasks) (S k)
-      → holdOf holds budgets seats q k (cond (eqb k (slot l 0)) 1 0) ≡ holdAt p (taskAt (p .tasks) (S k) 1) q
+      → holdOf figures seats q k (cond (eqb k (slot l 0)) 1 0) ≡ holdAt p (taskAt (p .tasks) (S k) 1) q
   hold-after k lk a =
       let u : ℕ = taskAt (p .tasks) (S k) 1 in
       let e : getD seats (seat q k (cond (eqb k (slot l 0)) 1 0)) 0 - 1 ≡ u = omega (arith, first-after k lk a) in
-      rw e (t .holds-at .at u q (omega (arith, full ranked k 1 (omega arith) a, v .tasks)) lq)
+      rw e (t .figures-at .hold u q (omega (arith, full ranked k 1 (omega arith) a, v .tasks)) lq)
 
   -- the head of what queue is left begins
   begins : (g : List ℕ) (d : ℕ) → d ≤ 8 → Queued (p .tasks) (p .processors) S d (λ i. getD g i 0) → ((i : ℕ) → d ≤ i → i < 8 → getD g i 0 ≡ 255)
-      → Shown p us q (begun holds budgets seats q (slot l 0) g d) (Rules.begin (terms p q) (queueFrom (p .tasks) S d (λ i. getD g i 0)))
+      → Shown p us q (begun figures seats q (slot l 0) g d) (Rules.begin (terms p q) (queueFrom (p .tasks) S d (λ i. getD g i 0)))
   unfolding begun
   begins g d small w2 rest =
-      on-eq (Shown p us q (begun holds budgets seats q (slot l 0) g d) (Rules.begin (terms p q) (queueFrom (p .tasks) S d (λ i. getD g i 0)))) d 0
+      on-eq (Shown p us q (begun figures seats q (slot l 0) g d) (Rules.begin (terms p q) (queueFrom (p .tasks) S d (λ i. getD g i 0)))) d 0
       (λ z. rw (eq-eqb d 0 z) (record {
         good = record {
           small = omega arith;
@@ -163,7 +163,7 @@ module _ (p : Plan) (v : Valid p) (s : State) (w : Whole p s) {holds budgets key
       }))
       (λ z. let k : ℕ = getD g 0 0 in
       let lk : k < 8 = omega (arith, v .processors, w2 .placed 0 (omega arith)) in
-      rw (ne-eqb d 0 z, hold-after k lk (w2 .served 0 (omega arith)), t .budgets-at .at k q lk lq) (record {
+      rw (ne-eqb d 0 z, hold-after k lk (w2 .served 0 (omega arith)), t .figures-at .budget k q lk lq) (record {
         good = record {
           small = small;
           ranked = ranked;
@@ -195,19 +195,19 @@ module _ (p : Plan) (v : Valid p) (s : State) (w : Whole p s) {holds budgets key
   two : next < p .tasks → 2 ≤ maxBelow (p .tasks) (R (slot l 0))
   two a = omega (arith, a-next a, leave-max x)
 
-  hold-next : next < p .tasks → holdOf holds budgets seats q (slot l 0) 1 ≡ holdAt p next q
+  hold-next : next < p .tasks → holdOf figures seats q (slot l 0) 1 ≡ holdAt p next q
   hold-next a = rw (eq-eqb (slot l 0) _ refl) at (hold-after (slot l 0) head-low (a-next a))
 
   -- what the rule makes of the line
   abbrev ruled : Rules.Line
   ruled = Rules.leave (terms p q) (l .«budget_left») (queueFrom (p .tasks) R (l .queued) (slot l))
 
-  shown-as : (g : Line) (m : Rules.Line) → Shown p us q g m → Rules.leave (terms p q) (l .«budget_left») (queueFrom (p .tasks) R (suc c) (slot l)) ≡ m
+  shown-as : (g : LineRow) (m : Rules.Line) → Shown p us q g m → Rules.leave (terms p q) (l .«budget_left») (queueFrom (p .tasks) R (suc c) (slot l)) ≡ m
       → Shown p us q g ruled
   shown-as g m y e = record { good = y .good; shows = y .shows ∙ sym (rw count e) }
 
   -- the three ways on
-  pass-last : p .tasks ≤ next → Shown p us q (begun holds budgets seats q (slot l 0) (shifted (l .queue)) c) ruled
+  pass-last : p .tasks ≤ next → Shown p us q (begun figures seats q (slot l 0) (shifted (l .queue)) c) ruled
   pass-last a =
       let same : (j : ℕ) → j < c → getD (shifted (l .queue)) j 0 ≡ slot l (suc j) = λ j y. shifted-at (l .queue) j (omega (arith, h .small)) in
       shown-as _ _
@@ -216,7 +216,7 @@ module _ (p : Plan) (v : Valid p) (s : State) (w : Whole p s) {holds budgets key
       (leave-last (terms p q) x queued (l .«budget_left») (λ i. getD (shifted (l .queue)) i 0) (no-next a) same)
 
   pass-back : next < p .tasks → l .«budget_left» < holdAt p next q
-      → Shown p us q (begun holds budgets seats q (slot l 0) (turned (l .queue) (l .queued)) (l .queued)) ruled
+      → Shown p us q (begun figures seats q (slot l 0) (turned (l .queue) (l .queued)) (l .queued)) ruled
   pass-back a b =
       let g : List ℕ = turned (l .queue) (l .queued) in
       let same : (j : ℕ) → j < c → getD g j 0 ≡ slot l (suc j) =
@@ -247,13 +247,13 @@ module _ (p : Plan) (v : Valid p) (s : State) (w : Whole p s) {holds budgets key
       ∙ ap (λ (d : ℕ). Rules.line (holdAt p next q) (l .«budget_left») (queueFrom (p .tasks) S d (slot l))) (sym count))
 
   -- the line once its holder left
-  pub passed-shown : Shown p us q (passed holds budgets seats q l) ruled
+  pub passed-shown : Shown p us q (passed figures seats q l) ruled
   unfolding passed
   passed-shown =
-      on-le (Shown p us q (passed holds budgets seats q l) ruled) (p .tasks) next
+      on-le (Shown p us q (passed figures seats q l) ruled) (p .tasks) next
       (λ a. rw (second, le-ltb next (p .tasks) a) (pass-last a))
       (λ a. let there : getD seats (seat q (slot l 0) 1) 0 ≡ next + 1 = rw (lt-ltb next (p .tasks) a) at second in
       let some : getD seats (seat q (slot l 0) 1) 0 ≢ 0 = λ e. omega arith in
-      on-le (Shown p us q (passed holds budgets seats q l) ruled) (holdAt p next q) (l .«budget_left»)
+      on-le (Shown p us q (passed figures seats q l) ruled) (holdAt p next q) (l .«budget_left»)
       (λ b. rw (ne-eqb _ 0 some, hold-next a, le-leb _ _ b) (pass-next a b))
       (λ b. rw (ne-eqb _ 0 some, hold-next a, lt-leb _ _ b) (pass-back a b)))

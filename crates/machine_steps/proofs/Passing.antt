@@ -10,14 +10,18 @@ use lib.ListN.{getD}
 use lib.Seq.{getD-set-other}
 use mir.Val.{boolByte}
 use Rattle.folds.proofs.Arrays.{by-eq}
-use Rattle.machine_state.specs.declared.Line.{Line}
+use Rattle.machine_state.specs.declared.LineRow.{LineRow}
 use Rattle.machine_state.specs.Shows.{slot}
-use Rattle.machine_state.specs.Seats.{seat}
-use Rattle.machine_steps.specs.Steps.{Ready, shifted, turned}
+use Rattle.machine_state.specs.Inner.{seat, seatCount}
+use Rattle.machine_steps.specs.Inner.{Ready, Begins, shifted, turned}
 
 -- a seat read by a copy w of its processor's number
 pub seat-read : (t : List ℕ) (q k j : ℕ) {w r : ℕ} → w ≡ k → r ≡ getD t ((q * 8 + w) * 64 + j) 0 → r ≡ getD t (seat q k j) 0
 seat-read t q k j e p = p ∙ ap (λ (v : ℕ). getD t ((q * 8 + v) * 64 + j) 0) e
+
+-- a seat of a queue is in the table
+pub seat-within : {q k j : ℕ} → q < 16 → k < 8 → j < 64 → seat q k j < seatCount
+seat-within a b c = omega arith
 
 -- a test as a number
 pub flag : (b : Bool) → boolByte b ≡ cond b 1 0
@@ -28,21 +32,20 @@ pub flag-low : (b : Bool) → boolByte b ≤ 1
 flag-low true = omega arith
 flag-low false = omega arith
 
--- processor k can begin once the first task of processor `gone` left
-abbrev pub Begins : List ℕ → ℕ → ℕ → ℕ → Type 0
-Begins seats q gone k = (k < 8) × (1 ≤ getD seats (seat q k (cond (eqb k gone) 1 0)) 0)
-
 -- the second in line can once the head left
-pub next-begins : (seats : List ℕ) (q : ℕ) (l : Line) → Ready seats q l → 2 ≤ l .queued → Begins seats q (slot l 0) (slot l 1)
+pub next-begins : (seats : List ℕ) (q : ℕ) (l : LineRow) → Ready seats q l → 2 ≤ l .queued → Begins seats q (slot l 0) (slot l 1)
 next-begins seats q l r m =
-    (r .placed 1 (omega arith), rw (ne-eqb (slot l 1) (slot l 0) (r .once 1 (omega arith) (omega arith))) (r .seated 1 (omega arith)))
+    record {
+      core = r .placed 1 (omega arith);
+      taken = rw (ne-eqb (slot l 1) (slot l 0) (r .once 1 (omega arith) (omega arith))) (r .seated 1 (omega arith));
+    }
 
 -- and so can the head of the turned queue: the second in line, or a lone head with another task
-pub turned-begins : (seats : List ℕ) (q : ℕ) (l : Line) → Ready seats q l → 1 ≤ getD seats (seat q (slot l 0) 1) 0
+pub turned-begins : (seats : List ℕ) (q : ℕ) (l : LineRow) → Ready seats q l → 1 ≤ getD seats (seat q (slot l 0) 1) 0
     → Begins seats q (slot l 0) (getD (turned (l .queue) (l .queued)) 0 0)
 turned-begins seats q l r m =
     by-eq (λ (b : Bool). Begins seats q (slot l 0) (getD (turned (l .queue) (l .queued)) 0 0)) (l .queued) 1
-    (λ e. subst (Begins seats q (slot l 0)) (sym (lone e)) (r .placed 0 (omega (arith, r .some)), rw (eq-eqb (slot l 0) (slot l 0) refl) m))
+    (λ e. subst (Begins seats q (slot l 0)) (sym (lone e)) (record { core = r .placed 0 (omega (arith, r .some)); taken = rw (eq-eqb (slot l 0) (slot l 0) refl) m }))
     (λ d. subst (Begins seats q (slot l 0)) (sym (more d)) (next-begins seats q l r (omega (arith, r .some))))
   where
     lone : l .queued ≡ 1 → getD (turned (l .queue) (l .queued)) 0 0 ≡ slot l 0
@@ -52,7 +55,7 @@ turned-begins seats q l r m =
     more d = getD-set-other (shifted (l .queue)) (l .queued - 1) 0 (slot l 0) 0 (λ e. omega (arith, r .some))
 
 -- the clock of a line is no matter
-pub ready-again : (seats : List ℕ) (q : ℕ) (l : Line) (hold budget : ℕ) → Ready seats q l
+pub ready-again : (seats : List ℕ) (q : ℕ) (l : LineRow) (hold budget : ℕ) → Ready seats q l
     → Ready seats q (record { queued = l .queued; queue = l .queue; «hold_left» = hold; «budget_left» = budget })
 ready-again seats q l hold budget r =
     record { some = r .some; few = r .few; placed = r .placed; once = r .once; seated = r .seated }

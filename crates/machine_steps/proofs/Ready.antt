@@ -8,22 +8,19 @@ use borrow.Author.Tests.{lt-ltb}
 use lib.Dec.{ltb}
 use lib.ListN.{length, getD}
 use Rattle.plan_reading.specs.Plan.{Plan, Valid}
-use Rattle.analysis_equations.specs.HoldTimes.{holdAt}
-use Rattle.analysis_hold_times.specs.Holds.{Cells, Shares}
+use Rattle.analysis_hold_times.specs.Figures.{Figures}
 use Rattle.queue_ranks.specs.Ranks.{taskAt}
-use Rattle.folds.proofs.Searches.{on-le}
 use Rattle.queue_ranks.proofs.Ranked.{seated, sole, full}
 use Rattle.machine_state.specs.declared.State.{State}
 use Rattle.machine_state.specs.Shows.{lineAt, slot, rank}
-use Rattle.machine_state.specs.Seats.{seat, Keys, Seats}
+use Rattle.machine_state.specs.Inner.{seat, Keys, Seats, Sized}
 use Rattle.machine_state.proofs.Good.{Whole}
-use Rattle.machine_state.proofs.Tables.{seat-high}
-use Rattle.machine_steps.specs.Steps.{Sized, Ready, Running}
+use Rattle.machine_state.proofs.Tables.{sized-by}
+use Rattle.machine_steps.specs.Inner.{Ready, Running}
 
 -- the tables of a state, and the lengths of its rows
-pub record Tabled (p : Plan) (s : State) (holds budgets keys seats : List ℕ) : Type 0 where
-  pub holds-at : Cells (holdAt p) holds
-  pub budgets-at : Shares p budgets
+pub record Tabled (p : Plan) (s : State) (figures keys seats : List ℕ) : Type 0 where
+  pub figures-at : Figures p figures
   pub keys-at : Keys p (s .tasks) keys
   pub seats-at : Seats p (s .tasks) seats
   pub tasks-long : length (s .tasks) ≡ 64
@@ -47,17 +44,9 @@ module _ (p : Plan) (s : State) (w : Whole p s) where
         → getD seats (seat q k j) 0 ≡ taskAt (p .tasks) (rank p (s .tasks) q k) (j + 1) + 1
     seat-some q k j lq lk lj l = seat-task q k j lq lk lj ∙ rw (lt-ltb _ _ l)
 
-module _ (p : Plan) (v : Valid p) (s : State) (w : Whole p s) {holds budgets keys seats : List ℕ} (t : Tabled p s holds budgets keys seats) where
-  pub sized : Sized holds budgets keys seats
-  sized = record {
-    holds-long = t .holds-at .long;
-    budgets-long = t .budgets-at .long;
-    keys-long = t .keys-at .long;
-    seats-long = t .seats-at .long;
-    keys-low = λ u l. on-le (getD keys u 0 < 8193) (p .tasks) u
-        (λ a. omega (arith, t .keys-at .rest u l a)) (λ a. seat-high p v (s .tasks) keys (t .keys-at) u a);
-    seats-low = t .seats-at .low;
-  }
+module _ (p : Plan) (v : Valid p) (s : State) (w : Whole p s) {figures keys seats : List ℕ} (t : Tabled p s figures keys seats) where
+  pub sized : Sized figures keys seats
+  sized = sized-by p v (s .tasks) keys (t .keys-at) (t .figures-at) (t .seats-at)
 
   module _ (q : ℕ) (lq : q < 16) (held : 1 ≤ lineAt s q .queued) where
     low-slot : (i : ℕ) → i < lineAt s q .queued → slot (lineAt s q) i < 8

@@ -10,18 +10,18 @@ use lib.ListN.{getD}
 use Rattle.folds.specs.Below.{allBelow, sumBelow}
 use Rattle.folds.proofs.Tests.{all-more, find-at, find-none}
 use Rattle.folds.proofs.Figures.{sum-step}
-use Rattle.analysis_hold_times.specs.Holds.{cell}
-use Rattle.machine_state.specs.Seats.{seat}
-use Rattle.machine_steps.specs.Steps.{taken, takenHolds}
+use Rattle.analysis_hold_times.specs.Figures.{holdCell}
+use Rattle.machine_state.specs.Inner.{seat}
+use Rattle.machine_steps.specs.Inner.{taken, takenHolds, AheadOf}
 
-module _ (holds seats : List ℕ) (q k : ℕ) where
+module _ (figures seats : List ℕ) (q k : ℕ) where
   -- nobody has the i-th seat of the queue of processor k for q
   abbrev empty : ℕ → Bool
   empty i = eqb (getD seats (seat q k i) 0) 0
 
   -- the hold time of the task with this number plus 1, and that of who has the i-th seat
   abbrev holdBy : ℕ → ℕ
-  holdBy r = getD holds (cell (r - 1) q) 0
+  holdBy r = getD figures (holdCell (r - 1) q) 0
 
   abbrev holdIn : ℕ → ℕ
   holdIn i = holdBy (getD seats (seat q k i) 0)
@@ -49,11 +49,11 @@ module _ (holds seats : List ℕ) (q k : ℕ) where
 
   -- what is found at the first empty seat, and where there is none
   abbrev pub Found : ℕ → ℕ → Type 0
-  Found j sum = (j ≡ taken seats q k) × (sum ≡ takenHolds holds seats q k) × (j ≤ 64) × (sum ≤ 4194240)
+  Found j sum = AheadOf figures seats q k (record { count = j; holds = sum })
 
   found : (j sum : ℕ) → Counted j sum → taken seats q k ≡ j → Found j sum
   unfolding takenHolds
-  found j sum c e = (sym e, rw e (c .sums), c .few, omega (arith, c .small, c .few))
+  found j sum c e = record { counted = sym e; held = rw e (c .sums); few = c .few; small = omega (arith, c .small, c .few) }
 
   pub found-empty : (j sum : ℕ) → Counted j sum → j < 64 → getD seats (seat q k j) 0 ≡ 0 → Found j sum
   unfolding taken

@@ -21,12 +21,12 @@ use Rattle.queue_ranks.specs.Ranks.{listFrom, queueFrom}
 use Rattle.folds.proofs.Searches.{on-eq, same-eqb}
 use Rattle.queue_ranks.proofs.Leave.{tick-none, tick-some}
 use Rattle.queue_ranks.proofs.LeaveKeeps.{tick-timed}
-use Rattle.machine_state.specs.declared.Line.{Line}
+use Rattle.machine_state.specs.declared.LineRow.{LineRow}
 use Rattle.machine_state.specs.declared.State.{State}
 use Rattle.machine_state.specs.Shows.{noLine, lineAt, slot, rank, shownLine, shows}
-use Rattle.machine_state.specs.Seats.{queueAt}
+use Rattle.machine_state.specs.Inner.{queueAt}
 use Rattle.machine_state.proofs.Good.{Good, Whole}
-use Rattle.machine_steps.specs.Steps.{passed, stepped, ends, endedOf, steppedLines, ticked, cutWord, grantWord}
+use Rattle.machine_steps.specs.Inner.{passed, stepped, ends, endedOf, steppedLines, ticked, cutWord, grantWord}
 use Rattle.machine_steps.proofs.Ready.{Tabled}
 use Rattle.machine_steps.proofs.Falling.{Ended, ranks-leave, ranks-stay, rows-after}
 use Rattle.machine_steps.proofs.Passed.{Shown, stays-shown, past-shows, all-shown, Held, passed-shown}
@@ -36,16 +36,16 @@ on-test A true f g = f refl
 on-test A false f g = g refl
 
 -- a line that a tick does not cut, and one that it does
-ends-free : (l : Line) → l .queued ≡ 0 → ends l ≡ false
+ends-free : (l : LineRow) → l .queued ≡ 0 → ends l ≡ false
 ends-free l e = rw e
 
-ends-on : (l : Line) → l .«hold_left» ≢ 1 → ends l ≡ false
+ends-on : (l : LineRow) → l .«hold_left» ≢ 1 → ends l ≡ false
 ends-on l n = rw (ne-eqb (l .«hold_left») 1 n) (and-false (ltb 0 (l .queued)))
 
-ends-cut : (l : Line) → 1 ≤ l .queued → l .«hold_left» ≡ 1 → ends l ≡ true
+ends-cut : (l : LineRow) → 1 ≤ l .queued → l .«hold_left» ≡ 1 → ends l ≡ true
 ends-cut l a e = rw (lt-ltb 0 (l .queued) a) (eq-eqb (l .«hold_left») 1 e)
 
-ends-held : (l : Line) → ends l ≡ true → 1 ≤ l .queued
+ends-held : (l : LineRow) → ends l ≡ true → 1 ≤ l .queued
 ends-held l e = ltb-true 0 (l .queued) (and-parts (ltb 0 (l .queued)) (eqb (l .«hold_left») 1) e .0)
 
 -- what stands for a queue in the table of those that lose their first
@@ -96,20 +96,20 @@ module _ (p : Plan) (v : Valid p) (s : State) (w : Whole p s) where
       nothing true = refl
       nothing false = refl
 
-module _ (p : Plan) (v : Valid p) (s : State) (w : Whole p s) {holds budgets keys seats : List ℕ} (t : Tabled p s holds budgets keys seats) where
+module _ (p : Plan) (v : Valid p) (s : State) (w : Whole p s) {figures keys seats : List ℕ} (t : Tabled p s figures keys seats) where
   abbrev T : State
-  T = ticked holds budgets keys seats s
+  T = ticked figures keys seats s
 
   -- ── the line of q ──
   module _ (q : ℕ) (lq : q < 16) where
-    abbrev l : Line
+    abbrev l : LineRow
     l = lineAt s q
 
     -- with a tick less of both
-    abbrev less : Line
+    abbrev less : LineRow
     less = record { queued = l .queued; queue = l .queue; «hold_left» = l .«hold_left» - 1; «budget_left» = l .«budget_left» - 1 }
 
-    shown-as : (g : Line) (m : Rules.Line) → Shown p (T .tasks) q g m → Rules.ticked (terms p q) (shownLine p (s .tasks) q l) ≡ m
+    shown-as : (g : LineRow) (m : Rules.Line) → Shown p (T .tasks) q g m → Rules.ticked (terms p q) (shownLine p (s .tasks) q l) ≡ m
         → Shown p (T .tasks) q g (Rules.ticked (terms p q) (shownLine p (s .tasks) q l))
     shown-as g m y e = record { good = y .good; shows = y .shows ∙ sym e }
 
@@ -126,7 +126,7 @@ module _ (p : Plan) (v : Valid p) (s : State) (w : Whole p s) {holds budgets key
         tick-some (p .tasks) (terms p q) (rank p (s .tasks) q) (l .queued) (slot l) (l .«hold_left») (l .«budget_left») a ∙ rw e
 
     tick-cut : 1 ≤ l .queued → l .«hold_left» ≡ 1
-        → Shown p (T .tasks) q (passed holds budgets seats q less) (Rules.ticked (terms p q) (shownLine p (s .tasks) q l))
+        → Shown p (T .tasks) q (passed figures seats q less) (Rules.ticked (terms p q) (shownLine p (s .tasks) q l))
     tick-cut a e =
         let g : Good p (s .tasks) q l = w .lines q lq in
         let h : Held p (s .tasks) q less = record {
@@ -155,28 +155,28 @@ module _ (p : Plan) (v : Valid p) (s : State) (w : Whole p s) {holds budgets key
         }))
         (ruled a false (ne-eqb (l .«hold_left» - 1) 0 (λ e. omega arith)))
 
-    ticked-line : lineAt T q ≡ stepped holds budgets seats q l
+    ticked-line : lineAt T q ≡ stepped figures seats q l
     unfolding steppedLines
-    ticked-line = each-at noLine (λ q l. stepped holds budgets seats q l) 16 q (s .lines) lq (omega (arith, t .lines-long))
+    ticked-line = each-at noLine (λ q l. stepped figures seats q l) 16 q (s .lines) lq (omega (arith, t .lines-long))
 
     ticked-shown : Shown p (T .tasks) q (lineAt T q) (Rules.ticked (terms p q) (shows p s .lines q))
     unfolding stepped shows
     ticked-shown =
         rw ticked-line
-        (on-eq (Shown p (T .tasks) q (stepped holds budgets seats q l) (Rules.ticked (terms p q) (shows p s .lines q))) (l .queued) 0
+        (on-eq (Shown p (T .tasks) q (stepped figures seats q l) (Rules.ticked (terms p q) (shows p s .lines q))) (l .queued) 0
         (λ e. rw (eq-eqb (l .queued) 0 e) (tick-free e))
-        (λ n. on-eq (Shown p (T .tasks) q (stepped holds budgets seats q l) (Rules.ticked (terms p q) (shows p s .lines q))) (l .«hold_left») 1
+        (λ n. on-eq (Shown p (T .tasks) q (stepped figures seats q l) (Rules.ticked (terms p q) (shows p s .lines q))) (l .«hold_left») 1
         (λ e. rw (ne-eqb (l .queued) 0 n, eq-eqb (l .«hold_left») 1 e) (tick-cut (omega arith) e))
         (λ m. rw (ne-eqb (l .queued) 0 n, ne-eqb (l .«hold_left») 1 m) (tick-on (omega arith) m))))
 
-  pub ticked-whole : Whole p (ticked holds budgets keys seats s)
+  pub ticked-whole : Whole p (ticked figures keys seats s)
   ticked-whole = record { rows = rows-after p v s w t (ended p v s w); lines = λ q lq. ticked-shown q lq .good }
 
-  pub ticked-shows : shows p (ticked holds budgets keys seats s) ≡ record { lines = λ q. Rules.ticked (terms p q) (shows p s .lines q) }
+  pub ticked-shows : shows p (ticked figures keys seats s) ≡ record { lines = λ q. Rules.ticked (terms p q) (shows p s .lines q) }
   unfolding steppedLines
   ticked-shows =
       all-shown p T (λ q. Rules.ticked (terms p q) (shows p s .lines q))
-      (each-length noLine (λ q l. stepped holds budgets seats q l) 16 (s .lines) ∙ t .lines-long) ticked-shown
+      (each-length noLine (λ q l. stepped figures seats q l) 16 (s .lines) ∙ t .lines-long) ticked-shown
       (λ q a. rw (past-shows p s q (t .lines-long) a))
 
 -- a line is cut where one tick of the hold is left, and held where somebody is queued
@@ -192,23 +192,23 @@ unfolding listFrom
 held-line n R zero g h b = refl
 held-line n R (suc c) g h b = lt-ltb 0 (suc c) (omega arith)
 
-module _ (p : Plan) (v : Valid p) (s : State) (w : Whole p s) {holds budgets keys seats : List ℕ} (t : Tabled p s holds budgets keys seats) where
+module _ (p : Plan) (v : Valid p) (s : State) (w : Whole p s) {figures keys seats : List ℕ} (t : Tabled p s figures keys seats) where
   ends-cuts : (q : ℕ) → q < 16 → ends (lineAt s q) ≡ Rules.cut (shows p s .lines q)
   unfolding shows
   ends-cuts q lq =
-      let l : Line = lineAt s q in
+      let l : LineRow = lineAt s q in
       cut-line (p .tasks) (rank p (s .tasks) q) (l .queued) (slot l) (l .«hold_left») (l .«budget_left») (λ a. w .lines q lq .timed .runs a .0)
 
   pub cut-word : cutWord (s .lines) ≡ wordBelow 16 (λ q. Rules.cut (shows p s .lines q))
   unfolding cutWord
   cut-word = word-same 16 (λ q. ends (lineAt s q)) (λ q. Rules.cut (shows p s .lines q)) ends-cuts
 
-  pub grant-word : grantWord (s .lines) (ticked holds budgets keys seats s .lines) ≡ wordBelow 16 (regranted p (shows p s))
+  pub grant-word : grantWord (s .lines) (ticked figures keys seats s .lines) ≡ wordBelow 16 (regranted p (shows p s))
   unfolding grantWord
   grant-word = word-same 16 _ (regranted p (shows p s)) (λ q lq. ap₂ _&&_ (ends-cuts q lq) (holding q lq))
     where
-      holding : (q : ℕ) → q < 16 → ltb 0 (lineAt (ticked holds budgets keys seats s) q .queued) ≡ held (Rules.ticked (terms p q) (shows p s .lines q))
+      holding : (q : ℕ) → q < 16 → ltb 0 (lineAt (ticked figures keys seats s) q .queued) ≡ held (Rules.ticked (terms p q) (shows p s .lines q))
       holding q lq =
-          let l : Line = lineAt (ticked holds budgets keys seats s) q in
-          held-line (p .tasks) (rank p (ticked holds budgets keys seats s .tasks) q) (l .queued) (slot l) (l .«hold_left») (l .«budget_left»)
+          let l : LineRow = lineAt (ticked figures keys seats s) q in
+          held-line (p .tasks) (rank p (ticked figures keys seats s .tasks) q) (l .queued) (slot l) (l .«hold_left») (l .«budget_left»)
           ∙ ap held (ticked-shown p v s w t q lq .shows)

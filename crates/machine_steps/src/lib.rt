@@ -1,18 +1,19 @@
 // What a request, a release and a tick make of a sound state, by the tables of its plan. Every function here is for the machine:
 // each says in its `requires` what it relies on.
-use machine_state::Line;
+use machine_state::LineRow;
 use machine_state::Standing;
 use machine_state::State;
 ghost use mathlib.Core.Path.{_≡_};
-ghost use mathlib.Core.Bool.{cond, _&&_};
-ghost use Prim.Native.Nat.{ℕ, _-_, _≤_, _<_};
+ghost use mathlib.Core.Bool.{_&&_};
+ghost use Prim.Native.Nat.{_<_};
 ghost use lib.Dec.{eqb, ltb};
-ghost use lib.ListN.{length, getD};
+ghost use lib.ListN.{length};
 ghost use Rattle.folds.specs.Words.{bitOf};
-ghost use Rattle.analysis_hold_times.specs.Holds.{cell};
-ghost use Rattle.machine_state.specs.Shows.{noLine, lineAt, slot};
-ghost use Rattle.machine_state.specs.Seats.{seat};
-ghost use Rattle.machine_steps.specs.Steps.{Sized, Ready, Running, pushed, joined, taken, takenHolds, fallen, lowered, begun, passed, stepped, left, endedOf, steppedLines, ticked, cutWord, grantWord};
+ghost use Rattle.machine_state.specs.Shows.{lineAt};
+ghost use Rattle.machine_state.specs.Inner.{SeatSized, Sized};
+ghost use Rattle.machine_steps.specs.Inner.{pushed, joinedBy, fallen, lowered, holdOf, begun, passed, stepped, left};
+ghost use Rattle.machine_steps.specs.Inner.{QueueOf, PlaceTaken, Joining, Lowering, Beginning, Passing, Stepping, Leaving, AllRunning};
+ghost use Rattle.machine_steps.specs.Inner.{AheadOf, SteppedOf, TickedOf};
 
 // The tasks ahead in a queue: how many, and the sum of their hold times.
 pub struct Ahead {
@@ -23,7 +24,7 @@ pub struct Ahead {
 // What a tick makes of the lines: they after it, a mark for each queue that loses its first, the resources cut, and those of them
 // with a new grant.
 struct Stepped {
-    lines: [Line; 16],
+    lines: [LineRow; 16],
     marks: [u8; 129],
     cuts: u16,
     grants: u16,
@@ -37,9 +38,9 @@ pub struct Ticked {
 }
 
 // Those in the queue of processor k for q.
-pub fn ahead_of(holds: &[u16], seats: &[u8], q: usize, k: u8) -> Ahead
-    requires { ⌜ (length (now holds) ≡ 1024) × (length (now seats) ≡ 8193) × (q < 16) × (k < 8) × ((x : ℕ) → x < 8193 → getD (now seats) x 0 < 65) ⌝ }
-    ensures { λ r. ⌜ (r .count ≡ taken (now (seats .entry)) q k) × (r .holds ≡ takenHolds (now (holds .entry)) (now (seats .entry)) q k) × (r .count ≤ 64) × (r .holds ≤ 4194240) ⌝ }
+pub fn ahead_of(figures: &[u16], seats: &[u8], q: usize, k: u8) -> Ahead
+    requires { ⌜ QueueOf (now figures) (now seats) q k ⌝ }
+    ensures { λ r. ⌜ AheadOf (now (figures .entry)) (now (seats .entry)) q k r ⌝ }
 {
     let base = (q * 8 + folds::wide(k)) * 64;
     let mut sum = 0u32;
@@ -52,7 +53,7 @@ pub fn ahead_of(holds: &[u16], seats: &[u8], q: usize, k: u8) -> Ahead
                 holds: sum,
             };
         }
-        sum += holds[(sits - 1) * 16 + q] as u32;
+        sum += analysis_hold_times::hold_at(figures, sits - 1, q) as u32;
         j += 1;
     }
     Ahead {
@@ -62,14 +63,14 @@ pub fn ahead_of(holds: &[u16], seats: &[u8], q: usize, k: u8) -> Ahead
 }
 
 // The line with processor k at its tail, which begins where nobody was queued.
-fn push(line: Line, k: u8, hold: u16, budget: u16) -> Line
+fn push(line: LineRow, k: u8, hold: u16, budget: u16) -> LineRow
     requires { ⌜ line .queued < 8 ⌝ }
     ensures { λ r. ⌜ (r ≡ pushed line k hold budget) × (length (line .queue) ≡ 8) ⌝ }
 {
     let mut queue = line.queue;
     if line.queued == 0 {
         queue[0] = k;
-        return Line {
+        return LineRow {
             queued: 1,
             queue,
             hold_left: hold,
@@ -77,7 +78,7 @@ fn push(line: Line, k: u8, hold: u16, budget: u16) -> Line
         };
     }
     queue[line.queued as usize] = k;
-    Line {
+    LineRow {
         queued: line.queued + 1,
         queue,
         hold_left: line.hold_left,
@@ -86,17 +87,18 @@ fn push(line: Line, k: u8, hold: u16, budget: u16) -> Line
 }
 
 // Task i of processor k joins the line of q, behind `ahead` of its fellows.
-pub fn join(mut state: State, q: u8, i: usize, k: u8, ahead: u8, hold: u16, budget: u16) -> State
-    requires { ⌜ (q < 16) × (i < 64) × (ahead ≡ 0 → lineAt state q .queued < 8) ⌝ }
-    ensures { λ r. ⌜ r ≡ joined state q i k ahead hold budget ⌝ }
+pub fn join(mut state: State, figures: &[u16], q: u8, i: usize, k: u8, ahead: u8) -> State
+    requires { ⌜ Joining (now figures) state q i k ahead ⌝ }
+    ensures { λ r. ⌜ r ≡ joinedBy (now (figures .entry)) state q i k ahead ⌝ }
 {
-    state.tasks[i] = Standing {
-        resource: q,
-        place: ahead,
-    };
+    let row = machine_state::in_line(q, ahead);
+    state.tasks[i] = row;
     if ahead == 0 {
-        let line = state.lines[q as usize];
-        state.lines[q as usize] = push(line, k, hold, budget);
+        let r = folds::wide(q);
+        let hold = analysis_hold_times::hold_at(figures, i, r);
+        let budget = analysis_hold_times::budget_at(figures, folds::wide(k), r);
+        let line = state.lines[r];
+        state.lines[r] = push(line, k, hold, budget);
     }
     state
 }
@@ -107,22 +109,16 @@ fn fall(s: Standing, on: bool) -> Standing
 {
     if on {
         if s.place == 0 {
-            return Standing {
-                resource: 255,
-                place: 255,
-            };
+            return machine_state::idle();
         }
-        return Standing {
-            resource: s.resource,
-            place: s.place - 1,
-        };
+        return machine_state::moved_up(s);
     }
     s
 }
 
 // The rows of the tasks once the queues that `ended` marks lost their first.
 fn lower(tasks: [Standing; 64], keys: &[u16], ended: &[u8]) -> [Standing; 64]
-    requires { ⌜ (length (now keys) ≡ 64) × (length (now ended) ≡ 129) × ((u : ℕ) → u < 64 → getD (now keys) u 0 < 8193) ⌝ }
+    requires { ⌜ Lowering (now keys) (now ended) ⌝ }
     ensures { λ r. ⌜ r ≡ lowered (now (keys .entry)) (now (ended .entry)) tasks ⌝ }
 {
     let mut next = tasks;
@@ -139,29 +135,21 @@ fn lower(tasks: [Standing; 64], keys: &[u16], ended: &[u8]) -> [Standing; 64]
 }
 
 // The hold time of the task in place j of the queue of processor k for q.
-fn hold_of(holds: &[u16], seats: &[u8], q: usize, k: u8, j: usize) -> u16
-    requires { ⌜ (length (now holds) ≡ 1024) × (length (now seats) ≡ 8193) × (q < 16) × (k < 8) × (j < 64) × (1 ≤ getD (now seats) (seat q k j) 0) × (getD (now seats) (seat q k j) 0 < 65) ⌝ }
-    ensures { λ r. ⌜ r ≡ getD (now (holds .entry)) (cell (getD (now (seats .entry)) (seat q k j) 0 - 1) q) 0 ⌝ }
+fn hold_of(figures: &[u16], seats: &[u8], q: usize, k: u8, j: usize) -> u16
+    requires { ⌜ PlaceTaken (now figures) (now seats) q k j ⌝ }
+    ensures { λ r. ⌜ r ≡ holdOf (now (figures .entry)) (now (seats .entry)) q k j ⌝ }
 {
     let sits = folds::wide(seats[(q * 8 + folds::wide(k)) * 64 + j]);
-    holds[(sits - 1) * 16 + q]
+    analysis_hold_times::hold_at(figures, sits - 1, q)
 }
 
 // The head of a queue of c begins, once the first task of processor `gone` left.
-fn begin(
-    queue: [u8; 8],
-    c: u8,
-    gone: u8,
-    holds: &[u16],
-    budgets: &[u16],
-    seats: &[u8],
-    q: usize,
-) -> Line
-    requires { ⌜ (length (now holds) ≡ 1024) × (length (now budgets) ≡ 128) × (length (now seats) ≡ 8193) × (q < 16) × ((x : ℕ) → x < 8193 → getD (now seats) x 0 < 65) × (1 ≤ c → getD queue 0 0 < 8) × (1 ≤ c → 1 ≤ getD (now seats) (seat q (getD queue 0 0) (cond (eqb (getD queue 0 0) gone) 1 0)) 0) ⌝ }
-    ensures { λ r. ⌜ r ≡ begun (now (holds .entry)) (now (budgets .entry)) (now (seats .entry)) q gone queue c ⌝ }
+fn begin(queue: [u8; 8], c: u8, gone: u8, figures: &[u16], seats: &[u8], q: usize) -> LineRow
+    requires { ⌜ Beginning (now figures) (now seats) q gone queue c ⌝ }
+    ensures { λ r. ⌜ r ≡ begun (now (figures .entry)) (now (seats .entry)) q gone queue c ⌝ }
 {
     if c == 0 {
-        return Line {
+        return LineRow {
             queued: 0,
             queue,
             hold_left: 0,
@@ -170,29 +158,29 @@ fn begin(
     }
     let k = queue[0];
     let behind = k == gone;
-    Line {
+    LineRow {
         queued: c,
         queue,
-        hold_left: hold_of(holds, seats, q, k, behind as usize),
-        budget_left: budgets[folds::wide(k) * 16 + q],
+        hold_left: hold_of(figures, seats, q, k, behind as usize),
+        budget_left: analysis_hold_times::budget_at(figures, folds::wide(k), q),
     }
 }
 
 // The line once its holder left.
-fn pass(line: Line, holds: &[u16], budgets: &[u16], seats: &[u8], q: usize) -> Line
-    requires { ⌜ (length (now holds) ≡ 1024) × (length (now budgets) ≡ 128) × (length (now seats) ≡ 8193) × (q < 16) × ((x : ℕ) → x < 8193 → getD (now seats) x 0 < 65) × (Ready (now seats) q line) ⌝ }
-    ensures { λ r. ⌜ r ≡ passed (now (holds .entry)) (now (budgets .entry)) (now (seats .entry)) q line ⌝ }
+fn pass(line: LineRow, figures: &[u16], seats: &[u8], q: usize) -> LineRow
+    requires { ⌜ Passing (now figures) (now seats) q line ⌝ }
+    ensures { λ r. ⌜ r ≡ passed (now (figures .entry)) (now (seats .entry)) q line ⌝ }
 {
     let l = line.queue;
     let head = l[0];
     let next = seats[(q * 8 + folds::wide(head)) * 64 + 1];
     let mut queue = [l[1], l[2], l[3], l[4], l[5], l[6], l[7], 255];
     if next == 0 {
-        return begin(queue, line.queued - 1, head, holds, budgets, seats, q);
+        return begin(queue, line.queued - 1, head, figures, seats, q);
     }
-    let hold = hold_of(holds, seats, q, head, 1);
+    let hold = hold_of(figures, seats, q, head, 1);
     if hold <= line.budget_left {
-        return Line {
+        return LineRow {
             queued: line.queued,
             queue: l,
             hold_left: hold,
@@ -200,20 +188,13 @@ fn pass(line: Line, holds: &[u16], budgets: &[u16], seats: &[u8], q: usize) -> L
         };
     }
     queue[line.queued as usize - 1] = head;
-    begin(queue, line.queued, head, holds, budgets, seats, q)
+    begin(queue, line.queued, head, figures, seats, q)
 }
 
 // The holder of q leaves.
-pub fn leave(
-    mut state: State,
-    holds: &[u16],
-    budgets: &[u16],
-    keys: &[u16],
-    seats: &[u8],
-    q: usize,
-) -> State
-    requires { ⌜ (Sized (now holds) (now budgets) (now keys) (now seats)) × (q < 16) × (Ready (now seats) q (lineAt state q)) ⌝ }
-    ensures { λ r. ⌜ r ≡ left (now (holds .entry)) (now (budgets .entry)) (now (keys .entry)) (now (seats .entry)) q state ⌝ }
+pub fn leave(mut state: State, figures: &[u16], keys: &[u16], seats: &[u8], q: usize) -> State
+    requires { ⌜ Leaving (now figures) (now keys) (now seats) q (lineAt state q) ⌝ }
+    ensures { λ r. ⌜ r ≡ left (now (figures .entry)) (now (keys .entry)) (now (seats .entry)) q state ⌝ }
 {
     let line = state.lines[q];
     let queue = line.queue;
@@ -221,35 +202,35 @@ pub fn leave(
     marks[q * 8 + folds::wide(queue[0])] = 1;
     let rows = state.tasks;
     let tasks = lower(rows, keys, &marks);
-    let after = pass(line, holds, budgets, seats, q);
+    let after = pass(line, figures, seats, q);
     state.lines[q] = after;
     state.tasks = tasks;
     state
 }
 
 // The line of q after a tick.
-fn step(line: Line, holds: &[u16], budgets: &[u16], seats: &[u8], q: usize) -> Line
-    requires { ⌜ (length (now holds) ≡ 1024) × (length (now budgets) ≡ 128) × (length (now seats) ≡ 8193) × (q < 16) × ((x : ℕ) → x < 8193 → getD (now seats) x 0 < 65) × (1 ≤ line .queued → Running (now seats) q line) ⌝ }
-    ensures { λ r. ⌜ r ≡ stepped (now (holds .entry)) (now (budgets .entry)) (now (seats .entry)) q line ⌝ }
+fn step(line: LineRow, figures: &[u16], seats: &[u8], q: usize) -> LineRow
+    requires { ⌜ Stepping (now figures) (now seats) q line ⌝ }
+    ensures { λ r. ⌜ r ≡ stepped (now (figures .entry)) (now (seats .entry)) q line ⌝ }
 {
     if line.queued == 0 {
         return line;
     }
     let queue = line.queue;
-    let after = Line {
+    let after = LineRow {
         queued: line.queued,
         queue,
         hold_left: line.hold_left - 1,
         budget_left: line.budget_left - 1,
     };
     if line.hold_left == 1 {
-        return pass(after, holds, budgets, seats, q);
+        return pass(after, figures, seats, q);
     }
     after
 }
 
 // Whether a tick cuts the holder of a line.
-fn ends(line: Line) -> bool
+fn ends(line: LineRow) -> bool
     ensures { λ r. ⌜ r ≡ (ltb 0 (line .queued) && eqb (line .«hold_left») 1) ⌝ }
 {
     (0 < line.queued) & (line.hold_left == 1)
@@ -267,9 +248,9 @@ fn bit(on: bool, q: usize) -> u16
 }
 
 // The lines after a tick, in one pass with what the tick tells of them.
-fn step_lines(lines: [Line; 16], holds: &[u16], budgets: &[u16], seats: &[u8]) -> Stepped
-    requires { ⌜ (length (now holds) ≡ 1024) × (length (now budgets) ≡ 128) × (length (now seats) ≡ 8193) × ((x : ℕ) → x < 8193 → getD (now seats) x 0 < 65) × ((q : ℕ) → q < 16 → 1 ≤ getD lines q noLine .queued → Running (now seats) q (getD lines q noLine)) ⌝ }
-    ensures { λ r. ⌜ (r .lines ≡ steppedLines (now (holds .entry)) (now (budgets .entry)) (now (seats .entry)) lines) × (r .marks ≡ endedOf lines) × (r .cuts ≡ cutWord lines) × (r .grants ≡ grantWord lines (steppedLines (now (holds .entry)) (now (budgets .entry)) (now (seats .entry)) lines)) ⌝ }
+fn step_lines(lines: [LineRow; 16], figures: &[u16], seats: &[u8]) -> Stepped
+    requires { ⌜ (SeatSized (now figures) (now seats)) × (AllRunning (now seats) lines) ⌝ }
+    ensures { λ r. ⌜ SteppedOf (now (figures .entry)) (now (seats .entry)) lines r ⌝ }
 {
     let mut next = lines;
     let mut lost = [0u8; 129];
@@ -280,7 +261,7 @@ fn step_lines(lines: [Line; 16], holds: &[u16], budgets: &[u16], seats: &[u8]) -
         let line = next[q];
         let queue = line.queue;
         let on = ends(line);
-        let after = step(line, holds, budgets, seats, q);
+        let after = step(line, figures, seats, q);
         next[q] = after;
         cuts += bit(on, q);
         grants += bit(on & (0 < after.queued), q);
@@ -301,12 +282,12 @@ fn step_lines(lines: [Line; 16], holds: &[u16], budgets: &[u16], seats: &[u8]) -
 }
 
 // A tick. The rows of the tasks stay as they are where no hold ends.
-pub fn tick(mut state: State, holds: &[u16], budgets: &[u16], keys: &[u16], seats: &[u8]) -> Ticked
-    requires { ⌜ (Sized (now holds) (now budgets) (now keys) (now seats)) × ((q : ℕ) → q < 16 → 1 ≤ lineAt state q .queued → Running (now seats) q (lineAt state q)) ⌝ }
-    ensures { λ r. ⌜ (r .state ≡ ticked (now (holds .entry)) (now (budgets .entry)) (now (keys .entry)) (now (seats .entry)) state) × (r .cuts ≡ cutWord (state .lines)) × (r .grants ≡ grantWord (state .lines) (r .state .lines)) ⌝ }
+pub fn tick(mut state: State, figures: &[u16], keys: &[u16], seats: &[u8]) -> Ticked
+    requires { ⌜ (Sized (now figures) (now keys) (now seats)) × (AllRunning (now seats) (state .lines)) ⌝ }
+    ensures { λ r. ⌜ TickedOf (now (figures .entry)) (now (keys .entry)) (now (seats .entry)) state r ⌝ }
 {
     let lines = state.lines;
-    let stepped = step_lines(lines, holds, budgets, seats);
+    let stepped = step_lines(lines, figures, seats);
     let after = stepped.lines;
     state.lines = after;
     if stepped.cuts != 0 {

@@ -1,7 +1,8 @@
-// The printing program: reads a plan file and then calls of three bytes on standard input, and prints what each call does. What a
+// The printing program: reads a plan file and then calls on standard input, and prints what each call does. What a
 // line says is the work of `transcript`; here bytes are only read and written.
 use libc::STDIN_FILENO;
 use libc::STDOUT_FILENO;
+use machine_calls::WIDTH;
 use machine_state::State;
 use plan::ReadAnswer;
 ghost use Prim.Native.Nat.{_-_, _≤_};
@@ -46,7 +47,7 @@ fn serve(file: &[u8], start: State, calls: &[u8], out: &mut [u8]) -> Served
     let mut state = start;
     let mut used = 0;
     let mut written = true;
-    while written & (3 <= calls.len() - used) {
+    while written & (WIDTH <= calls.len() - used) {
         let batch = print_calls::lines(file, state, &calls[used..], out);
         let end = batch.length;
         written = io::write_all(STDOUT_FILENO, &out[0..end]) & (batch.refusal == 0);

@@ -1,5 +1,5 @@
--- What three bytes print and do, once it is known whether they are a call.
-use Prim.Native.Nat.{ℕ, _+_, _≤_}
+-- What the bytes of a call print and do, once it is known whether they are a call.
+use Prim.Native.Nat.{ℕ}
 use mathlib.Core.List.{List, [], _∷_}
 use mathlib.Core.Path.{_≡_, refl, sym}
 use Rattle.machine_rules.specs.declared.Call.{Call}
@@ -7,26 +7,27 @@ use Rattle.machine_rules.specs.declared.Answer.{Answer}
 use Rattle.machine_state.specs.declared.State.{State}
 use Rattle.print_text.specs.Text.{PutIn}
 use Rattle.machine.specs.Replies.{reply, Next}
-use Rattle.machine.specs.Promise.{callOf}
+use Rattle.machine_calls.specs.declared.CallBytes.{CallBytes}
+use Rattle.machine_calls.specs.Calls.{callIn}
 use Rattle.print_lines.specs.Lines.{refusedLine, answerLine}
 use Rattle.print_calls.specs.Calls.{callLine}
 use Rattle.print_calls.specs.Inner.{Stepped}
 
-module _ (f : List ℕ) (s : State) (letter tag q : ℕ) where
-  line-none : callOf letter tag q ≡ [] → callLine f s letter tag q ≡ refusedLine 21
+module _ (f : List ℕ) (s : State) (b : CallBytes) where
+  line-none : callIn b ≡ [] → callLine f s b ≡ refusedLine 21
   unfolding callLine
   line-none e = rw e
 
-  line-call : (c : Call) → callOf letter tag q ≡ c ∷ [] → callLine f s letter tag q ≡ answerLine f tag q (reply f s c)
+  line-call : (c : Call) → callIn b ≡ c ∷ [] → callLine f s b ≡ answerLine f (b .tag) (b .resource) (reply f s c)
   unfolding callLine
   line-call c e = rw e
 
   module _ {before now : List ℕ} {at end : ℕ} where
-    pub stepped-none : callOf letter tag q ≡ [] → PutIn before now at 96 (refusedLine 21) end
-        → Stepped f s letter tag q before now at (record { end = end; state = s })
+    pub stepped-none : callIn b ≡ [] → PutIn before now at 96 (refusedLine 21) end
+        → Stepped f s b before now at (record { end = end; state = s })
     stepped-none e p = record { line = rw (line-none e) p; after = rw e refl }
 
-    pub stepped-call : (c : Call) {a : Answer} {t : State} → callOf letter tag q ≡ c ∷ [] → a ≡ reply f s c → Next f s c t
-        → PutIn before now at 96 (answerLine f tag q a) end
-        → Stepped f s letter tag q before now at (record { end = end; state = t })
+    pub stepped-call : (c : Call) {a : Answer} {t : State} → callIn b ≡ c ∷ [] → a ≡ reply f s c → Next f s c t
+        → PutIn before now at 96 (answerLine f (b .tag) (b .resource) a) end
+        → Stepped f s b before now at (record { end = end; state = t })
     stepped-call c e r n p = record { line = rw (line-call c e, ← r) p; after = rw e n }

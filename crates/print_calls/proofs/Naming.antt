@@ -16,11 +16,12 @@ use Rattle.queue_rules.specs.Rules.{Line, line, turn, released}
 use Rattle.machine_rules.specs.declared.Call.{Call}
 use Rattle.machine_rules.specs.declared.Call.the-variants.{Request, Release, Tick}
 use Rattle.machine_rules.specs.declared.Answer.the-variants.{Refused}
-use Rattle.machine_rules.specs.Machine.{View, terms, busy, requestCode, releaseCode, callCode, requestTold, releaseTold, told}
+use Rattle.machine_rules.specs.Machine.{View, terms, busy, requestCode, releaseCode, callCode, requestTold, releaseTold, acceptedAnswer}
 use Rattle.machine_state.specs.declared.State.{State}
 use Rattle.machine_state.specs.Shows.{shows}
 use Rattle.machine.specs.Replies.{stateRefusal, callRefusal, reply}
-use Rattle.machine.specs.Promise.{callOf}
+use Rattle.machine_calls.specs.declared.CallBytes.{CallBytes}
+use Rattle.machine_calls.specs.Calls.{callOf, callIn}
 use Rattle.print_lines.specs.Naming.{Nameable, Names}
 
 module _ (p : Plan) (m : View) (tag q : ℕ) where
@@ -46,15 +47,15 @@ module _ (f : List ℕ) (q : ℕ) where
 module _ (f : List ℕ) (bytes : (k : ℕ) → k < length f → getD f k 0 < 256) (s : State) where
   -- a call that is not refused
   reply-names : (c : Call) (q : ℕ)
-      → (callCode (planOf f) (shows (planOf f) s) c ≡ 0 → Checked f → Names f q (told (planOf f) (shows (planOf f) s) c))
+      → (callCode (planOf f) (shows (planOf f) s) c ≡ 0 → Checked f → Names f q (acceptedAnswer (planOf f) (shows (planOf f) s) c))
       → Names f q (reply f s c)
   unfolding reply callRefusal
   reply-names c q n =
-      by-eq (λ (b : Bool). Names f q (cond b (told (planOf f) (shows (planOf f) s) c) (Refused (callRefusal f s c)))) (callRefusal f s c) 0
+      by-eq (λ (b : Bool). Names f q (cond b (acceptedAnswer (planOf f) (shows (planOf f) s) c) (Refused (callRefusal f s c)))) (callRefusal f s c) 0
       (λ e. n (then-zero (stateRefusal f s) _ e) (accepted-checked (record { none = first-zero (refusal f) _ (first-zero (stateRefusal f s) _ e); bytes = bytes })))
       (λ d. tt)
 
-  -- three bytes that are a call
+  -- bytes that are a call
   each-names : ℕ → List Call → Type 0
   each-names q [] = Unit {0}
   each-names q (c ∷ cs) = Names f q (reply f s c)
@@ -69,6 +70,6 @@ module _ (f : List ℕ) (bytes : (k : ℕ) → k < length f → getD f k 0 < 256
       go false false true = reply-names Tick q (λ e h. tt)
       go false false false = tt
 
-  pub call-names : (letter tag q : ℕ) (c : Call) → callOf letter tag q ≡ c ∷ [] → Names f q (reply f s c)
+  pub call-names : (b : CallBytes) (c : Call) → callIn b ≡ c ∷ [] → Names f (b .resource) (reply f s c)
   unfolding each-names
-  call-names letter tag q c e = rw e at (bytes-name letter tag q)
+  call-names b c e = rw e at (bytes-name (b .letter) (b .tag) (b .resource))

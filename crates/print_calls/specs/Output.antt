@@ -3,33 +3,34 @@ use Prim.Native.Nat.{ℕ, zero, suc, _+_, _*_, _/_, _%_}
 use mathlib.Core.Bool.{cond}
 use mathlib.Core.List.{List, [], _∷_, _++_}
 use lib.Dec.{eqb}
-use lib.ListN.{length, getD, take, drop}
+use lib.ListN.{length, take, drop}
 use Rattle.plan_layout.specs.Layout.{countsOf}
 use Rattle.plan.specs.Acceptance.{refusal}
 use Rattle.plan.specs.Reading.{planLength}
 use Rattle.plan_reading.specs.Plan.{planOf}
 use Rattle.machine_rules.specs.declared.Call.{Call}
 use Rattle.machine_rules.specs.Machine.{answer, run}
-use Rattle.machine.specs.Promise.{callOf, callsBelow}
+use Rattle.machine_calls.specs.declared.CallBytes.{CallBytes}
+use Rattle.machine_calls.specs.Calls.{callWidth, bytesAt, callIn, callsBelow}
 use Rattle.print_lines.specs.Lines.{refusedLine, planLine}
 use Rattle.print_calls.specs.Calls.{lineOf}
 
--- the line of three bytes after a list of calls on a fresh machine
-abbrev pub lineAfter : List ℕ → List Call → ℕ → ℕ → ℕ → List ℕ
-lineAfter f before letter tag q = lineOf f tag q (answer (planOf f) (run (planOf f) before)) (callOf letter tag q)
+-- the line of a call after a list of calls on a fresh machine
+abbrev pub lineAfter : List ℕ → List Call → CallBytes → List ℕ
+lineAfter f before b = lineOf f b (answer (planOf f) (run (planOf f) before)) (callIn b)
 
--- the lines of the first n calls of three bytes
+-- the lines of the first n calls
 unfoldable pub linesBelow : List ℕ → ℕ → List ℕ → List ℕ
 linesBelow f zero l = []
-linesBelow f (suc n) l = linesBelow f n l ++ lineAfter f (callsBelow n l) (getD l (n * 3) 0) (getD l (n * 3 + 1) 0) (getD l (n * 3 + 2) 0)
+linesBelow f (suc n) l = linesBelow f n l ++ lineAfter f (callsBelow callWidth n l) (bytesAt callWidth l (n * callWidth))
 
 -- what the output ends with, for calls of n bytes: "1 or 2 left-over bytes print "refused 22" and end"
 unfoldable pub endLine : ℕ → List ℕ
-endLine n = cond (eqb (n % 3) 0) [] (refusedLine 22)
+endLine n = cond (eqb (n % callWidth) 0) [] (refusedLine 22)
 
 -- the lines of all whole calls, and the end
 unfoldable pub callsOutput : List ℕ → List ℕ → List ℕ
-callsOutput f l = linesBelow f (length l / 3) l ++ endLine (length l)
+callsOutput f l = linesBelow f (length l / callWidth) l ++ endLine (length l)
 
 -- the plan in a file and the calls behind it; "A refused plan prints its number in one line and nothing more"
 unfoldable pub fileOutput : List ℕ → List ℕ → List ℕ

@@ -1,13 +1,15 @@
 // What a call does, as a line of text in a lent buffer: document 01, "The printing program".
+use machine_calls::CallBytes;
+use machine_calls::WIDTH;
 use machine_state::State;
 use plan_rules::Counts;
 use print_text::Line;
 ghost use mathlib.Core.Path.{_≡_};
 ghost use Prim.Native.Nat.{_+_, _≤_};
 ghost use lib.ListN.{length};
-ghost use Rattle.machine.specs.Inner.{Surveyed};
+ghost use Rattle.machine.specs.Inner.{Surveyed, AfterBytes};
 ghost use Rattle.machine.specs.Replies.{stateRefusal};
-ghost use Rattle.machine.specs.Promise.{callOf, AfterBytes};
+ghost use Rattle.machine_calls.specs.Calls.{callIn};
 ghost use Rattle.print_lines.specs.Lines.{planLine};
 ghost use Rattle.print_calls.specs.Calls.{callLine};
 ghost use Rattle.print_calls.specs.Output.{endLine};
@@ -36,32 +38,29 @@ struct Step {
     state: State,
 }
 
-// Makes a call of three bytes, and puts its line.
+// Makes a call, and puts its line.
 fn put_call(
     buf: &mut [u8],
     at: usize,
     file: &[u8],
     code: u8,
-    holds: &[u16],
-    budgets: &[u16],
+    figures: &[u16],
     state: State,
-    letter: u8,
-    tag: u8,
-    resource: u8,
+    bytes: CallBytes,
 ) -> Step
-    requires { ⌜ (Surveyed (now file) code (now holds) (now budgets)) × (at + 96 ≤ length (now buf)) ⌝ }
-    ensures { λ r. ⌜ Stepped (now (file .entry)) state letter tag resource (now (buf .entry)) (now (buf .exit)) at r ⌝ }
+    requires { ⌜ (Surveyed (now file) code (now figures)) × (at + 96 ≤ length (now buf)) ⌝ }
+    ensures { λ r. ⌜ Stepped (now (file .entry)) state bytes (now (buf .entry)) (now (buf .exit)) at r ⌝ }
 {
-    let decoded = machine::decode(letter, tag, resource);
+    let decoded = machine_calls::decode(bytes.letter, bytes.tag, bytes.resource);
     if !decoded.known {
         let end = print_lines::put_refused(buf, at, 21);
         return Step { end, state };
     }
     let wanted = decoded.call;
-    let reply = machine::surveyed::call(file, code, holds, budgets, state, wanted);
+    let reply = machine::surveyed::call(file, code, figures, state, wanted);
     let answer = reply.answer;
     let next = reply.state;
-    let end = print_lines::put_answer(buf, at, file, tag, resource, answer);
+    let end = print_lines::put_answer(buf, at, file, bytes.tag, bytes.resource, answer);
     Step { end, state: next }
 }
 
@@ -70,7 +69,7 @@ pub fn end_line(left: usize, out: &mut [u8]) -> Line
     ensures { λ r. ⌜ r ≡ lineFor (endLine left) (length (now (out .entry))) ⌝ }
     ensures { λ r. ⌜ now (out .exit) ≡ lineIn (endLine left) (now (out .entry)) ⌝ }
 {
-    if left % 3 == 0 {
+    if left % WIDTH == 0 {
         return Line {
             refusal: 0,
             length: 0,
@@ -97,41 +96,22 @@ fn no_line(refusal: u8, state: State) -> CallLine
     CallLine { line, state }
 }
 
-// Makes a call of three bytes on a state: its line, and the next state. What the call itself is refused, 11 to 16 or 21, is its line.
+// Makes a call on a state: its line, and the next state. What the call itself is refused, 11 to 16 or 21, is its line.
 // A plan that is refused, a state that is not sound (19), then a buffer that is too short for the line (10) are refusals here: there
 // is no line, and buffer and state are as they were.
-pub fn call_line(
-    file: &[u8],
-    state: State,
-    letter: u8,
-    tag: u8,
-    resource: u8,
-    out: &mut [u8],
-) -> CallLine
-    ensures { λ r. ⌜ r .line ≡ lineUnless (stateRefusal (now (file .entry)) state) (callLine (now (file .entry)) state letter tag resource) (length (now (out .entry))) ⌝ }
-    ensures { λ r. ⌜ now (out .exit) ≡ lineInUnless (stateRefusal (now (file .entry)) state) (callLine (now (file .entry)) state letter tag resource) (now (out .entry)) ⌝ }
-    ensures { λ r. ⌜ StateBeside (r .line .refusal) state (r .state) (AfterBytes (now (file .entry)) state (callOf letter tag resource)) ⌝ }
+pub fn call_line(file: &[u8], state: State, bytes: CallBytes, out: &mut [u8]) -> CallLine
+    ensures { λ r. ⌜ r .line ≡ lineUnless (stateRefusal (now (file .entry)) state) (callLine (now (file .entry)) state bytes) (length (now (out .entry))) ⌝ }
+    ensures { λ r. ⌜ now (out .exit) ≡ lineInUnless (stateRefusal (now (file .entry)) state) (callLine (now (file .entry)) state bytes) (now (out .entry)) ⌝ }
+    ensures { λ r. ⌜ StateBeside (r .line .refusal) state (r .state) (AfterBytes (now (file .entry)) state (callIn bytes)) ⌝ }
 {
-    let mut holds = [0u16; 1024];
-    let mut budgets = [0u16; 128];
-    let code = machine::surveyed::look(file, &mut holds, &mut budgets);
-    let first = machine::surveyed::state_code(file, code, &holds, &budgets, state);
+    let mut figures = [0u16; analysis_hold_times::FIGURES];
+    let code = machine::surveyed::look(file, &mut figures);
+    let first = machine::surveyed::state_code(file, code, &figures, state);
     if first != 0 {
         return no_line(first, state);
     }
     let mut buf = [0u8; 96];
-    let step = put_call(
-        &mut buf,
-        0,
-        file,
-        code,
-        &holds,
-        &budgets,
-        state,
-        letter,
-        tag,
-        resource,
-    );
+    let step = put_call(&mut buf, 0, file, code, &figures, state, bytes);
     let end = step.end;
     let line = print_text::hand_over(&buf[0..end], out);
     let next = step.state;
@@ -149,7 +129,7 @@ fn lines_code(first: u8, calls: usize, room: usize) -> u8
     if first != 0 {
         return first;
     }
-    if (3 <= calls) & (room < 96) {
+    if (WIDTH <= calls) & (room < 96) {
         return 10;
     }
     0
@@ -167,16 +147,15 @@ fn none_made(refusal: u8, state: State) -> Batch
     }
 }
 
-// Makes calls of three bytes, one after the other, and puts their lines one behind the other: as many as there are, or until fewer
+// Makes calls, one after the other, and puts their lines one behind the other: as many as there are, or until fewer
 // than 96 bytes are left, which no line needs. A plan that is refused, a state that is not sound (19), then a buffer of fewer than 96
 // bytes where there is a call (10) are refusals: nothing is made, and buffer and state are as they were.
 pub fn lines(file: &[u8], state: State, calls: &[u8], out: &mut [u8]) -> Batch
     ensures { λ r. ⌜ Told (now (file .entry)) state (now (calls .entry)) (now (out .entry)) (now (out .exit)) r ⌝ }
 {
-    let mut holds = [0u16; 1024];
-    let mut budgets = [0u16; 128];
-    let code = machine::surveyed::look(file, &mut holds, &mut budgets);
-    let first = machine::surveyed::state_code(file, code, &holds, &budgets, state);
+    let mut figures = [0u16; analysis_hold_times::FIGURES];
+    let code = machine::surveyed::look(file, &mut figures);
+    let first = machine::surveyed::state_code(file, code, &figures, state);
     let refusal = lines_code(first, calls.len(), out.len());
     if refusal != 0 {
         return none_made(refusal, state);
@@ -184,22 +163,19 @@ pub fn lines(file: &[u8], state: State, calls: &[u8], out: &mut [u8]) -> Batch
     let mut current = state;
     let mut used = 0;
     let mut end = 0;
-    while (3 <= calls.len() - used) & (96 <= out.len() - end) {
+    while (WIDTH <= calls.len() - used) & (96 <= out.len() - end) {
         let step = put_call(
             out,
             end,
             file,
             code,
-            &holds,
-            &budgets,
+            &figures,
             current,
-            calls[used],
-            calls[used + 1],
-            calls[used + 2],
+            machine_calls::bytes_at(calls, used, WIDTH),
         );
         current = step.state;
         end = step.end;
-        used += 3;
+        used += WIDTH;
     }
     Batch {
         refusal: 0,

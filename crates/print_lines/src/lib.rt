@@ -184,7 +184,7 @@ pub fn put_answer(
     buf: &mut [u8],
     at: usize,
     file: &[u8],
-    tag: u8,
+    tag: u16,
     resource: u8,
     answer: Answer,
 ) -> usize

@@ -12,8 +12,4 @@ returns c =
     (h .0, (h .1, ap answerTold (h .0) ∙ reply-told _ _ _))
 
 pub call-spec : {M : Type 1} → statement M
-call-spec =
-    tie.close
-    (tie.spec
-    (λ c. search needs) (λ c. search needs) (λ c κs. search needs) (λ c. search needs) (λ c. search needs) (λ c κs. search needs)
-    returns)
+call-spec = tie.close (tie.spec (λ c. search needs) (λ c κs. search needs) (λ c. search needs) (λ c κs. search needs) returns)

@@ -2,7 +2,8 @@
 use Prim.Native.Nat.{_≤_, _-_}
 use native.Mathlib.Omega.{arith}
 use borrow.Author.Needs.{needs}
-use Rattle.machine.specs.Promise.{Returned, started, callsBelow}
+use Rattle.machine_calls.specs.Calls.{callWidth, callsBelow}
+use Rattle.machine.specs.Promise.{Returned, started}
 use Rattle.machine.proofs.Bytes.{returned-step, all-calls}
 use Rattle.machine.proofs.Kept.{ran}
 use Rattle.machine.proofs.Lengths.{length-mapped}
@@ -10,7 +11,7 @@ use Rattle.machine.proofs.run_from.Statement.{statement}
 use Rattle.machine.proofs.run_from.Tie as tie
 
 abbrev Inv-loop : tie.InvT-loop
-Inv-loop file calls state₀ n x₀ state x = (x ≤ n) × Returned file state₀ (callsBelow x calls) state
+Inv-loop file calls state₀ n x₀ state x = (x ≤ n) × Returned file state₀ (callsBelow callWidth x calls) state
 
 abbrev μ-loop : tie.MeasureT-loop
 μ-loop file calls state₀ n x₀ state x = n - x
@@ -20,7 +21,9 @@ unfolding callsBelow
 loop-holds c = (omega arith, started)
 
 loop-again : tie.Need-loop-again Inv-loop μ-loop
-loop-again c = (omega arith, returned-step _ _ _ (c .before .before .before .before .before .loop .inv .1) (c .after .ensures))
+loop-again c =
+    let turn = c .before in
+    (omega arith, returned-step _ _ _ _ (turn .before .before .loop .inv .1) (turn .bytes-at .ensures) (c .after .ensures))
 
 returns : tie.Need-returns Inv-loop μ-loop
 returns c =
@@ -28,12 +31,12 @@ returns c =
     let start = c .before .before .before in
     let file = start .shared-slice-known .given in
     ran _ (λ i b. file i .fits) (start .before .args .start) (search (needs, length-mapped)) _ (l .state)
-    (all-calls _ _ (l .x) (omega arith) (l .inv .1))
+    (all-calls _ _ _ (l .x) (omega arith) (l .inv .1))
 
 pub run-from-spec : {M : Type 1} → statement M
 run-from-spec =
     tie.close
     (tie.spec
     Inv-loop μ-loop loop-holds
-    (λ c. omega arith) (λ c. omega arith) (λ c. omega arith) (λ c. omega arith) (λ c. omega arith) (λ c. omega arith) (λ c. omega arith)
-    (λ c. omega arith) (λ c κs. search needs) (λ c. omega arith) (λ c. omega arith) loop-again returns)
+    (λ c. omega arith) (λ c κs. record { least = omega arith; most = omega arith; whole = omega arith })
+    (λ c κs. search needs) (λ c. omega arith) (λ c. omega arith) loop-again returns)

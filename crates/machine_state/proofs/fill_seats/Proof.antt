@@ -18,22 +18,22 @@ abbrev μ-loop : tie.MeasureT-loop
 
 loop-holds : tie.Need-loop-holds Inv-loop μ-loop
 unfolding stampedBelow
-loop-holds c = (omega arith, c .before .before .before .before .before .pre .2)
+loop-holds c = (omega arith, c .before .before .before .before .before .pre .empty)
 
 shared-slice-read-at : tie.Need-shared-slice-read-at Inv-loop μ-loop
 shared-slice-read-at c =
     let a = c .before .before .before .before .before .before .before .before in
-    omega (arith, valid-plan _ (a .pre .0) .tasks, a .pre .1 .long)
+    omega (arith, valid-plan _ (a .pre .plan) .tasks, a .pre .keyed .long)
 
 cast-at : tie.Need-cast-at Inv-loop μ-loop
 cast-at c =
     let a = c .before .before .before .before .before .before .before .before in
-    omega (arith, seat-high _ (valid-plan _ (a .pre .0)) _ _ (a .pre .1) (c .before .before .loop .u) (omega arith))
+    omega (arith, seat-high _ (valid-plan _ (a .pre .plan)) _ _ (a .pre .keyed) (c .before .before .loop .u) (omega arith))
 
 slice-write-seats : tie.Need-slice-write-seats Inv-loop μ-loop
 slice-write-seats c =
     let a = c .before .before .before .before .before .before .before .before in
-    rw (c .before .before .loop .inv .1, stamped-length, length-replicate) (seat-high _ (valid-plan _ (a .pre .0)) _ _ (a .pre .1) _ (omega arith))
+    rw (c .before .before .loop .inv .1, stamped-length, length-replicate) (seat-high _ (valid-plan _ (a .pre .plan)) _ _ (a .pre .keyed) _ (omega arith))
 
 loop-again : tie.Need-loop-again Inv-loop μ-loop
 loop-again c =
@@ -41,12 +41,12 @@ loop-again c =
     (omega arith, stamped-step (l .u) _ _ _ (l .inv .1) refl refl)
 
 same-length : tie.Need-same-length Inv-loop μ-loop
-same-length c = rw (c .before .loop .inv .1, c .before .before .before .before .before .before .before .pre .2, stamped-length)
+same-length c = rw (c .before .loop .inv .1, c .before .before .before .before .before .before .before .pre .empty, stamped-length)
 
 returns : tie.Need-returns Inv-loop μ-loop
 returns c =
     let a = c .before .before .before .before .before .before .before in
-    seats-done _ (valid-plan _ (a .pre .0)) _ _ (a .pre .1) (c .before .loop .u) (omega arith) (c .before .loop .inv .1)
+    seats-done _ (valid-plan _ (a .pre .plan)) _ _ (a .pre .keyed) (c .before .loop .u) (omega arith) (c .before .loop .inv .1)
 
 pub fill-seats-spec : {M : Type 1} → statement M
 fill-seats-spec =

@@ -5,7 +5,7 @@ use native.Mathlib.Nat.{add-zero}
 use native.Mathlib.Omega.{arith}
 use Rattle.folds.specs.Bytes.{placedBelow}
 use Rattle.folds.proofs.Arrays.{placed-step, placed-done}
-use Rattle.machine_state.specs.Tests.{firstSeat}
+use Rattle.machine_state.specs.Inner.{firstSeat}
 use Rattle.machine_state.proofs.first_seats.Statement.{statement}
 use Rattle.machine_state.proofs.first_seats.Tie as tie
 

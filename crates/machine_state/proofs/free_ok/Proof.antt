@@ -2,7 +2,7 @@
 use borrow.Author.Needs.{needs}
 use mathlib.Core.Path.{refl}
 use native.Mathlib.Omega.{arith}
-use Rattle.machine_state.specs.Tests.{freeTest}
+use Rattle.machine_state.specs.Inner.{freeTest}
 use Rattle.machine_state.proofs.Numbers.{whole-tail}
 use Rattle.machine_state.proofs.free_ok.Statement.{statement}
 use Rattle.machine_state.proofs.free_ok.Tie as tie

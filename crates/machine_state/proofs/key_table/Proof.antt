@@ -10,6 +10,7 @@ use Rattle.folds.proofs.Arrays.{placed-step}
 use Rattle.plan_reading.specs.Plan.{planOf}
 use Rattle.plan_reading.proofs.Laws.{valid-plan}
 use Rattle.machine_state.specs.Shows.{standing}
+use Rattle.machine_state.specs.Inner.{noSeat}
 use Rattle.machine_state.proofs.Tables.{low-processor, keysBelow, keys-done, row-low, key-at, key-off, placed-skip}
 use Rattle.machine_state.proofs.key_table.Statement.{statement}
 use Rattle.machine_state.proofs.key_table.Tie as tie
@@ -33,7 +34,7 @@ seat-of-requires c κs =
     let start = low .before .before .before .before .before .before in
     let l = low .before .before .loop in
     let row = row-low (standing (start .args .t2) (l .u)) (c .if1 .taken) in
-    (rw (low .task .ensures) (low-processor _ (valid-plan _ (start .pre)) _ (omega arith)), row .0, row .1)
+    record { core = rw (low .task .ensures) (low-processor _ (valid-plan _ (start .pre)) _ (omega arith)); resource = row .0; place = row .1 }
 
 array-write-keys : tie.Need-array-write-keys Inv-loop μ-loop
 array-write-keys c =
@@ -50,7 +51,7 @@ loop-again c =
       omega arith,
       ⊎-elim
           (λ t. rw (t .2) (placed-step (l .u) _ _ (l .inv .1) (rw (t .1 .ensures, low .task .ensures, key-at s _ (t .0 .taken)))))
-          (λ t. rw (t .1) (placed-skip (l .u) _ _ (l .inv .1) (key-off s _ (t .0 .left) ∙ sym (getD-replicate 64 (l .u) 8192 0 (omega arith)))))
+          (λ t. rw (t .1) (placed-skip (l .u) _ _ (l .inv .1) (key-off s _ (t .0 .left) ∙ sym (getD-replicate 64 (l .u) noSeat 0 (omega arith)))))
           (c .if1 .came),
     )
 

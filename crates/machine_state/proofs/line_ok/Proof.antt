@@ -4,23 +4,22 @@ use mathlib.Core.Path.{sym, _∙_}
 use borrow.Author.Needs.{needs}
 use borrow.Author.Tests.{le-leb, lt-leb}
 use native.Mathlib.Omega.{arith}
-use Rattle.machine_state.specs.Tests.{lineTest}
+use Rattle.machine_state.specs.Inner.{lineTest}
 use Rattle.machine_state.proofs.Passing.{head-passed, free-line}
 use Rattle.machine_state.proofs.line_ok.Statement.{statement}
 use Rattle.machine_state.proofs.line_ok.Tie as tie
 
 returns : tie.Need-returns
 returns c =
-    let a = c .before .before .before .before .before .before .args in
-    c .free-ok .ensures ∙ free-line (a .holds .now) (a .budgets .now) (a .seats .now) (a .q) (a .line) (c .before .if1 .taken)
+    let a = c .before .before .before .before .before .args in
+    c .free-ok .ensures ∙ free-line (a .figures .now) (a .seats .now) (a .q) (a .line) (c .before .if1 .taken)
 
 clock-ok-requires : tie.Need-clock-ok-requires
 clock-ok-requires c κs =
-    let start = c .before .before .before .before .before .before .before .before .before .before in
+    let start = c .before .before .before .before .before .before .before .before .before in
     let a = start .args in
-    let p = start .pre in
-    let head = head-passed (a .seats .now) (a .q) (a .line .queue) (a .line .queued) (sym (c .before .queue-ok .ensures) ∙ c .if3 .taken) in
-    (p .0, p .1, p .2, p .3, λ l. head l .0, λ l. head l .1, λ l. p .4 _ (omega (arith, head l .0)))
+    let head = head-passed (a .seats .now) (a .q) (a .line) (sym (c .before .queue-ok .ensures) ∙ c .if3 .taken) in
+    record { tables = start .pre .0; resource = start .pre .1; head = head }
 
 returns-2 : tie.Need-returns-2
 unfolding lineTest

@@ -7,22 +7,24 @@ use lib.ListN.{getD}
 use Rattle.folds.specs.Below.{allBelow}
 use Rattle.folds.proofs.Tests.{held, failed, all-more, all-left, all-done}
 use Rattle.machine_state.specs.Shows.{noLine}
-use Rattle.machine_state.specs.Tests.{lineTest}
+use Rattle.machine_state.specs.Inner.{lineTest}
 use Rattle.machine_state.proofs.lines_ok.Statement.{statement}
 use Rattle.machine_state.proofs.lines_ok.Tie as tie
 
 abbrev Inv-loop : tie.InvT-loop
-Inv-loop holds budgets seats lines q₀ q = (q ≤ 16) × (allBelow q (λ k. lineTest holds budgets seats k (getD lines k noLine)) ≡ true)
+Inv-loop figures seats lines q₀ q = (q ≤ 16) × (allBelow q (λ k. lineTest figures seats k (getD lines k noLine)) ≡ true)
 
 abbrev μ-loop : tie.MeasureT-loop
-μ-loop holds budgets seats lines q₀ q = 16 - q
+μ-loop figures seats lines q₀ q = 16 - q
 
 loop-holds : tie.Need-loop-holds Inv-loop μ-loop
 unfolding allBelow
 loop-holds c = (omega arith, refl)
 
 line-ok-requires : tie.Need-line-ok-requires Inv-loop μ-loop
-line-ok-requires c κs = let p = c .before .before .before .before .before .before .pre in (p .0, p .1, p .2, omega arith, p .3)
+line-ok-requires c κs =
+    let turn = c .before .before .before in
+    (turn .before .before .pre, omega arith)
 
 returns : tie.Need-returns Inv-loop μ-loop
 returns c = all-left 16 (c .before .before .before .before .loop .q) _ (omega arith) (failed (c .before .line-ok .ensures) (c .if1 .taken))

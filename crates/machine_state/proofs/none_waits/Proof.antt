@@ -6,7 +6,7 @@ use native.Mathlib.Omega.{arith}
 use lib.Dec.{eqb}
 use Rattle.folds.specs.Below.{allBelow}
 use Rattle.folds.proofs.Tests.{all-step, all-done}
-use Rattle.machine_state.specs.Tests.{firstSeat}
+use Rattle.machine_state.specs.Inner.{firstSeat}
 use Rattle.machine_state.proofs.none_waits.Statement.{statement}
 use Rattle.machine_state.proofs.none_waits.Tie as tie
 

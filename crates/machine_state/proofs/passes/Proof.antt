@@ -1,6 +1,6 @@
 -- The two tests, joined.
 use borrow.Author.Needs.{needs}
-use Rattle.machine_state.specs.Tests.{stateTest}
+use Rattle.machine_state.specs.Inner.{stateTest}
 use Rattle.machine_state.proofs.passes.Statement.{statement}
 use Rattle.machine_state.proofs.passes.Tie as tie
 

@@ -10,7 +10,7 @@ use lib.ListN.{getD}
 use Rattle.folds.specs.Below.{allBelow}
 use Rattle.folds.proofs.Tests.{all-more, all-fails}
 use Rattle.folds.proofs.Arrays.{stampedBelow, stamped-step}
-use Rattle.machine_state.specs.Tests.{slotTest, queueTest}
+use Rattle.machine_state.specs.Inner.{slotTest, queueTest}
 use Rattle.machine_state.proofs.Passing.{restBelow, slot-high, slot-is, cores-are}
 use Rattle.machine_state.proofs.queue_ok.Statement.{statement}
 use Rattle.machine_state.proofs.queue_ok.Tie as tie

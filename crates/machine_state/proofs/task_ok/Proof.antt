@@ -9,14 +9,14 @@ use borrow.Author.Tests.{eq-eqb, ne-eqb, eqb-true, ltb-true, ltb-false, le-leb}
 use lib.Dec.{eqb, leb, ltb}
 use lib.ListN.{getD}
 use mir.Val.{boolByte}
-use Rattle.analysis_hold_times.specs.Holds.{cell}
-use Rattle.machine_state.specs.Tests.{taskTest}
+use Rattle.analysis_hold_times.specs.Figures.{holdCell}
+use Rattle.machine_state.specs.Inner.{noSeat, taskTest}
 use Rattle.machine_state.proofs.task_ok.Statement.{statement}
 use Rattle.machine_state.proofs.task_ok.Tie as tie
 
 -- the hold time that the code reads
-hold-at : (holds : List ℕ) (base key u : ℕ) → base ≡ u * 8192 → getD holds ((base + key) / 512) 0 ≡ getD holds (cell u (key / 512)) 0
-hold-at holds base key u e = ap (λ (k : ℕ). getD holds k 0) (omega arith)
+hold-at : (figures : List ℕ) (base key u : ℕ) → base ≡ u * noSeat → getD figures ((base + key) / 512) 0 ≡ getD figures (holdCell u (key / 512)) 0
+hold-at figures base key u e = ap (λ (k : ℕ). getD figures k 0) (omega arith)
 
 -- no further back than the first place
 back-low : (key : ℕ) (b : Bool) → ltb 0 (key % 64) ≡ b → boolByte b ≤ key
@@ -45,7 +45,7 @@ module _ (seats : List ℕ) (key u : ℕ) where
 
 returns : tie.Need-returns
 unfolding taskTest
-returns c = rw (eq-eqb _ _ (c .before .before .if1 .taken))
+returns c = rw (eq-eqb _ _ (c .before .if1 .taken)) (c .is-idle .ensures)
 
 sub-result : tie.Need-sub-result
 sub-result c = back-low _ _ refl
@@ -55,12 +55,12 @@ unfolding taskTest
 returns-2 c =
     let start = c .before .before .before .before .before .before .before in
     let a = start .args in
-    rw (ne-eqb _ _ (c .before .before .before .before .if1 .left), c .before .wide .ensures .0, hold-at (a .holds .now) (a .base) (a .key) (a .u) (start .pre .4))
-    (back-same (a .seats .now) (a .key) (a .u) (leb 1 (getD (a .holds .now) (cell (a .u) (a .key / 512)) 0)) _ refl)
+    rw (ne-eqb _ _ (c .before .before .before .before .if1 .left), c .before .wide .ensures .0, hold-at (a .figures .now) (a .base) (a .key) (a .u) (start .pre .counted))
+    (back-same (a .seats .now) (a .key) (a .u) (leb 1 (getD (a .figures .now) (holdCell (a .u) (a .key / 512)) 0)) _ refl)
 
 pub task-ok-spec : {M : Type 1} → statement M
 task-ok-spec =
     tie.close
     (tie.spec
-    returns (λ c. search needs) (λ c. search needs) (λ c. search needs) (λ c. search needs) (λ c. search needs)
+    (λ c κs. search needs) returns (λ c. search needs) (λ c. search needs) (λ c. search needs) (λ c. search needs) (λ c. search needs)
     (λ c κs. search needs) (λ c. search needs) sub-result (λ c. search needs) returns-2)

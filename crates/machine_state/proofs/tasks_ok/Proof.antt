@@ -6,16 +6,16 @@ use lib.ListN.{getD}
 use Rattle.folds.specs.Below.{allBelow}
 use Rattle.folds.proofs.Tests.{all-step, all-done}
 use Rattle.machine_state.specs.Shows.{standing}
-use Rattle.machine_state.specs.Tests.{taskTest}
+use Rattle.machine_state.specs.Inner.{noSeat, taskTest}
 use Rattle.machine_state.proofs.tasks_ok.Statement.{statement}
 use Rattle.machine_state.proofs.tasks_ok.Tie as tie
 
 abbrev Inv-loop : tie.InvT-loop
-Inv-loop holds keys seats tasks ok₀ u₀ base₀ ok u base =
-    (u ≤ 64) × (base ≡ u * 8192) × (ok ≡ allBelow u (λ v. taskTest holds seats (standing tasks v) (getD keys v 0) v))
+Inv-loop figures keys seats tasks ok₀ u₀ base₀ ok u base =
+    (u ≤ 64) × (base ≡ u * noSeat) × (ok ≡ allBelow u (λ v. taskTest figures seats (standing tasks v) (getD keys v 0) v))
 
 abbrev μ-loop : tie.MeasureT-loop
-μ-loop holds keys seats tasks ok₀ u₀ base₀ ok u base = 64 - u
+μ-loop figures keys seats tasks ok₀ u₀ base₀ ok u base = 64 - u
 
 loop-holds : tie.Need-loop-holds Inv-loop μ-loop
 unfolding allBelow
@@ -24,8 +24,8 @@ loop-holds c = (omega arith, omega arith, refl)
 task-ok-requires : tie.Need-task-ok-requires Inv-loop μ-loop
 task-ok-requires c κs =
     let l = c .before .before .before .loop in
-    let p = c .before .before .before .before .before .before .before .pre in
-    (p .0, p .2, omega arith, p .3 (l .u) (omega arith), l .inv .1)
+    let sized = c .before .before .before .before .before .before .before .pre in
+    record { tables = sized .tables; task = omega arith; seat = sized .keys-low (l .u) (omega arith); counted = l .inv .1 }
 
 loop-again : tie.Need-loop-again Inv-loop μ-loop
 loop-again c =
@@ -40,4 +40,4 @@ tasks-ok-spec =
     tie.close
     (tie.spec
     Inv-loop μ-loop loop-holds (λ c. omega arith) (λ c. omega arith) (λ c. omega arith) (λ c. omega arith) task-ok-requires
-    (λ c. omega arith) (λ c. omega arith) (λ c. omega arith) loop-again returns)
+    (λ c. omega arith) (λ c. omega arith) (λ c. omega arith) (λ c. omega arith) loop-again returns)

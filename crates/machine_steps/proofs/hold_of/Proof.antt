@@ -1,33 +1,33 @@
 -- The seat is taken, and its number says where the hold time stands.
 use native.Mathlib.Omega.{arith}
 use borrow.Author.Needs.{needs}
-use Rattle.machine_steps.proofs.Passing.{seat-read}
+use mathlib.Core.Path.{_≡_}
+use lib.ListN.{getD}
+use Rattle.machine_state.specs.Inner.{seat}
+use Rattle.machine_steps.proofs.Passing.{seat-read, seat-within}
 use Rattle.machine_steps.proofs.hold_of.Statement.{statement}
 use Rattle.machine_steps.proofs.hold_of.Tie as tie
 
-sub-result : tie.Need-sub-result
-sub-result c =
-    let a = c .before .before .before .before .before in
-    let k = c .before .before .wide .ensures .0 in
-    omega (arith, a .pre .5, seat-read (a .args .seats .now) (a .args .q) (a .args .k) (a .args .j) k (c .wide2 .ensures .0))
+-- who sits there
+sits : (c : tie.After-wide2) → let a = c .before .before .before .before .before .args in
+    c .wide2 .result ≡ getD (a .seats .now) (seat (a .q) (a .k) (a .j)) 0
+sits c =
+    let a = c .before .before .before .before .before .args in
+    seat-read (a .seats .now) (a .q) (a .k) (a .j) (c .before .before .wide .ensures .0) (c .wide2 .ensures .0)
 
-shared-slice-read-result : tie.Need-shared-slice-read-result
-shared-slice-read-result c =
-    let s = c .before in
-    let a = s .before .before .before .before .before in
-    let k = s .before .before .wide .ensures .0 in
-    omega (arith, a .pre .6, seat-read (a .args .seats .now) (a .args .q) (a .args .k) (a .args .j) k (s .wide2 .ensures .0))
+hold-at-requires : tie.Need-hold-at-requires
+hold-at-requires c κs =
+    let p = c .before .before .before .before .before .pre in
+    let q = p .queue in
+    let low = q .tables .seats-low _ (seat-within (q .resource) (q .core) (p .place)) in
+    record { long = q .tables .figures-long; row = omega (arith, sits c, low); resource = q .resource }
 
 returns : tie.Need-returns
-returns c =
-    let s = c .before in
-    let a = s .before .before .before .before .before .args in
-    rw (seat-read (a .seats .now) (a .q) (a .k) (a .j) (s .before .before .wide .ensures .0) (s .wide2 .ensures .0))
+returns c = rw (c .hold-at .ensures, sits (c .before))
 
 pub hold-of-spec : {M : Type 1} → statement M
 hold-of-spec =
     tie.close
     (tie.spec
     (λ c. search needs) (λ c κs. search needs) (λ c. search needs) (λ c. search needs) (λ c. search needs) (λ c. search needs)
-    (λ c κs. search needs) sub-result (λ c. search needs) (λ c. search needs) (λ c. search needs) shared-slice-read-result
-    returns)
+    (λ c κs. search needs) (λ c. omega (arith, sits c, c .before .before .before .before .before .pre .taken)) hold-at-requires returns)

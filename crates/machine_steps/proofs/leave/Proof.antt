@@ -6,8 +6,8 @@ use Rattle.machine_steps.proofs.leave.Tie as tie
 
 array-write-marks : tie.Need-array-write-marks
 array-write-marks c =
-    let p = c .before .before .before .before .before .before .before .pre in
-    omega (arith, p .1, p .2 .placed 0 (p .2 .some), c .wide .ensures)
+    let p = c .before .before .before .before .before .before .pre in
+    omega (arith, p .resource, p .ready .placed 0 (p .ready .some), c .wide .ensures)
 
 returns : tie.Need-returns
 returns c = rw (c .pass .ensures, c .before .lower .ensures, c .before .before .before .before .wide .ensures .0)

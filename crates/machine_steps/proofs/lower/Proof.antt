@@ -7,7 +7,7 @@ use lib.ListN.{getD}
 use Rattle.folds.specs.Each.{eachBelow}
 use Rattle.folds.proofs.EachLaws.{each-step, each-done}
 use Rattle.machine_state.specs.Shows.{noStanding}
-use Rattle.machine_steps.specs.Steps.{fallen, lowered}
+use Rattle.machine_steps.specs.Inner.{fallen, lowered}
 use Rattle.machine_steps.proofs.lower.Statement.{statement}
 use Rattle.machine_steps.proofs.lower.Tie as tie
 
@@ -23,18 +23,18 @@ unfolding eachBelow
 loop-holds c = (omega arith, refl)
 
 shared-slice-read-queue : tie.Need-shared-slice-read-queue Inv-loop μ-loop
-shared-slice-read-queue c = omega (arith, c .before .before .before .before .before .before .pre .0)
+shared-slice-read-queue c = omega (arith, c .before .before .before .before .before .before .pre .keys-long)
 
 cast-queue : tie.Need-cast-queue Inv-loop μ-loop
 cast-queue c =
     let u = c .before .before .before .loop .u in
-    omega (arith, c .before .before .before .before .before .before .pre .2 u (omega arith))
+    omega (arith, c .before .before .before .before .before .before .pre .keys-low u (omega arith))
 
 shared-slice-read-on : tie.Need-shared-slice-read-on Inv-loop μ-loop
 shared-slice-read-on c =
     let u = c .before .before .before .before .loop .u in
     let a = c .before .before .before .before .before .before .before in
-    omega (arith, a .pre .1, a .pre .2 u (omega arith))
+    omega (arith, a .pre .ended-long, a .pre .keys-low u (omega arith))
 
 fall-requires : tie.Need-fall-requires Inv-loop μ-loop
 fall-requires c κs = tt

@@ -2,71 +2,78 @@
 use native.Mathlib.Omega.{arith}
 use borrow.Author.Needs.{needs}
 use borrow.Author.Tests.{eq-eqb, ne-eqb, le-leb, lt-leb}
-use mathlib.Core.Path.{refl, sym, _∙_}
+use Prim.Native.Nat.{_≤_}
+use mathlib.Core.Path.{refl, sym}
+use lib.ListN.{getD}
 use Rattle.machine_state.specs.Shows.{slot}
-use Rattle.machine_steps.specs.Steps.{passed}
+use Rattle.machine_state.specs.Inner.{seat}
+use Rattle.machine_steps.specs.Inner.{passed}
 use Rattle.machine_steps.proofs.Passing.{seat-read, next-begins, turned-begins}
 use Rattle.machine_steps.proofs.pass.Statement.{statement}
 use Rattle.machine_steps.proofs.pass.Tie as tie
 
 shared-slice-read-next : tie.Need-shared-slice-read-next
 shared-slice-read-next c =
-    let p = c .before .before .before .before .before .before .pre in
-    omega (arith, p .5 .placed 0 (omega (arith, p .5 .some)))
+    let p = c .before .before .before .before .before .pre in
+    omega (arith, p .tables .seats-long, p .resource, p .ready .placed 0 (omega (arith, p .ready .some)))
 
 begin-requires : tie.Need-begin-requires
 begin-requires c κs =
-    let p = c .before .before .before .before .before .before .before .before .pre in (
-      p .0,
-      p .1,
-      p .2,
-      p .3,
-      p .4,
-      (λ h. next-begins _ _ _ (p .5) (omega arith) .0),
-      (λ h. next-begins _ _ _ (p .5) (omega arith) .1),
-    )
+    let next = c .before .before in
+    let p = next .before .before .before .before .before .pre in
+    record { tables = p .tables; resource = p .resource; head = λ h. next-begins _ _ _ (p .ready) (omega arith) }
 
 returns : tie.Need-returns
 unfolding passed
 returns c =
-    let a = c .before .before .before .before .before .before .before .before .before .args in
-    let k = c .before .before .before .before .wide .ensures .0 in
-    let none = seat-read (a .seats .now) (a .q) (slot (a .line) 0) 1 k (sym (c .before .before .if1 .taken)) in
+    let next = c .before .before .before in
+    let a = next .before .before .before .before .before .args in
+    let none = seat-read (a .seats .now) (a .q) (slot (a .line) 0) 1 (next .before .wide .ensures .0) (sym (c .before .before .if1 .taken)) in
     rw (eq-eqb _ _ (sym none)) (c .begin .ensures)
+
+-- ── where the head has another task ──
+abbrev start : tie.Else1 → tie.Start
+start c = c .before .before .before .before .before .before
+
+-- its seat
+next-seat : (c : tie.Else1) → let a = start c .args in 1 ≤ getD (a .seats .now) (seat (a .q) (slot (a .line) 0) 1) 0
+next-seat c =
+    let a = start c .args in
+    omega (arith, seat-read (a .seats .now) (a .q) (slot (a .line) 0) 1 (c .before .before .wide .ensures .0) refl, c .if1 .left)
 
 hold-of-requires : tie.Need-hold-of-requires
 hold-of-requires c κs =
-    let a = c .before .before .before .before .before .before .before in
-    let k = a .pre .5 .placed 0 (omega (arith, a .pre .5 .some)) in
-    let e = seat-read (a .args .seats .now) (a .args .q) (slot (a .args .line) 0) 1 (c .before .before .wide .ensures .0) refl in
-    (a .pre .0, a .pre .2, a .pre .3, k, omega arith, omega (arith, e, c .if1 .left), a .pre .4 _ (omega (arith, k)))
+    let p = start c .pre in
+    record {
+      queue = record { tables = p .tables; resource = p .resource; core = p .ready .placed 0 (omega (arith, p .ready .some)) };
+      place = omega arith;
+      taken = next-seat c;
+    }
 
 returns-2 : tie.Need-returns-2
 unfolding passed
 returns-2 c =
-    let a = c .before .before .before .before .before .before .before .before .before .before .args in
-    let e = seat-read (a .seats .now) (a .q) (slot (a .line) 0) 1 (c .before .before .before .before .before .wide .ensures .0) refl in
-    let some = ne-eqb _ _ (λ z. c .before .before .before .if1 .left (e ∙ z)) in
-    let within = le-leb (c .before .before .hold-of .result) (a .line .«budget_left») (omega arith) in
-    rw (some, ← c .before .before .hold-of .ensures, within)
+    let held = c .before .before in
+    let a = start (held .before) .args in
+    let some = ne-eqb (getD (a .seats .now) (seat (a .q) (slot (a .line) 0) 1) 0) 0 (λ z. omega (arith, next-seat (held .before))) in
+    let within = le-leb (held .hold-of .result) (a .line .«budget_left») (omega arith) in
+    rw (some, ← held .hold-of .ensures, within)
 
 begin-requires-2 : tie.Need-begin-requires-2
 begin-requires-2 c κs =
-    let a = c .before .before .before .before .before .before .before .before .before .before .before in
-    let k = c .before .before .before .before .before .before .wide .ensures .0 in
-    let e = seat-read (a .args .seats .now) (a .args .q) (slot (a .args .line) 0) 1 k refl in
-    let b = turned-begins _ _ _ (a .pre .5) (omega (arith, e, c .before .before .before .before .if1 .left)) in
-    (a .pre .0, a .pre .1, a .pre .2, a .pre .3, a .pre .4, (λ h. b .0), (λ h. b .1))
+    let else = c .before .before .before .before in
+    let p = start else .pre in
+    let b = turned-begins _ _ _ (p .ready) (next-seat else) in
+    record { tables = p .tables; resource = p .resource; head = λ h. b }
 
 returns-3 : tie.Need-returns-3
 unfolding passed
 returns-3 c =
-    let h = c .before .before .before .before in
-    let a = h .before .before .before .before .before .before .before .before .args in
-    let e = seat-read (a .seats .now) (a .q) (slot (a .line) 0) 1 (h .before .before .before .wide .ensures .0) refl in
-    let some = ne-eqb _ _ (λ z. h .before .if1 .left (e ∙ z)) in
-    let beyond = lt-leb (h .hold-of .result) (a .line .«budget_left») (omega arith) in
-    rw (some, ← h .hold-of .ensures, beyond) (c .begin2 .ensures)
+    let held = c .before .before .before .before in
+    let a = start (held .before) .args in
+    let some = ne-eqb (getD (a .seats .now) (seat (a .q) (slot (a .line) 0) 1) 0) 0 (λ z. omega (arith, next-seat (held .before))) in
+    let beyond = lt-leb (held .hold-of .result) (a .line .«budget_left») (omega arith) in
+    rw (some, ← held .hold-of .ensures, beyond) (c .begin2 .ensures)
 
 pub pass-spec : {M : Type 1} → statement M
 pass-spec =

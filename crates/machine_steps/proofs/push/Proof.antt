@@ -1,6 +1,6 @@
 use borrow.Author.Tests.{eq-eqb, ne-eqb}
 use borrow.Author.Needs.{needs}
-use Rattle.machine_steps.specs.Steps.{pushed}
+use Rattle.machine_steps.specs.Inner.{pushed}
 use Rattle.machine_steps.proofs.push.Statement.{statement}
 use Rattle.machine_steps.proofs.push.Tie as tie
 

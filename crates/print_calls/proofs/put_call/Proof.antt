@@ -1,6 +1,6 @@
 -- The bytes are no call, or the line is that of its answer.
 use borrow.Author.Needs.{needs}
-use Rattle.machine.proofs.Bytes.{decoded-call, decoded-no-call}
+use Rattle.machine_calls.proofs.Calls.{decoded-call, decoded-no-call}
 use Rattle.print_calls.proofs.Naming.{call-names}
 use Rattle.print_calls.proofs.Calls.{stepped-none, stepped-call}
 use Rattle.print_calls.proofs.put_call.Statement.{statement}
@@ -11,21 +11,25 @@ returns c =
     let i = c .before .before .before .before in
     let e = decoded-no-call _ (i .before .before .decode .ensures) (i .if1 .taken) in
     let p = c .before .before .put-refused .ensures in
-    stepped-none _ _ _ _ _ e p
+    stepped-none _ _ _ e p
 
 put-answer-requires : tie.Need-put-answer-requires
 put-answer-requires c κs =
     let i = c .before .before .before in
-    let e = decoded-call _ (i .before .before .decode .ensures) (i .if1 .left) in
-    (rw (c .before .before .call .ensures .0) (call-names _ (λ k l. c .before .before .before .before .before .before .before .before .shared-slice-known .given k .fits) _ _ _ _ _ e), search needs)
+    let d = i .before .before in
+    let file = d .before .before .shared-slice-known .given in
+    let e = decoded-call _ (d .decode .ensures) (i .if1 .left) in
+    (rw (c .before .before .call .ensures .0) (call-names _ (λ k l. file k .fits) _ _ _ e), search needs)
 
 returns-2 : tie.Need-returns-2
 returns-2 c =
-    let i = c .before .before .before .before .before .before in
+    let put = c .before .before in
+    let made = put .before .before .before in
+    let i = made .before in
     let e = decoded-call _ (i .before .before .decode .ensures) (i .if1 .left) in
-    let r = c .before .before .before .before .before .call .ensures in
-    let p = c .before .before .put-answer .ensures in
-    stepped-call _ _ _ _ _ _ e (r .0) (r .1) p
+    let r = made .call .ensures in
+    let p = put .put-answer .ensures in
+    stepped-call _ _ _ _ e (r .0) (r .1) p
 
 pub put-call-spec : {M : Type 1} → statement M
 put-call-spec =

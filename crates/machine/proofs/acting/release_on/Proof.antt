@@ -1,0 +1,53 @@
+-- The resource is held, so its holder leaves.
+use borrow.Author.Needs.{needs}
+use Rattle.plan_reading.specs.Plan.{planOf}
+use Rattle.plan_reading.proofs.Laws.{valid-plan}
+use Rattle.machine.proofs.Lengths.{length-mapped}
+use Rattle.machine.proofs.Freed.{Held, free-low, free-ready, free-next, free-done}
+use Rattle.machine.proofs.acting.release_on.Statement.{statement}
+use Rattle.machine.proofs.acting.release_on.Tie as tie
+
+abbrev start : tie.After-wide → tie.Start
+start c = c .before .before .before .before .before
+
+held : (c : tie.After-wide) → let a = start c .args in
+    Held (planOf (a .file .now)) (a .t5) (a .q) (c .wide .result) (a .figures .now) (a .keys .now) (a .seats .now)
+held c =
+    let p = start c .pre in
+    record {
+      valid = valid-plan _ (p .on .known .plan);
+      whole = p .on .sound;
+      tables = record {
+        figures-at = p .on .known .figures;
+        keys-at = p .keyed;
+        seats-at = p .on .seated;
+        tasks-long = search (needs, length-mapped);
+        lines-long = search (needs, length-mapped);
+      };
+      resource = p .resource;
+      held = p .held;
+      copy = c .wide .ensures .0;
+    }
+
+granted-requires : tie.Need-granted-requires
+granted-requires c κs =
+    let w = c .before .before .before .before in
+    let on = start w .pre .on in
+    record {
+      plan = on .known .plan;
+      long = on .seated .long;
+      resource = free-low (held w);
+      head = free-next (held w) (c .before .leave .ensures);
+    }
+
+returns : tie.Need-returns
+returns c =
+    let left = c .before .before in
+    free-done (held (left .before .before .before)) (left .leave .ensures) (c .granted .ensures)
+
+pub release-on-spec : {M : Type 1} → statement M
+release-on-spec =
+    tie.close
+    (tie.spec
+    (λ c κs. search needs) (λ c. search needs) (λ c. free-low (held c)) (λ c κs. free-ready (held (c .before .before)))
+    (λ c. search needs) (λ c. free-low (held (c .before .before .before))) (λ c. search needs) granted-requires returns)

@@ -1,0 +1,45 @@
+-- What refuses the use comes first, then the row of the task.
+use Prim.Native.Nat.{_<_}
+use mathlib.Core.Path.{_≡_, sym, _∙_}
+use native.Mathlib.Omega.{arith}
+use borrow.Author.Needs.{needs}
+use Rattle.plan_reading.specs.Plan.{planOf}
+use Rattle.plan_reading.proofs.Laws.{valid-plan}
+use Rattle.analysis_equations.specs.Questions.{useCode}
+use Rattle.machine.proofs.Asked.{use-task, use-refused, request-by}
+use Rattle.machine.proofs.acting.request_code.Statement.{statement}
+use Rattle.machine.proofs.acting.request_code.Tie as tie
+
+-- ── where the use is not refused ──
+abbrev asked : tie.Else1 → tie.After-user-in
+asked c = c .before .before
+
+abbrev start : tie.After-user-in → tie.Start
+start c = c .before .before .before
+
+clear : (c : tie.Else1) → let a = start (asked c) .args in useCode (planOf (a .file .now)) (a .tag) (a .q) ≡ 0
+clear c = sym (asked c .user-in .ensures .0) ∙ c .if1 .left
+
+low : (c : tie.Else1) → asked c .user-in .result .task < 64
+low c = omega (arith, asked c .user-in .ensures .1, use-task _ _ _ (clear c), valid-plan _ (start (asked c) .pre .0 .plan) .tasks)
+
+returns : tie.Need-returns
+returns c = use-refused _ _ _ _ (c .before .before .user-in .ensures .0) (c .if1 .taken)
+
+returns-2 : tie.Need-returns-2
+returns-2 c =
+    let else = c .before .before .before in
+    let p = start (asked else) .pre in
+    request-by _ (valid-plan _ (p .0 .plan)) _ (p .1) _ _ (clear else) (asked else .user-in .ensures .1) (c .before .is-in-line .ensures) (rw (c .if2 .taken))
+
+returns-3 : tie.Need-returns-3
+returns-3 c =
+    let else = c .before .before .before in
+    let p = start (asked else) .pre in
+    request-by _ (valid-plan _ (p .0 .plan)) _ (p .1) _ _ (clear else) (asked else .user-in .ensures .1) (c .before .is-in-line .ensures) (rw (c .if2 .left))
+
+pub request-code-spec : {M : Type 1} → statement M
+request-code-spec =
+    tie.close
+    (tie.spec
+    (λ c κs. search needs) returns (λ c. omega (arith, low c)) (λ c. omega (arith, low c)) (λ c κs. search needs) returns-2 returns-3)
