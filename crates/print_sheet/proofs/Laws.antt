@@ -18,14 +18,15 @@ use Rattle.analysis_equations.specs.Sharing.{uses, usedOn, global}
 use Rattle.analysis_equations.specs.HoldTimes.{holdTime, holdAt, budget, waitTime}
 use Rattle.analysis_equations.specs.Blocking.{globalCount}
 use Rattle.analysis_equations.proofs.Laws.{asks-not, asks-some, budget-zero, hold-zero, shared-use}
-use Rattle.analysis_hold_times.specs.Figures.{holdCell, budgetCell, Known, Place}
+use Rattle.analysis_hold_times.specs.Figures.{holdCell, budgetCell, Known, Sharer, Place}
 use Rattle.analysis_requirements.specs.declared.Requirement.{Requirement}
 use Rattle.analysis_requirements.specs.Figures.{requirementOf}
 use Rattle.machine_rules.specs.Longest.{fellows, longestWait}
 use Rattle.print_lines.specs.declared.Word.{Word}
 use Rattle.print_lines.specs.Lines.{planLine}
 use Rattle.print_lines.specs.Inner.{wordText}
-use Rattle.print_sheet.specs.Sheet.{resourceLine, budgetLine, holdLine, requirementLine, resourceAt, budgetAt, holdLineAt, requirementAt}
+use Rattle.print_sheet.specs.Sheet.{budgetLine, holdLine, requirementLine, budgetAt, holdLineAt, requirementAt}
+use Rattle.print_sheet.specs.Rooms.{budgetRoom, holdRoom, requirementRoom}
 use Rattle.print_sheet.specs.Inner.{passes, PutAll}
 
 -- the text of one of two words
@@ -39,10 +40,6 @@ pub plan-counts : {l m : List ℕ} {at e room : ℕ} (f : List ℕ) (c : Counts)
     → PutIn l m at room (planLine (countsOf f)) e
 unfolding planOf
 plan-counts f c h p = rw (h .0, h .1, h .2, h .3) at p
-
--- a resource is shared as its table says
-pub resource-turn : {l m : List ℕ} {at e room : ℕ} (f : List ℕ) (q : ℕ) {shared : Bool} → shared ≡ global (planOf f) q → PutIn l m at room (resourceLine f q shared) e → PutIn l m at room (resourceAt f q) e
-resource-turn f q h p = rw h at p
 
 -- of a figure that is 0 there is no line
 module _ (f t : List ℕ) (h : Known f t) (q : ℕ) (b : q < planOf f .resources) {j : ℕ} (d : j ≡ q) where
@@ -62,17 +59,20 @@ module _ (f t : List ℕ) (h : Known f t) (q : ℕ) (b : q < planOf f .resources
           let y : q < 16 = omega (arith, valid-plan f (h .plan) .resources) in
           o ∙ rw (e, d) (h .figures .budget k q x y)
 
-      pub budget-out : (l : List ℕ) (at : ℕ) → r ≡ 0 → PutIn l l at 96 (budgetAt f k q) at
+      pub budget-out : (l : List ℕ) (at : ℕ) → r ≡ 0 → PutIn l l at budgetRoom (budgetAt f k q) at
       budget-out l at z =
           let g : (global (planOf f) q && usedOn (planOf f) k q) ≡ false = not-true _ (sym (budget-zero (planOf f) (valid-plan f (h .plan)) k q) ∙ eq-eqb _ 0 (sym budget-is ∙ z)) in
-          rw g (put-in 96 (put-none l at) (omega arith))
+          rw g (put-in budgetRoom (put-none l at) (omega arith))
 
-      pub budget-in : {l m : List ℕ} {at n w : ℕ} → (r ≡ 0 → ⊥) → w ≡ waitTime (planOf f) k j → PutIn l m at 96 (budgetLine f k q r w) n → PutIn l m at 96 (budgetAt f k q) n
+      pub budget-in : {l m : List ℕ} {at n w : ℕ} → (r ≡ 0 → ⊥) → w ≡ waitTime (planOf f) k j → PutIn l m at budgetRoom (budgetLine f k q r w) n → PutIn l m at budgetRoom (budgetAt f k q) n
       budget-in n x p =
           let g : (global (planOf f) q && usedOn (planOf f) k q) ≡ true = not-false _ (sym (budget-zero (planOf f) (valid-plan f (h .plan)) k q) ∙ ne-eqb _ 0 (λ z. n (budget-is ∙ z))) in
           rw g (rw (budget-is, x, d) at p)
 
   module _ (i : ℕ) (a : i < planOf f .tasks) where
+    pub sharer : global (planOf f) j ≡ true → Sharer f t i j
+    sharer g = record { known = h; task = a; resource = omega (arith, valid-plan f (h .plan) .resources); shared = g }
+
     pub hold-place : Place t 64 i j
     hold-place =
         record {
@@ -94,28 +94,28 @@ module _ (f t : List ℕ) (h : Known f t) (q : ℕ) (b : q < planOf f .resources
       pub hold-global : (r ≡ 0 → ⊥) → global (planOf f) j ≡ true
       hold-global n = rw d (and-parts (global (planOf f) q) (uses (planOf f) i q) (hold-some n) .0)
 
-      pub hold-out : (l : List ℕ) (at : ℕ) → r ≡ 0 → PutIn l l at 104 (holdLineAt f i q) at
+      pub hold-out : (l : List ℕ) (at : ℕ) → r ≡ 0 → PutIn l l at holdRoom (holdLineAt f i q) at
       hold-out l at z =
           let g : (global (planOf f) q && uses (planOf f) i q) ≡ false = not-true _ (sym (hold-zero (planOf f) (valid-plan f (h .plan)) i q) ∙ eq-eqb _ 0 (sym hold-is ∙ z)) in
-          rw g (put-in 104 (put-none l at) (omega arith))
+          rw g (put-in holdRoom (put-none l at) (omega arith))
 
       pub hold-in : {l m : List ℕ} {at n count most : ℕ} {row : TaskRow} → (r ≡ 0 → ⊥) → row ≡ planOf f .task i
           → count ≡ length (fellows (planOf f) i j) → most ≡ longestWait (planOf f) i j
-          → PutIn l m at 104 (holdLine f (row .tag) q r count most) n
-          → PutIn l m at 104 (holdLineAt f i q) n
+          → PutIn l m at holdRoom (holdLine f (row .tag) q r count most) n
+          → PutIn l m at holdRoom (holdLineAt f i q) n
       hold-in n w x y p =
           let v : r ≡ holdTime (planOf f) i q = hold-is ∙ shared-use (planOf f) (valid-plan f (h .plan)) i q (λ z. n (hold-is ∙ z)) .1 in
           rw (hold-some n) (rw (v, w, x, y, d) at p)
 
 -- the requirement of task i, which has n global sections
 module _ (f : List ℕ) (i : ℕ) {n : ℕ} (c : n ≡ globalCount (planOf f) i) where
-  pub requirement-out : (l : List ℕ) (at : ℕ) → n ≡ 0 → PutAll l l at 160 (requirementAt f i) (passes f i) (record { end = at; all = true })
+  pub requirement-out : (l : List ℕ) (at : ℕ) → n ≡ 0 → PutAll l l at requirementRoom (requirementAt f i) (passes f i) (record { end = at; all = true })
   requirement-out l at z =
-      rw (asks-not (planOf f) i c z) (record { put = put-in 160 (put-none l at) (omega arith); all = refl })
+      rw (asks-not (planOf f) i c z) (record { put = put-in requirementRoom (put-none l at) (omega arith); all = refl })
 
   pub requirement-in : {l m : List ℕ} {at r : ℕ} {row : TaskRow} {found : Requirement} → (n ≡ 0 → ⊥) → row ≡ planOf f .task i → found ≡ requirementOf (planOf f) i
-      → PutIn l m at 160 (requirementLine (row .tag) found) r
-      → PutAll l m at 160 (requirementAt f i) (passes f i) (record { end = r; all = found .met })
+      → PutIn l m at requirementRoom (requirementLine (row .tag) found) r
+      → PutAll l m at requirementRoom (requirementAt f i) (passes f i) (record { end = r; all = found .met })
   unfolding requirementOf
   requirement-in d o e p =
       record { put = rw (asks-some (planOf f) i c d) (rw (o, e) at p); all = rw (asks-some (planOf f) i c d, e) }

@@ -114,6 +114,10 @@ module _ (f : List ℕ) where
   unfoldable pub sheetText : List ℕ
   sheetText = cond (eqb (refusal f) 0) planSheet (refusedLine (refusal f))
 
+-- no sheet is longer
+abbrev pub mostSheet : ℕ
+mostSheet = 131072
+
 -- what the program prints: "a plan on standard input (as long as its bytes 14-15 say; what follows is ignored)"
 abbrev pub sheetOutput : List ℕ → List ℕ
 sheetOutput input = sheetText (take (planLength input) input)

@@ -11,13 +11,17 @@ ghost use lib.ListN.{length};
 ghost use Rattle.print_text.specs.Text.{PutIn};
 ghost use Rattle.print_text.specs.Buffers.{lineFor, lineIn};
 ghost use Rattle.plan_reading.specs.Plan.{planOf, Checked};
-ghost use Rattle.analysis_equations.specs.Blocking.{globalCount, ceiling};
-ghost use Rattle.analysis_equations.specs.Requirement.{admitted};
-ghost use Rattle.tables.specs.Tables.{Column, Globals, Tasks};
-ghost use Rattle.analysis_hold_times.specs.Figures.{Known};
-ghost use Rattle.print_lines.specs.Naming.{Nameable};
-ghost use Rattle.print_sheet.specs.Sheet.{resourceLine, requirementLine, admittedLine, budgetAt, holdLineAt, requirementAt, resourceLines, budgetLinesOf, budgetLines, holdLinesOf, holdLines, figureLines, requirementLines, verdictLines, planSheet, sheetLine, sheetIn};
-ghost use Rattle.print_sheet.specs.Inner.{passes, Ready, Cell, PutAll};
+ghost use Rattle.analysis_requirements.specs.Terms.{Prepared};
+ghost use Rattle.print_sheet.specs.Sheet.{requirementLine, admittedLine, resourceAt, budgetAt, holdLineAt};
+ghost use Rattle.print_sheet.specs.Sheet.{resourceLines, budgetLinesOf, budgetLines, holdLinesOf, holdLines, figureLines, verdictLines};
+ghost use Rattle.print_sheet.specs.Sheet.{planSheet, mostSheet, sheetLine, sheetIn};
+ghost use Rattle.print_sheet.specs.Rooms.{resourceRoom, budgetRoom, holdRoom, requirementRoom, admittedRoom};
+ghost use Rattle.print_sheet.specs.Rooms.{resourcesRoom, budgetsOfRoom, budgetsRoom, holdsOfRoom, holdsRoom};
+ghost use Rattle.print_sheet.specs.Rooms.{figuresRoom, requirementsRoom, verdictRoom};
+ghost use Rattle.print_sheet.specs.Inner.{Ready, Cell, Row, RowPut, RowsPut};
+
+// A buffer as long as this has room for every sheet.
+pub const SHEET: usize = 131072;
 
 // Where text ends, and whether every requirement in it is met.
 struct Required {
@@ -26,10 +30,11 @@ struct Required {
 }
 
 // "resource NAME global" or "resource NAME local".
-fn put_resource(buf: &mut [u8], at: usize, file: &[u8], q: u8, shared: bool) -> usize
-    requires { ⌜ (Nameable (now file) q) × (at + 32 ≤ length (now buf)) ⌝ }
-    ensures { λ r. ⌜ PutIn (now (buf .entry)) (now (buf .exit)) at 32 (resourceLine (now (file .entry)) q shared) r ⌝ }
+fn put_resource(buf: &mut [u8], at: usize, file: &[u8], figures: &[u16], q: u8) -> usize
+    requires { ⌜ Cell (now file) (now figures) (now buf) at resourceRoom q ⌝ }
+    ensures { λ r. ⌜ PutIn (now (buf .entry)) (now (buf .exit)) at resourceRoom (resourceAt (now (file .entry)) q) r ⌝ }
 {
+    let shared = analysis_hold_times::is_global(file, figures, folds::wide(q));
     let name = Field::Name(q);
     let reach = print_lines::either(shared, Word::Global, Word::Local);
     put_line(
@@ -42,15 +47,15 @@ fn put_resource(buf: &mut [u8], at: usize, file: &[u8], q: u8, shared: bool) -> 
 }
 
 // A line for each resource.
-fn put_resources(buf: &mut [u8], at: usize, file: &[u8], globals: [bool; 16]) -> usize
-    requires { ⌜ (Checked (now file)) × (Globals (planOf (now file)) globals) × (at + 512 ≤ length (now buf)) ⌝ }
-    ensures { λ r. ⌜ PutIn (now (buf .entry)) (now (buf .exit)) at 512 (resourceLines (now (file .entry))) r ⌝ }
+fn put_resources(buf: &mut [u8], at: usize, file: &[u8], figures: &[u16]) -> usize
+    requires { ⌜ Ready (now file) (now figures) (now buf) at resourcesRoom ⌝ }
+    ensures { λ r. ⌜ PutIn (now (buf .entry)) (now (buf .exit)) at resourcesRoom (resourceLines (now (file .entry))) r ⌝ }
 {
     let counts = plan_reading::checked::counts(file);
     let mut end = at;
     let mut q = 0u8;
     while q < counts.resources {
-        end = put_resource(buf, end, file, q, globals[folds::wide(q)]);
+        end = put_resource(buf, end, file, figures, q);
         q += 1;
     }
     end
@@ -58,8 +63,8 @@ fn put_resources(buf: &mut [u8], at: usize, file: &[u8], globals: [bool; 16]) ->
 
 // "budget K NAME B W", where processor k uses q and q is global: where it has a budget on q.
 fn put_budget_at(buf: &mut [u8], at: usize, file: &[u8], figures: &[u16], k: u8, q: u8) -> usize
-    requires { ⌜ (Cell (now file) (now figures) (now buf) at 96 q) × (k < planOf (now file) .processors) ⌝ }
-    ensures { λ r. ⌜ PutIn (now (buf .entry)) (now (buf .exit)) at 96 (budgetAt (now (file .entry)) k q) r ⌝ }
+    requires { ⌜ (Cell (now file) (now figures) (now buf) at budgetRoom q) × (k < planOf (now file) .processors) ⌝ }
+    ensures { λ r. ⌜ PutIn (now (buf .entry)) (now (buf .exit)) at budgetRoom (budgetAt (now (file .entry)) k q) r ⌝ }
 {
     let column = folds::wide(q);
     let budget = analysis_hold_times::budget_at(figures, folds::wide(k), column);
@@ -82,8 +87,8 @@ fn put_budget_at(buf: &mut [u8], at: usize, file: &[u8], figures: &[u16], k: u8,
 
 // The lines of processor k.
 fn put_budgets_of(buf: &mut [u8], at: usize, file: &[u8], figures: &[u16], k: u8) -> usize
-    requires { ⌜ (Ready (now file) (now figures) (now buf) at 1536) × (k < planOf (now file) .processors) ⌝ }
-    ensures { λ r. ⌜ PutIn (now (buf .entry)) (now (buf .exit)) at 1536 (budgetLinesOf (now (file .entry)) k) r ⌝ }
+    requires { ⌜ (Ready (now file) (now figures) (now buf) at budgetsOfRoom) × (k < planOf (now file) .processors) ⌝ }
+    ensures { λ r. ⌜ PutIn (now (buf .entry)) (now (buf .exit)) at budgetsOfRoom (budgetLinesOf (now (file .entry)) k) r ⌝ }
 {
     let counts = plan_reading::checked::counts(file);
     let mut end = at;
@@ -97,8 +102,8 @@ fn put_budgets_of(buf: &mut [u8], at: usize, file: &[u8], figures: &[u16], k: u8
 
 // Those of every processor.
 fn put_budgets(buf: &mut [u8], at: usize, file: &[u8], figures: &[u16]) -> usize
-    requires { ⌜ Ready (now file) (now figures) (now buf) at 12288 ⌝ }
-    ensures { λ r. ⌜ PutIn (now (buf .entry)) (now (buf .exit)) at 12288 (budgetLines (now (file .entry))) r ⌝ }
+    requires { ⌜ Ready (now file) (now figures) (now buf) at budgetsRoom ⌝ }
+    ensures { λ r. ⌜ PutIn (now (buf .entry)) (now (buf .exit)) at budgetsRoom (budgetLines (now (file .entry))) r ⌝ }
 {
     let counts = plan_reading::checked::counts(file);
     let mut end = at;
@@ -112,8 +117,8 @@ fn put_budgets(buf: &mut [u8], at: usize, file: &[u8], figures: &[u16]) -> usize
 
 // "hold TAG NAME H FELLOWS LONGEST", where task i has a section on q and q is global: where it has a hold time.
 fn put_hold_at(buf: &mut [u8], at: usize, file: &[u8], figures: &[u16], i: usize, q: u8) -> usize
-    requires { ⌜ (Cell (now file) (now figures) (now buf) at 104 q) × (i < planOf (now file) .tasks) ⌝ }
-    ensures { λ r. ⌜ PutIn (now (buf .entry)) (now (buf .exit)) at 104 (holdLineAt (now (file .entry)) i q) r ⌝ }
+    requires { ⌜ (Cell (now file) (now figures) (now buf) at holdRoom q) × (i < planOf (now file) .tasks) ⌝ }
+    ensures { λ r. ⌜ PutIn (now (buf .entry)) (now (buf .exit)) at holdRoom (holdLineAt (now (file .entry)) i q) r ⌝ }
 {
     let column = folds::wide(q);
     let hold = analysis_hold_times::hold_at(figures, i, column);
@@ -138,8 +143,8 @@ fn put_hold_at(buf: &mut [u8], at: usize, file: &[u8], figures: &[u16], i: usize
 
 // The lines of task i.
 fn put_holds_of(buf: &mut [u8], at: usize, file: &[u8], figures: &[u16], i: usize) -> usize
-    requires { ⌜ (Ready (now file) (now figures) (now buf) at 1664) × (i < planOf (now file) .tasks) ⌝ }
-    ensures { λ r. ⌜ PutIn (now (buf .entry)) (now (buf .exit)) at 1664 (holdLinesOf (now (file .entry)) i) r ⌝ }
+    requires { ⌜ (Ready (now file) (now figures) (now buf) at holdsOfRoom) × (i < planOf (now file) .tasks) ⌝ }
+    ensures { λ r. ⌜ PutIn (now (buf .entry)) (now (buf .exit)) at holdsOfRoom (holdLinesOf (now (file .entry)) i) r ⌝ }
 {
     let counts = plan_reading::checked::counts(file);
     let mut end = at;
@@ -153,8 +158,8 @@ fn put_holds_of(buf: &mut [u8], at: usize, file: &[u8], figures: &[u16], i: usiz
 
 // Those of every task.
 fn put_holds(buf: &mut [u8], at: usize, file: &[u8], figures: &[u16]) -> usize
-    requires { ⌜ Ready (now file) (now figures) (now buf) at 106496 ⌝ }
-    ensures { λ r. ⌜ PutIn (now (buf .entry)) (now (buf .exit)) at 106496 (holdLines (now (file .entry))) r ⌝ }
+    requires { ⌜ Ready (now file) (now figures) (now buf) at holdsRoom ⌝ }
+    ensures { λ r. ⌜ PutIn (now (buf .entry)) (now (buf .exit)) at holdsRoom (holdLines (now (file .entry))) r ⌝ }
 {
     let counts = plan_reading::checked::counts(file);
     let n = folds::wide(counts.tasks);
@@ -169,8 +174,8 @@ fn put_holds(buf: &mut [u8], at: usize, file: &[u8], figures: &[u16]) -> usize
 
 // Those and these.
 fn put_figures(buf: &mut [u8], at: usize, file: &[u8], figures: &[u16]) -> usize
-    requires { ⌜ Ready (now file) (now figures) (now buf) at 118784 ⌝ }
-    ensures { λ r. ⌜ PutIn (now (buf .entry)) (now (buf .exit)) at 118784 (figureLines (now (file .entry))) r ⌝ }
+    requires { ⌜ Ready (now file) (now figures) (now buf) at figuresRoom ⌝ }
+    ensures { λ r. ⌜ PutIn (now (buf .entry)) (now (buf .exit)) at figuresRoom (figureLines (now (file .entry))) r ⌝ }
 {
     let a = put_budgets(buf, at, file, figures);
     put_holds(buf, a, file, figures)
@@ -178,8 +183,8 @@ fn put_figures(buf: &mut [u8], at: usize, file: &[u8], figures: &[u16]) -> usize
 
 // "requirement TAG B1 B2 TOLERANCE SLACK SIDE met", or "unmet".
 fn put_requirement(buf: &mut [u8], at: usize, tag: u16, found: Requirement) -> usize
-    requires { ⌜ at + 160 ≤ length (now buf) ⌝ }
-    ensures { λ r. ⌜ PutIn (now (buf .entry)) (now (buf .exit)) at 160 (requirementLine tag found) r ⌝ }
+    requires { ⌜ at + requirementRoom ≤ length (now buf) ⌝ }
+    ensures { λ r. ⌜ PutIn (now (buf .entry)) (now (buf .exit)) at requirementRoom (requirementLine tag found) r ⌝ }
 {
     let tag = Field::Number(tag as u64);
     let first = Field::Number(found.blocking1 as u64);
@@ -202,28 +207,17 @@ fn put_requirement_at(
     buf: &mut [u8],
     at: usize,
     file: &[u8],
-    tasks: &[u16],
     figures: &[u16],
-    counts: &[u16],
-    globals: [bool; 16],
-    ceilings: [u16; 16],
+    terms: &[u16],
     i: usize,
 ) -> Required
-    requires { ⌜ (Known (now file) (now figures)) × (Tasks (planOf (now file)) (now tasks)) × (Column 64 (globalCount (planOf (now file))) (now counts)) × (Globals (planOf (now file)) globals) × (Column 16 (ceiling (planOf (now file))) ceilings) × (i < planOf (now file) .tasks) × (at + 160 ≤ length (now buf)) ⌝ }
-    ensures { λ r. ⌜ PutAll (now (buf .entry)) (now (buf .exit)) at 160 (requirementAt (now (file .entry)) i) (passes (now (file .entry)) i) r ⌝ }
+    requires { ⌜ Row (now file) (now figures) (now terms) (now buf) at i ⌝ }
+    ensures { λ r. ⌜ RowPut (now (file .entry)) i (now (buf .entry)) (now (buf .exit)) at r ⌝ }
 {
-    if counts[i] == 0 {
+    if analysis_requirements::count_at(terms, i) == 0 {
         return Required { end: at, all: true };
     }
-    let found = analysis_requirements::requirement_of(
-        file,
-        tasks,
-        figures,
-        counts,
-        globals,
-        ceilings,
-        i,
-    );
+    let found = analysis_requirements::requirement_of(file, figures, terms, i);
     let task = plan_reading::checked::task(file, i);
     let end = put_requirement(buf, at, task.tag, found);
     Required {
@@ -237,22 +231,19 @@ fn put_requirements(
     buf: &mut [u8],
     at: usize,
     file: &[u8],
-    tasks: &[u16],
     figures: &[u16],
-    counts: &[u16],
-    globals: [bool; 16],
-    ceilings: [u16; 16],
+    terms: &[u16],
 ) -> Required
-    requires { ⌜ (Known (now file) (now figures)) × (Tasks (planOf (now file)) (now tasks)) × (Column 64 (globalCount (planOf (now file))) (now counts)) × (Globals (planOf (now file)) globals) × (Column 16 (ceiling (planOf (now file))) ceilings) × (at + 10240 ≤ length (now buf)) ⌝ }
-    ensures { λ r. ⌜ PutAll (now (buf .entry)) (now (buf .exit)) at 10240 (requirementLines (now (file .entry))) (admitted (planOf (now (file .entry)))) r ⌝ }
+    requires { ⌜ (Prepared (now file) (now figures) (now terms)) × (at + requirementsRoom ≤ length (now buf)) ⌝ }
+    ensures { λ r. ⌜ RowsPut (now (file .entry)) (now (buf .entry)) (now (buf .exit)) at r ⌝ }
 {
-    let plan_counts = plan_reading::checked::counts(file);
-    let n = folds::wide(plan_counts.tasks);
+    let counts = plan_reading::checked::counts(file);
+    let n = folds::wide(counts.tasks);
     let mut end = at;
     let mut all = true;
     let mut i = 0;
     while i < n {
-        let one = put_requirement_at(buf, end, file, tasks, figures, counts, globals, ceilings, i);
+        let one = put_requirement_at(buf, end, file, figures, terms, i);
         end = one.end;
         all = all & one.all;
         i += 1;
@@ -262,8 +253,8 @@ fn put_requirements(
 
 // "admitted yes" or "admitted no".
 fn put_admitted(buf: &mut [u8], at: usize, yes: bool) -> usize
-    requires { ⌜ at + 16 ≤ length (now buf) ⌝ }
-    ensures { λ r. ⌜ PutIn (now (buf .entry)) (now (buf .exit)) at 16 (admittedLine yes) r ⌝ }
+    requires { ⌜ at + admittedRoom ≤ length (now buf) ⌝ }
+    ensures { λ r. ⌜ PutIn (now (buf .entry)) (now (buf .exit)) at admittedRoom (admittedLine yes) r ⌝ }
 {
     let word = print_lines::either(yes, Word::Yes, Word::No);
     put_line(
@@ -275,40 +266,32 @@ fn put_admitted(buf: &mut [u8], at: usize, yes: bool) -> usize
     )
 }
 
-// The requirements and whether the plan is admitted, with what they need gathered first.
-fn put_verdict(
-    buf: &mut [u8],
-    at: usize,
-    file: &[u8],
-    figures: &[u16],
-    globals: [bool; 16],
-) -> usize
-    requires { ⌜ (Known (now file) (now figures)) × (Globals (planOf (now file)) globals) × (at + 10256 ≤ length (now buf)) ⌝ }
-    ensures { λ r. ⌜ PutIn (now (buf .entry)) (now (buf .exit)) at 10256 (verdictLines (now (file .entry))) r ⌝ }
+// The requirements and whether the plan is admitted.
+fn put_verdict(buf: &mut [u8], at: usize, file: &[u8], figures: &[u16]) -> usize
+    requires { ⌜ Ready (now file) (now figures) (now buf) at verdictRoom ⌝ }
+    ensures { λ r. ⌜ PutIn (now (buf .entry)) (now (buf .exit)) at verdictRoom (verdictLines (now (file .entry))) r ⌝ }
 {
-    let tasks = tables::task_table(file, globals);
-    let counts = analysis_requirements::global_counts(file, globals);
-    let ceilings = analysis_requirements::ceilings(file);
-    let required = put_requirements(buf, at, file, &tasks, figures, &counts, globals, ceilings);
+    let mut terms = [0u16; analysis_requirements::TERMS];
+    analysis_requirements::fill_terms(file, figures, &mut terms);
+    let required = put_requirements(buf, at, file, figures, &terms);
     put_admitted(buf, required.end, required.all)
 }
 
 // The sheet of a checked plan, from the table of its figures.
 fn put_parts(buf: &mut [u8], file: &[u8], figures: &[u16]) -> usize
-    requires { ⌜ Ready (now file) (now figures) (now buf) 0 131072 ⌝ }
-    ensures { λ r. ⌜ PutIn (now (buf .entry)) (now (buf .exit)) 0 131072 (planSheet (now (file .entry))) r ⌝ }
+    requires { ⌜ Ready (now file) (now figures) (now buf) 0 mostSheet ⌝ }
+    ensures { λ r. ⌜ PutIn (now (buf .entry)) (now (buf .exit)) 0 mostSheet (planSheet (now (file .entry))) r ⌝ }
 {
-    let globals = tables::globals(file);
     let a = print_lines::put_plan(buf, 0, plan_reading::checked::counts(file));
-    let b = put_resources(buf, a, file, globals);
+    let b = put_resources(buf, a, file, figures);
     let c = put_figures(buf, b, file, figures);
-    put_verdict(buf, c, file, figures, globals)
+    put_verdict(buf, c, file, figures)
 }
 
 // The sheet of a checked plan.
 fn put_plan_sheet(buf: &mut [u8], file: &[u8]) -> usize
-    requires { ⌜ (Checked (now file)) × (131072 ≤ length (now buf)) ⌝ }
-    ensures { λ r. ⌜ PutIn (now (buf .entry)) (now (buf .exit)) 0 131072 (planSheet (now (file .entry))) r ⌝ }
+    requires { ⌜ (Checked (now file)) × (mostSheet ≤ length (now buf)) ⌝ }
+    ensures { λ r. ⌜ PutIn (now (buf .entry)) (now (buf .exit)) 0 mostSheet (planSheet (now (file .entry))) r ⌝ }
 {
     let mut figures = [0u16; analysis_hold_times::FIGURES];
     analysis_hold_times::fill_figures(file, &mut figures);
@@ -320,9 +303,9 @@ fn sheet_aside(file: &[u8], out: &mut [u8]) -> Line
     requires { ⌜ Checked (now file) ⌝ }
     ensures { λ r. ⌜ r ≡ lineFor (planSheet (now (file .entry))) (length (now (out .entry))) ⌝ }
     ensures { λ r. ⌜ now (out .exit) ≡ lineIn (planSheet (now (file .entry))) (now (out .entry)) ⌝ }
-    ensures { λ r. ⌜ r .length ≤ 131072 ⌝ }
+    ensures { λ r. ⌜ r .length ≤ mostSheet ⌝ }
 {
-    let mut buf = [0u8; 131072];
+    let mut buf = [0u8; SHEET];
     let end = put_plan_sheet(&mut buf, file);
     print_text::hand_over(&buf[0..end], out)
 }
@@ -332,7 +315,7 @@ fn sheet_aside(file: &[u8], out: &mut [u8]) -> Line
 pub fn sheet(file: &[u8], out: &mut [u8]) -> Line
     ensures { λ r. ⌜ r ≡ sheetLine (now (file .entry)) (length (now (out .entry))) ⌝ }
     ensures { λ r. ⌜ now (out .exit) ≡ sheetIn (now (file .entry)) (now (out .entry)) ⌝ }
-    ensures { λ r. ⌜ r .length ≤ 131072 ⌝ }
+    ensures { λ r. ⌜ r .length ≤ mostSheet ⌝ }
 {
     let code = plan::check(file);
     if code != 0 {
@@ -341,7 +324,7 @@ pub fn sheet(file: &[u8], out: &mut [u8]) -> Line
             length: 0,
         };
     }
-    if out.len() < 131072 {
+    if out.len() < SHEET {
         return sheet_aside(file, out);
     }
     let length = put_plan_sheet(out, file);

@@ -3,6 +3,7 @@ use native.Mathlib.Omega.{arith}
 use borrow.Author.Needs.{needs}
 use Rattle.print_text.proofs.TextLaws.{put-wider}
 use Rattle.print_lines.specs.declared.Word.the-variants.{Yes, No}
+use Rattle.print_sheet.specs.Rooms.{admittedRoom}
 use Rattle.print_sheet.proofs.Laws.{either-text}
 use Rattle.print_sheet.proofs.put_admitted.Statement.{statement}
 use Rattle.print_sheet.proofs.put_admitted.Tie as tie
@@ -14,7 +15,7 @@ returns : tie.Need-returns
 returns c =
     let p = c .before .before in
     let w = p .before .before .before .before in
-    put-wider 16 (rw (w .either .ensures, either-text (w .before .before .args .yes) Yes No) at (p .put-line .ensures)) (omega arith)
+    put-wider admittedRoom (rw (w .either .ensures, either-text (w .before .before .args .yes) Yes No) at (p .put-line .ensures)) (omega arith)
 
 pub put-admitted-spec : {M : Type 1} → statement M
 put-admitted-spec =

@@ -2,6 +2,7 @@
 use native.Mathlib.Omega.{arith}
 use borrow.Author.Needs.{needs}
 use Rattle.print_text.proofs.TextLaws.{put-wider}
+use Rattle.print_sheet.specs.Rooms.{budgetRoom}
 use Rattle.print_sheet.proofs.Laws.{budget-place, budget-out, budget-in}
 use Rattle.print_sheet.proofs.put_budget_at.Statement.{statement}
 use Rattle.print_sheet.proofs.put_budget_at.Tie as tie
@@ -41,7 +42,7 @@ returns-2 c =
     let w = b .before .before in
     let h = w .before .before .before .before .pre in
     budget-in _ _ (h .0 .known) _ (h .0 .resource) (w .wide .ensures .0) _ (h .1) (b .before .wide2 .ensures .0) (b .budget-at .ensures) (i .if1 .left)
-    (p .before .before .before .wait-in .ensures .0) (put-wider 96 (p .put-line .ensures) (omega arith))
+    (p .before .before .before .wait-in .ensures .0) (put-wider budgetRoom (p .put-line .ensures) (omega arith))
 
 pub put-budget-at-spec : {M : Type 1} → statement M
 put-budget-at-spec =

@@ -5,11 +5,12 @@ use borrow.Author.Needs.{needs}
 use Rattle.print_text.proofs.Turns.{PutBelow, turns-none, turns-more, turns-room, turns-done}
 use Rattle.plan_reading.proofs.Laws.{valid-plan}
 use Rattle.print_sheet.specs.Sheet.{budgetLinesOf, budgetLines}
+use Rattle.print_sheet.specs.Rooms.{budgetsOfRoom}
 use Rattle.print_sheet.proofs.put_budgets.Statement.{statement}
 use Rattle.print_sheet.proofs.put_budgets.Tie as tie
 
 abbrev Inv-loop : tie.InvT-loop
-Inv-loop buf₀ at file figures counts end₀ k₀ buf end k = PutBelow buf₀ buf at 1536 8 (counts .processors) k (budgetLinesOf file) end
+Inv-loop buf₀ at file figures counts end₀ k₀ buf end k = PutBelow buf₀ buf at budgetsOfRoom 8 (counts .processors) k (budgetLinesOf file) end
 
 abbrev μ-loop : tie.MeasureT-loop
 μ-loop buf₀ at file figures counts end₀ k₀ buf end k = counts .processors - k

@@ -5,11 +5,12 @@ use borrow.Author.Needs.{needs}
 use Rattle.print_text.proofs.Turns.{PutBelow, turns-none, turns-more, turns-room, turns-done}
 use Rattle.plan_reading.proofs.Laws.{valid-plan}
 use Rattle.print_sheet.specs.Sheet.{budgetAt, budgetLinesOf}
+use Rattle.print_sheet.specs.Rooms.{budgetRoom}
 use Rattle.print_sheet.proofs.put_budgets_of.Statement.{statement}
 use Rattle.print_sheet.proofs.put_budgets_of.Tie as tie
 
 abbrev Inv-loop : tie.InvT-loop
-Inv-loop buf₀ at file figures k counts end₀ q₀ buf end q = PutBelow buf₀ buf at 96 16 (counts .resources) q (budgetAt file k) end
+Inv-loop buf₀ at file figures k counts end₀ q₀ buf end q = PutBelow buf₀ buf at budgetRoom 16 (counts .resources) q (budgetAt file k) end
 
 abbrev μ-loop : tie.MeasureT-loop
 μ-loop buf₀ at file figures k counts end₀ q₀ buf end q = counts .resources - q

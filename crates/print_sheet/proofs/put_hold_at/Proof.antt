@@ -2,7 +2,8 @@
 use native.Mathlib.Omega.{arith}
 use borrow.Author.Needs.{needs}
 use Rattle.print_text.proofs.TextLaws.{put-wider}
-use Rattle.print_sheet.proofs.Laws.{hold-place, hold-global, hold-out, hold-in}
+use Rattle.print_sheet.specs.Rooms.{holdRoom}
+use Rattle.print_sheet.proofs.Laws.{sharer, hold-place, hold-global, hold-out, hold-in}
 use Rattle.print_sheet.proofs.put_hold_at.Statement.{statement}
 use Rattle.print_sheet.proofs.put_hold_at.Tie as tie
 
@@ -23,7 +24,7 @@ longest-of-requires c κs =
     let w = i .before .before in
     let h = w .before .before .before .before .pre in
     let e = w .wide .ensures .0 in
-    (h .0 .known, h .1, hold-place _ _ (h .0 .known) _ (h .0 .resource) e _ (h .1) .resource, hold-global _ _ (h .0 .known) _ (h .0 .resource) e _ (h .1) (i .before .hold-at .ensures) (i .if1 .left))
+    sharer _ _ (h .0 .known) _ (h .0 .resource) e _ (h .1) (hold-global _ _ (h .0 .known) _ (h .0 .resource) e _ (h .1) (i .before .hold-at .ensures) (i .if1 .left))
 
 put-line-requires : tie.Need-put-line-requires
 put-line-requires c κs =
@@ -41,7 +42,7 @@ returns-2 c =
     let w = i .before .before in
     let h = w .before .before .before .before .pre in
     hold-in _ _ (h .0 .known) _ (h .0 .resource) (w .wide .ensures .0) _ (h .1) (i .before .hold-at .ensures) (i .if1 .left) (m .before .task .ensures)
-    (m .longest-of .ensures .0) (m .longest-of .ensures .1) (put-wider 104 (p .put-line .ensures) (omega arith))
+    (m .longest-of .ensures .0) (m .longest-of .ensures .1) (put-wider holdRoom (p .put-line .ensures) (omega arith))
 
 pub put-hold-at-spec : {M : Type 1} → statement M
 put-hold-at-spec =

@@ -6,11 +6,12 @@ use borrow.Author.Needs.{needs}
 use Rattle.print_text.proofs.Turns.{PutBelow, turns-none, turns-more, turns-room, turns-done}
 use Rattle.plan_reading.proofs.Laws.{valid-plan}
 use Rattle.print_sheet.specs.Sheet.{holdLinesOf, holdLines}
+use Rattle.print_sheet.specs.Rooms.{holdsOfRoom}
 use Rattle.print_sheet.proofs.put_holds.Statement.{statement}
 use Rattle.print_sheet.proofs.put_holds.Tie as tie
 
 abbrev Inv-loop : tie.InvT-loop
-Inv-loop buf₀ at file figures n end₀ i₀ buf end i = PutBelow buf₀ buf at 1664 64 n i (holdLinesOf file) end
+Inv-loop buf₀ at file figures n end₀ i₀ buf end i = PutBelow buf₀ buf at holdsOfRoom 64 n i (holdLinesOf file) end
 
 abbrev μ-loop : tie.MeasureT-loop
 μ-loop buf₀ at file figures n end₀ i₀ buf end i = n - i

@@ -5,11 +5,12 @@ use borrow.Author.Needs.{needs}
 use Rattle.print_text.proofs.Turns.{PutBelow, turns-none, turns-more, turns-room, turns-done}
 use Rattle.plan_reading.proofs.Laws.{valid-plan}
 use Rattle.print_sheet.specs.Sheet.{holdLineAt, holdLinesOf}
+use Rattle.print_sheet.specs.Rooms.{holdRoom}
 use Rattle.print_sheet.proofs.put_holds_of.Statement.{statement}
 use Rattle.print_sheet.proofs.put_holds_of.Tie as tie
 
 abbrev Inv-loop : tie.InvT-loop
-Inv-loop buf₀ at file figures i counts end₀ q₀ buf end q = PutBelow buf₀ buf at 104 16 (counts .resources) q (holdLineAt file i) end
+Inv-loop buf₀ at file figures i counts end₀ q₀ buf end q = PutBelow buf₀ buf at holdRoom 16 (counts .resources) q (holdLineAt file i) end
 
 abbrev μ-loop : tie.MeasureT-loop
 μ-loop buf₀ at file figures i counts end₀ q₀ buf end q = counts .resources - q

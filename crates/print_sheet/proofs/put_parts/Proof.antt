@@ -2,7 +2,7 @@
 use native.Mathlib.Omega.{arith}
 use borrow.Author.Needs.{needs}
 use Rattle.print_text.proofs.TextLaws.{put-wider, put-in-then}
-use Rattle.print_sheet.specs.Sheet.{planSheet}
+use Rattle.print_sheet.specs.Sheet.{planSheet, mostSheet}
 use Rattle.print_sheet.proofs.Laws.{plan-counts}
 use Rattle.print_sheet.proofs.put_parts.Statement.{statement}
 use Rattle.print_sheet.proofs.put_parts.Tie as tie
@@ -14,11 +14,11 @@ returns c =
     let f = v .before .before .before .before in
     let r = f .before .before .before .before in
     let a = r .before .before .before .before in
-    put-wider 131072 (put-in-then (put-in-then (put-in-then (plan-counts _ (a .before .counts .result) (a .before .counts .ensures) (a .put-plan .ensures)) (r .put-resources .ensures)) (f .put-figures .ensures)) (v .put-verdict .ensures)) (omega arith)
+    put-wider mostSheet (put-in-then (put-in-then (put-in-then (plan-counts _ (a .before .counts .result) (a .before .counts .ensures) (a .put-plan .ensures)) (r .put-resources .ensures)) (f .put-figures .ensures)) (v .put-verdict .ensures)) (omega arith)
 
 pub put-parts-spec : {M : Type 1} → statement M
 put-parts-spec =
     tie.close
     (tie.spec
     (λ c κs. search needs) (λ c κs. search needs) (λ c κs. search needs) (λ c κs. search needs) (λ c κs. search needs)
-    (λ c κs. search needs) (λ c. search needs) returns)
+    (λ c. search needs) returns)

@@ -6,6 +6,7 @@ use mir.Val.{SFits}
 use mir.Facts.{toZ-ofZ}
 use Rattle.print_text.proofs.TextLaws.{put-wider}
 use Rattle.print_lines.specs.declared.Word.the-variants.{Met, Unmet}
+use Rattle.print_sheet.specs.Rooms.{requirementRoom}
 use Rattle.print_sheet.proofs.Laws.{either-text}
 use Rattle.print_sheet.proofs.put_requirement.Statement.{statement}
 use Rattle.print_sheet.proofs.put_requirement.Tie as tie
@@ -22,7 +23,7 @@ returns c =
     let found = a .args .found in
     let s : SFits w64 (found .tolerance) = record { sfits = w .before .before .struct-told .given .1 .1 .0 .1 } in
     let t : SFits w64 (found .slack) = record { sfits = w .before .struct-told2 .given .1 .1 .1 .0 .1 } in
-    put-wider 160 (rw (w .either .ensures, either-text (found .met) Met Unmet, toZ-ofZ s, toZ-ofZ t) at (p .put-line .ensures)) (omega arith)
+    put-wider requirementRoom (rw (w .either .ensures, either-text (found .met) Met Unmet, toZ-ofZ s, toZ-ofZ t) at (p .put-line .ensures)) (omega arith)
 
 pub put-requirement-spec : {M : Type 1} → statement M
 put-requirement-spec =

@@ -1,5 +1,6 @@
--- The table of counts tells whether the task asks.
+-- The table of terms tells whether the task asks.
 use Prim.Native.Nat.{_<_}
+use mathlib.Core.Path.{_∙_}
 use native.Mathlib.Omega.{arith}
 use borrow.Author.Needs.{needs}
 use Rattle.plan_reading.proofs.Laws.{valid-plan}
@@ -8,32 +9,30 @@ use Rattle.print_sheet.proofs.put_requirement_at.Statement.{statement}
 use Rattle.print_sheet.proofs.put_requirement_at.Tie as tie
 
 low : (a : tie.Start) → a .args .i < 64
-low a = omega (arith, valid-plan _ (a .pre .0 .plan) .tasks, a .pre .5)
+low a = omega (arith, valid-plan _ (a .pre .prepared .known .plan) .tasks, a .pre .task)
 
-mul-if1 : tie.Need-mul-if1
-mul-if1 c = let b = c .before .before .before in omega (arith, low (b .before .before))
-
-shared-slice-read-if1 : tie.Need-shared-slice-read-if1
-shared-slice-read-if1 c = let b = c .before .before .before in let a = b .before .before .before in omega (arith, low a, a .pre .2 .long)
+count-at-requires : tie.Need-count-at-requires
+count-at-requires c κs = let a = c .before .before .before .before in (a .pre .prepared .terms .long, low a)
 
 returns : tie.Need-returns
 returns c =
-    let b = c .before .before .before .before in
+    let n = c .before in
+    let b = n .before .before in
     let a = b .before .before .before in
-    requirement-out _ _ (a .pre .2 .at _ (low a)) _ _ (c .if1 .taken)
+    requirement-out _ _ (n .count-at .ensures ∙ a .pre .prepared .terms .count _ (low a)) _ _ (c .if1 .taken)
 
 returns-2 : tie.Need-returns-2
 returns-2 c =
     let p = c .before .before in
-    let i = p .before .before .before .before in
-    let b = i .before .before .before .before in
+    let r = p .before .before .before in
+    let n = r .before .before in
+    let b = n .before .before in
     let a = b .before .before .before in
-    requirement-in _ _ (a .pre .2 .at _ (low a)) (i .if1 .left) (p .before .before .task .ensures) (p .before .before .before .requirement-of .ensures)
-    (p .put-requirement .ensures)
+    requirement-in _ _ (n .count-at .ensures ∙ a .pre .prepared .terms .count _ (low a)) (r .before .if1 .left) (p .before .before .task .ensures)
+    (r .requirement-of .ensures) (p .put-requirement .ensures)
 
 pub put-requirement-at-spec : {M : Type 1} → statement M
 put-requirement-at-spec =
     tie.close
     (tie.spec
-    mul-if1 shared-slice-read-if1 returns (λ c κs. search needs) (λ c κs. search needs) (λ c κs. search needs) (λ c. search needs)
-    returns-2)
+    count-at-requires returns (λ c κs. search needs) (λ c κs. search needs) (λ c κs. search needs) (λ c. search needs) returns-2)

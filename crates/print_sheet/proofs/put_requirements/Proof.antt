@@ -9,33 +9,38 @@ use Rattle.print_text.proofs.Turns.{PutBelow, turns-none, turns-more, turns-roo
 use Rattle.plan_reading.proofs.Laws.{valid-plan}
 use Rattle.analysis_equations.specs.Requirement.{admitted}
 use Rattle.print_sheet.specs.Sheet.{requirementAt, requirementLines}
+use Rattle.print_sheet.specs.Rooms.{requirementRoom}
 use Rattle.print_sheet.specs.Inner.{passes}
 use Rattle.print_sheet.proofs.put_requirements.Statement.{statement}
 use Rattle.print_sheet.proofs.put_requirements.Tie as tie
 
 abbrev Inv-loop : tie.InvT-loop
-Inv-loop buf₀ at file tasks figures counts globals ceilings n end₀ all₀ i₀ buf end all i =
-    (PutBelow buf₀ buf at 160 64 n i (requirementAt file) end) × (all ≡ allBelow i (passes file))
+Inv-loop buf₀ at file figures terms n end₀ all₀ i₀ buf end all i =
+    (PutBelow buf₀ buf at requirementRoom 64 n i (requirementAt file) end) × (all ≡ allBelow i (passes file))
 
 abbrev μ-loop : tie.MeasureT-loop
-μ-loop buf₀ at file tasks figures counts globals ceilings n end₀ all₀ i₀ buf end all i = n - i
+μ-loop buf₀ at file figures terms n end₀ all₀ i₀ buf end all i = n - i
 
 loop-holds : tie.Need-loop-holds Inv-loop μ-loop
 unfolding allBelow
 loop-holds c =
     let k = c .before in
-    let b = k .before .before .before in
+    let b = k .before .before in
     let h = b .before .before .before .pre in
-    (turns-none (omega (arith, c .wide .ensures .0, k .counts .ensures .1, valid-plan _ (h .0 .plan) .tasks)) (h .5), refl)
+    (turns-none (omega (arith, c .wide .ensures .0, k .counts .ensures .1, valid-plan _ (h .0 .known .plan) .tasks)) (h .1), refl)
 
 put-requirement-at-requires : tie.Need-put-requirement-at-requires Inv-loop μ-loop
 put-requirement-at-requires c κs =
     let l = c .before .before in
     let k = l .before .before in
-    let b = k .before .before .before in
+    let b = k .before .before in
     let h = b .before .before .before .pre in
     let t = c .before .loop-test .taken in
-    (h .0, h .1, h .2, h .3, h .4, omega (arith, t, l .before .wide .ensures .0, k .counts .ensures .1), turns-room (l .loop .inv .0) t)
+    record {
+      prepared = h .0;
+      room = turns-room (l .loop .inv .0) t;
+      task = omega (arith, t, l .before .wide .ensures .0, k .counts .ensures .1);
+    }
 
 loop-again : tie.Need-loop-again Inv-loop μ-loop
 loop-again c =
@@ -56,5 +61,5 @@ pub put-requirements-spec : {M : Type 1} → statement M
 put-requirements-spec =
     tie.close
     (tie.spec
-    Inv-loop μ-loop (λ c κs. let b = c .before .before .before in b .before .before .pre .0 .plan) (λ c κs. search needs) loop-holds
+    Inv-loop μ-loop (λ c κs. c .before .before .before .before .pre .0 .known .plan) (λ c κs. search needs) loop-holds
     put-requirement-at-requires (λ c. omega arith) (λ c. omega arith) loop-again (λ c. c .before .loop .inv .0 .long) returns)

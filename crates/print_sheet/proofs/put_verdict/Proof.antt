@@ -8,13 +8,13 @@ use Rattle.print_sheet.proofs.put_verdict.Tie as tie
 returns : tie.Need-returns
 unfolding verdictLines
 returns c =
-    let p = c .before .before .before .before .before .before .put-requirements .ensures in
-    let q = c .before .before .put-admitted .ensures in
-    put-in-then (p .put) (rw (p .all) at q)
+    let a = c .before .before in
+    let p = a .before .before .before .before .put-requirements .ensures in
+    put-in-then (p .put) (rw (p .all) at (a .put-admitted .ensures))
 
 pub put-verdict-spec : {M : Type 1} → statement M
 put-verdict-spec =
     tie.close
     (tie.spec
-    (λ c κs. search needs) (λ c κs. search needs) (λ c κs. search needs) (λ c. search needs) (λ c. search needs)
-    (λ c κs. search needs) (λ c κs. search needs) (λ c. search needs) returns)
+    (λ c. search needs) (λ c κs. search needs) (λ c. search needs) (λ c κs. search needs) (λ c κs. search needs) (λ c. search needs)
+    returns)
