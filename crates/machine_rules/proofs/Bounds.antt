@@ -1,13 +1,12 @@
 -- From every sound state: whoever waits has what it waits for within its bound.
 use Prim.Native.Nat.{ℕ, _+_, _-_, _≤_, _<_}
-use mathlib.Core.Bool.{Bool, true, false, cond, not, and-false, or-true, true≢false}
+use mathlib.Core.Bool.{Bool, true, false, not, and-false, or-true, true≢false}
 use mathlib.Core.List.{List, [], _∷_, _++_}
 use mathlib.Core.Logic.{_⊎_, inl, inr}
 use mathlib.Core.Path.{_≡_, refl, sym, ap, _∙_}
 use native.Mathlib.Omega.{arith}
 use borrow.Author.Tests.{not-true}
 use Rattle.folds.proofs.Tests.{and-parts}
-use Rattle.folds.proofs.Arrays.{by-eq}
 use Rattle.plan_reading.specs.Plan.{Plan, Valid}
 use Rattle.analysis_equations.specs.Questions.{taskNumber}
 use Rattle.queue_rules.specs.Rules.{Line, inLine, holds, queued, isHead, waiting, without, entered, released, ticked, aheadIn, limit}
@@ -15,8 +14,10 @@ use Rattle.queue_rules.proofs.Waiting.{Waiting, wait-entered, wait-released, wa
 use Rattle.queue_rules.proofs.Heads.{Without, head-entered, head-released, head-ticked, head-some, head-bound}
 use Rattle.machine_rules.specs.declared.Call.{Call}
 use Rattle.machine_rules.specs.declared.Call.the-variants.{Request, Release, Tick}
-use Rattle.machine_rules.specs.Machine.{View, terms, callCode, effect, step, after}
+use Rattle.machine_rules.specs.Machine.{View, terms, step, after}
 use Rattle.machine_rules.specs.Waiting.{isTick, ticks, Event, grants, ends, heads, occurs, Within, Bounded, TaskKept, CoreKept, ServedFrom}
+use Rattle.machine_rules.proofs.Moves.{Move, stays, enters, leaves, moved}
+use Rattle.machine_rules.proofs.Moves as Moves
 use Rattle.machine_rules.proofs.SoundLines.{known, SoundAt, SoundLines, fits, sound-step}
 
 tick-le : (c : Call) → isTick c ≤ 1
@@ -25,21 +26,16 @@ tick-le (Release tag q) = omega arith
 tick-le Tick = omega arith
 
 module _ (p : Plan) where
-  -- what a call does to the line of q: nothing, or one of the moves
+  -- what no move breaks, with the ticks that it takes
   step-line : (R : ℕ → Line → Type 0) (s : View) (c : Call) (q : ℕ) → R 0 (s .lines q) → ((i : ℕ) → R 0 (entered (terms p q) i (s .lines q)))
       → R 0 (released (terms p q) (s .lines q)) → R 1 (ticked (terms p q) (s .lines q)) → R (isTick c) (step p s c .lines q)
-  unfolding step
-  step-line R s (Request tag r) q x e l t =
-      by-eq (λ (d : Bool). R 0 (cond d (effect p s (Request tag r)) s .lines q)) (callCode p s (Request tag r)) 0
-      (λ _. by-eq (λ (d : Bool). R 0 (cond d (entered (terms p r) (taskNumber p tag) (s .lines q)) (s .lines q))) q r
-      (λ i. rw (← i) (e (taskNumber p tag)))
-      (λ _. x))
-      (λ _. x)
-  step-line R s (Release tag r) q x e l t =
-      by-eq (λ (d : Bool). R 0 (cond d (effect p s (Release tag r)) s .lines q)) (callCode p s (Release tag r)) 0
-      (λ _. by-eq (λ (d : Bool). R 0 (cond d (released (terms p r) (s .lines q)) (s .lines q))) q r (λ i. rw (← i) l) (λ _. x))
-      (λ _. x)
-  step-line R s Tick q x e l t = t
+  step-line R s c q x e l t = go (moved p s q c)
+    where
+      go : {c : Call} {m : Line} → Move p s q c m → R (isTick c) m
+      go (stays z) = rw z x
+      go (enters tag h) = e (taskNumber p tag)
+      go (leaves tag) = l
+      go Moves.ticks = t
 
   -- an event in a list occurs in it
   occurs-at : (e : Event p) (s : View) (early : List Call) (c : Call) (late : List Call) → e (after p s early) c ≡ true

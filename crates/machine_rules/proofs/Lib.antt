@@ -1,3 +1,4 @@
+pub mod Moves
 pub mod SoundLines
 pub mod OnceLines
 pub mod InTime

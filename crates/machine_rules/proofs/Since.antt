@@ -1,21 +1,21 @@
 -- Everybody who waits after a list of calls has done so since the start, or since a call of the list.
 use Prim.Native.Nat.{ℕ}
-use mathlib.Core.Bool.{Bool, true, false, cond, _&&_, _||_, not, and-false, true≢false}
+use mathlib.Core.Bool.{Bool, true, false, _&&_, _||_, not, and-false, true≢false}
 use mathlib.Core.List.{List, [], _∷_, _++_}
 use mathlib.Core.Logic.{_⊎_, inl, inr}
 use mathlib.Core.Path.{_≡_, refl, sym, ap, _∙_}
 use borrow.Author.Tests.{eq-eqb, ne-eqb, not-true, not-false}
 use Rattle.folds.proofs.Tests.{and-parts}
-use Rattle.folds.proofs.Arrays.{by-eq}
 use Rattle.plan_reading.specs.Plan.{Plan, Valid}
 use Rattle.analysis_equations.specs.Questions.{taskNumber}
-use Rattle.queue_rules.specs.Rules.{Line, line, inLine, holds, queued, isHead, waiting, without, entered, released}
+use Rattle.queue_rules.specs.Rules.{Line, line, inLine, holds, queued, isHead, waiting, without, entered}
 use Rattle.queue_rules.proofs.Stays.{entered-waiting, released-waiting, ticked-waiting}
 use Rattle.machine_rules.specs.declared.Answer.the-variants.{Waits}
 use Rattle.machine_rules.specs.declared.Call.{Call}
-use Rattle.machine_rules.specs.declared.Call.the-variants.{Request, Release, Tick}
-use Rattle.machine_rules.specs.Machine.{View, fresh, terms, callCode, requestTold, effect, step, answer, after, run}
+use Rattle.machine_rules.specs.declared.Call.the-variants.{Request}
+use Rattle.machine_rules.specs.Machine.{View, fresh, terms, callCode, requestTold, step, answer, after, run}
 use Rattle.machine_rules.specs.Waiting.{Event, grants, ends, occurs, Asked, Sent, StillWaits, StillWithout, TaskSince, asked-since, task-since-start, CoreSince, sent-since, core-since-start, EachSince}
+use Rattle.machine_rules.proofs.Moves.{Move, stays, enters, leaves, ticks, moved}
 use Rattle.machine_rules.proofs.SoundLines.{known, fits}
 use Rattle.machine_rules.proofs.OnceLines.{Orderly, orderly-fresh, orderly-step}
 
@@ -87,32 +87,18 @@ module _ (p : Plan) (v : Valid p) where
       go (line h b (x ∷ rest)) f _ = requests refl (told ∙ ap (requestTold p i q) f)
 
   task-begins : (i q : ℕ) (s : View) (c : Call) → Orderly p s → waiting i (step p s c .lines q) ≡ true → (waiting i (s .lines q) ≡ true) ⊎ Requests s i q c
-  unfolding step
-  task-begins i q s c o =
-      by-eq (λ (d : Bool). waiting i (cond d (effect p s c) s .lines q) ≡ true → (waiting i (s .lines q) ≡ true) ⊎ Requests s i q c) (callCode p s c) 0
-      (go c) (λ _ w. inl w)
+  task-begins i q s c o = go (moved p s q c)
     where
-      Out : Call → Type 0
-      Out c = (waiting i (s .lines q) ≡ true) ⊎ Requests s i q c
-
       came : (tag : ℕ) → callCode p s (Request tag q) ≡ 0 → waiting i (entered (terms p q) (taskNumber p tag) (s .lines q)) ≡ true
-          → (waiting i (s .lines q) ≡ true) ⊎ (taskNumber p tag ≡ i) → Out (Request tag q)
+          → (waiting i (s .lines q) ≡ true) ⊎ (taskNumber p tag ≡ i) → (waiting i (s .lines q) ≡ true) ⊎ Requests s i q (Request tag q)
       came tag e w (inl h) = inl h
       came tag e w (inr h) = inr (rw h at (told-wait s tag q e (rw (← h) at w)))
 
-      go : (c : Call) → callCode p s c ≡ 0 → waiting i (effect p s c .lines q) ≡ true → Out c
-      go (Request tag r) e =
-          by-eq (λ (d : Bool). waiting i (cond d (entered (terms p r) (taskNumber p tag) (s .lines q)) (s .lines q)) ≡ true → Out (Request tag r)) q r
-          (λ f w. same tag r (sym f) e (rw (← f) at w))
-          (λ _ w. inl w)
-        where
-          same : (tag r : ℕ) → r ≡ q → callCode p s (Request tag r) ≡ 0 → waiting i (entered (terms p q) (taskNumber p tag) (s .lines q)) ≡ true → Out (Request tag r)
-          same tag r f e w = rw f (came tag (rw f at e) w (entered-waiting (terms p q) (known p q) (p .processors) i (taskNumber p tag) (s .lines q) w))
-      go (Release tag r) e =
-          by-eq (λ (d : Bool). waiting i (cond d (released (terms p r) (s .lines q)) (s .lines q)) ≡ true → Out (Release tag r)) q r
-          (λ f w. inl (released-waiting (terms p q) (known p q) (p .processors) i (fits p v q) (o .sound q) (o .once q) (rw (← f) at w)))
-          (λ _ w. inl w)
-      go Tick e = λ w. inl (ticked-waiting (terms p q) (known p q) (p .processors) i (fits p v q) (o .sound q) (o .once q) w)
+      go : {c : Call} {l : Line} → Move p s q c l → waiting i l ≡ true → (waiting i (s .lines q) ≡ true) ⊎ Requests s i q c
+      go (stays z) w = inl w
+      go (enters tag e) w = came tag e w (entered-waiting (terms p q) (known p q) (p .processors) i (taskNumber p tag) (s .lines q) w)
+      go (leaves tag) w = inl (released-waiting (terms p q) (known p q) (p .processors) i (fits p v q) (o .sound q) (o .once q) w)
+      go ticks w = inl (ticked-waiting (terms p q) (known p q) (p .processors) i (fits p v q) (o .sound q) (o .once q) w)
 
   -- each task that waits has asked
   pub each-task : (s : View) (calls : List Call) → Orderly p s → (i q : ℕ) → waiting i (after p s calls .lines q) ≡ true → TaskSince p s calls i q

@@ -12,12 +12,12 @@ use Rattle.analysis_equations.specs.Sharing.{uses, global}
 use Rattle.analysis_equations.specs.HoldTimes.{holdAt, waitTime}
 use Rattle.analysis_equations.specs.Questions.{taskNumber, sharingCode, useCode}
 use Rattle.analysis_equations.proofs.Laws.{uses-out, hold-low, hold-budget}
-use Rattle.queue_rules.specs.Rules.{Line, inLine, entered, released}
+use Rattle.queue_rules.specs.Rules.{Line, inLine}
 use Rattle.queue_rules.proofs.Sound.{Fits, Sound, is-free}
 use Rattle.queue_rules.proofs.Moves.{sound-entered, sound-released, sound-ticked}
 use Rattle.machine_rules.specs.declared.Call.{Call}
-use Rattle.machine_rules.specs.declared.Call.the-variants.{Request, Release, Tick}
-use Rattle.machine_rules.specs.Machine.{Lines, View, fresh, change, terms, busy, requestCode, callCode, effect, step}
+use Rattle.machine_rules.specs.Machine.{View, fresh, terms, busy, requestCode, step}
+use Rattle.machine_rules.proofs.Moves.{Move, stays, enters, leaves, ticks, moved}
 
 -- the tasks that may come to the line of q: its users, where it is global
 abbrev pub known : Plan → ℕ → ℕ → Bool
@@ -42,11 +42,6 @@ code-new b c k = by-eq (λ (d : Bool). cond d (cond b (suc k) 0) c ≡ 0 → (c 
     out : (b : Bool) → cond b (suc k) 0 ≡ 0 → b ≡ false
     out true z = let bad : ⊥ = omega arith in absurd bad
     out false z = refl
-
--- what holds of each line holds of the lines with one changed
-pub change-each : (R : ℕ → Line → Type 0) (s : Lines) (q : ℕ) (f : Line → Line) → R q (f (s q)) → ((r : ℕ) → R r (s r))
-    → (r : ℕ) → R r (change s q f r)
-change-each R s q f x w r = by-eq (λ (d : Bool). R r (cond d (f (s r)) (s r))) r q (λ e. rw e x) (λ n. w r)
 
 module _ (p : Plan) where
   pub accepted : (s : View) (tag q : ℕ) → requestCode p s tag q ≡ 0 → Accepted p s (taskNumber p tag) q
@@ -82,14 +77,10 @@ module _ (p : Plan) (v : Valid p) where
       task i q u = uses-out p i q (i < p .tasks) u (λ s l t r. rw (← t) (v .section-fits s l .task))
 
   pub sound-step : (s : View) (c : Call) → SoundLines p s → SoundLines p (step p s c)
-  unfolding step
-  sound-step s c w =
-      by-eq (λ (d : Bool). SoundLines p (cond d (effect p s c) s)) (callCode p s c) 0 (λ e. go c e) (λ n. w)
+  sound-step s c w q = go (moved p s q c)
     where
-      go : (c : Call) → callCode p s c ≡ 0 → SoundLines p (effect p s c)
-      go (Request tag q) e =
-          change-each (SoundAt p) (s .lines) q (entered (terms p q) (taskNumber p tag))
-          (sound-entered (terms p q) (known p q) (p .processors) (fits q) (taskNumber p tag) (accepted p s tag q e .user) (w q)) w
-      go (Release tag q) e =
-          change-each (SoundAt p) (s .lines) q (released (terms p q)) (sound-released (terms p q) (known p q) (p .processors) (fits q) (w q)) w
-      go Tick e = λ q. sound-ticked (terms p q) (known p q) (p .processors) (fits q) (w q)
+      go : {c : Call} {l : Line} → Move p s q c l → SoundAt p q l
+      go (stays z) = w q
+      go (enters tag e) = sound-entered (terms p q) (known p q) (p .processors) (fits q) (taskNumber p tag) (accepted p s tag q e .user) (w q)
+      go (leaves tag) = sound-released (terms p q) (known p q) (p .processors) (fits q) (w q)
+      go ticks = sound-ticked (terms p q) (known p q) (p .processors) (fits q) (w q)
