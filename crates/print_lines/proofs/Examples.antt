@@ -7,7 +7,7 @@ use Rattle.print_text.specs.Text.{quoted, placesTo, digits}
 use Rattle.plan_reading.specs.Plan.{namePart}
 use Rattle.print_lines.specs.Lines.{planLine, answerLine}
 
-pub plan-example : planLine (record { processors = 2; tasks = 2; resources = 1; sections = 2 }) ≡ quoted "plan 2 2 1 2\n"
+pub plan-example : planLine (record { edition = 1; processors = 2; tasks = 2; resources = 1; sections = 2 }) ≡ quoted "plan 2 2 1 2\n"
 unfolding placesTo digits
 plan-example = refl
 
