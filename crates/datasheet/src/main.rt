@@ -1,5 +1,5 @@
 // The datasheet program: reads a plan file on standard input, and prints its sheet, or "refused N". What is printed is the work of
-// `sheet` and `wording`; here bytes are only read and written.
+// `print_sheet` and `print_lines`; here bytes are only read and written.
 use libc::STDOUT_FILENO;
 
 // "refused N".

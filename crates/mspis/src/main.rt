@@ -1,5 +1,5 @@
 // The printing program: reads a plan file and then calls on standard input, and prints what each call does. What a
-// line says is the work of `transcript`; here bytes are only read and written.
+// line says is the work of `print_calls`; here bytes are only read and written.
 use libc::STDIN_FILENO;
 use libc::STDOUT_FILENO;
 use machine_calls::WIDTH;
