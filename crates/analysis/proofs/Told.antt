@@ -1,13 +1,5 @@
 -- What each answer is, case by case: what is refused, what is given, and what it tells.
-use Prim.Native.Nat.{ℕ, _<_, _≤_, _/_, _%_}
-use mathlib.Core.Bool.{Bool, true, cond, not, _||_}
-use mathlib.Core.List.{List, [], _∷_}
-use mathlib.Core.Path.{_≡_, refl, sym, ap, _∙_}
-use native.Mathlib.Omega.{arith}
-use native.Mathlib.Nat.{div-add-mod'}
-use borrow.Author.Tests.{eq-eqb, ne-eqb, lt-ltb, le-ltb, ltb-true}
-use lib.Dec.{ltb}
-use lib.ListN.{getD, replicate}
+use Rattle.folds.proofs.Ground.{ℕ, _<_, _≤_, _/_, _%_, Bool, true, cond, not, _||_, _≡_, refl, sym, ap, _∙_, List, [], _∷_, ltb, getD, replicate, div-add-mod', arith, eq-eqb, ne-eqb, lt-ltb, le-ltb, ltb-true}
 use Rattle.folds.specs.Bytes.{placedBelow}
 use Rattle.folds.proofs.Tests.{code-zero, code-next}
 use Rattle.folds.proofs.Arrays.{by-eq, placed-same}

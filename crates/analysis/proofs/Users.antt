@@ -1,9 +1,5 @@
 -- A task and a resource that are asked about: what is refused, and what is known where nothing is.
-use Prim.Native.Nat.{ℕ, _<_}
-use mathlib.Core.List.{List}
-use mathlib.Core.Path.{_≡_, refl, sym, _∙_}
-use native.Mathlib.Omega.{arith}
-use lib.ListN.{getD}
+use Rattle.folds.proofs.Ground.{ℕ, _<_, _≡_, refl, sym, _∙_, List, getD, arith}
 use Rattle.plan_reading.specs.Plan.{Plan, planOf}
 use Rattle.plan.specs.Acceptance.{refusal}
 use Rattle.plan_reading.proofs.Laws.{valid-plan}

@@ -1,11 +1,5 @@
 -- What the figures of the analysis are bound by, and how they hang together.
-use Prim.Native.Nat.{ℕ, zero, suc, _+_, _*_, _-_, _<_, _≤_, min}
-use mathlib.Core.Bool.{Bool, true, false, cond, _&&_, not, true≢false}
-use mathlib.Core.Path.{_≡_, refl, sym, _∙_}
-use native.Mathlib.Omega.{arith}
-use native.Mathlib.Nat.{mul-le-mul, suc-mul, mul-suc, div-zero, div-lt-iff-lt-mul, le-of-suc-le-suc, le-antisymm}
-use borrow.Author.Tests.{ltb-true, lt-ltb, le-ltb, leb-true, eqb-true, eq-eqb, ne-eqb, not-false}
-use lib.Dec.{eqb, ltb}
+use Rattle.folds.proofs.Ground.{ℕ, zero, suc, _+_, _*_, _-_, _<_, _≤_, min, Bool, true, false, cond, _&&_, not, true≢false, _≡_, refl, sym, _∙_, eqb, ltb, mul-le-mul, suc-mul, mul-suc, div-zero, div-lt-iff-lt-mul, le-of-suc-le-suc, le-antisymm, arith, ltb-true, lt-ltb, le-ltb, leb-true, eqb-true, eq-eqb, ne-eqb, not-false}
 use lib.Signed.{mag}
 use Rattle.folds.specs.Below.{anyBelow, sumBelow, maxBelow}
 use Rattle.folds.proofs.Tests.{cond-both, and-parts, is-not-true, same-test, any-at, any-out, code-zero, code-next}

@@ -1,9 +1,5 @@
 -- The fellows of a task, told by the table of hold times: who is of its processor and holds the resource for some time.
-use Prim.Native.Nat.{ℕ, _+_, _*_, _≤_}
-use mathlib.Core.Bool.{Bool, true, false, cond, _&&_, not}
-use mathlib.Core.Path.{_≡_, refl, ap, _∙_}
-use native.Mathlib.Omega.{arith}
-use lib.Dec.{eqb}
+use Rattle.folds.proofs.Ground.{ℕ, _+_, _*_, _≤_, Bool, true, false, cond, _&&_, not, _≡_, refl, ap, _∙_, eqb, arith}
 use Rattle.folds.specs.Below.{countBelow, sumBelow}
 use Rattle.folds.proofs.Figures.{count-step, sum-step}
 use Rattle.folds.proofs.Ranges.{cond-bound}

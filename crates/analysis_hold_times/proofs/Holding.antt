@@ -1,12 +1,5 @@
 -- What the walk through a processor's tasks makes of the rows: hold times, and the sums and maxima beside them.
-use Prim.Native.Nat.{ℕ, _+_, _*_, _-_, _<_, _≤_, max}
-use mathlib.Core.Bool.{Bool, true, false, cond, _&&_}
-use mathlib.Core.List.{List}
-use mathlib.Core.Path.{_≡_, refl, sym, ap, _∙_}
-use native.Mathlib.Omega.{arith}
-use borrow.Author.Tests.{lt-ltb, le-ltb, eq-eqb, ne-eqb}
-use lib.Dec.{eqb, ltb}
-use lib.ListN.{length, getD, replicate}
+use Rattle.folds.proofs.Ground.{ℕ, _+_, _*_, _-_, _<_, _≤_, max, Bool, true, false, cond, _&&_, _≡_, refl, sym, ap, _∙_, List, eqb, ltb, length, getD, replicate, arith, lt-ltb, le-ltb, eq-eqb, ne-eqb}
 use Rattle.folds.proofs.Figures.{sum-same}
 use Rattle.folds.proofs.Arrays.{by-eq}
 use Rattle.plan_reading.specs.Plan.{Plan, Valid}

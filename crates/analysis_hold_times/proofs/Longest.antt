@@ -1,13 +1,6 @@
 -- The tables of longest sections, and which resources the processors use.
-use Prim.Native.Nat.{ℕ, _+_, _-_, _/_, _<_, _≤_, max}
-use mathlib.Core.Bool.{Bool, true, false, cond, and-comm, true≢false}
-use mathlib.Core.List.{List}
-use mathlib.Core.Path.{_≡_, refl, sym, ap, _∙_}
-use native.Mathlib.Omega.{arith}
+use Rattle.folds.proofs.Ground.{ℕ, _+_, _-_, _/_, _<_, _≤_, max, Bool, true, false, cond, and-comm, true≢false, _≡_, refl, sym, ap, _∙_, List, eqb, leb, length, getD, set, replicate, length-replicate, arith, ltb-true, eq-eqb, ne-eqb}
 use borrow.Author.Tests as Tests
-use borrow.Author.Tests.{ltb-true, eq-eqb, ne-eqb}
-use lib.Dec.{eqb, leb}
-use lib.ListN.{length, getD, set, replicate, length-replicate}
 use Rattle.folds.specs.Below.{maxBelow, countBelow}
 use Rattle.folds.proofs.Tests.{is-not-true}
 use Rattle.folds.proofs.Figures.{max-same, sum-at, count-step, count-bound}

@@ -1,12 +1,5 @@
 -- The table of hold times and budgets, processor by processor.
-use Prim.Native.Nat.{ℕ, _+_, _<_, _≤_}
-use mathlib.Core.Bool.{Bool, true, false, cond, _&&_, and-false}
-use mathlib.Core.List.{List}
-use mathlib.Core.Path.{_≡_, refl, sym, ap, _∙_}
-use native.Mathlib.Omega.{arith}
-use borrow.Author.Tests.{ltb-true, ltb-false, lt-ltb, le-ltb, eq-eqb, ne-eqb}
-use lib.Dec.{ltb}
-use lib.ListN.{length, getD}
+use Rattle.folds.proofs.Ground.{ℕ, _+_, _<_, _≤_, Bool, true, false, cond, _&&_, and-false, _≡_, refl, sym, ap, _∙_, List, ltb, length, getD, arith, ltb-true, ltb-false, lt-ltb, le-ltb, eq-eqb, ne-eqb}
 use Rattle.folds.specs.Below.{anyBelow}
 use Rattle.folds.proofs.Tests.{is-not-false, same-test, any-none}
 use Rattle.folds.proofs.Arrays.{by-eq}

@@ -1,12 +1,5 @@
 -- A walk through a processor's tasks from the highest down: which are passed, and what the rows hold that it makes.
-use Prim.Native.Nat.{ℕ, _+_, _-_, _<_, _≤_, max}
-use mathlib.Core.Bool.{Bool, true, false, cond, _&&_, and-false}
-use mathlib.Core.List.{List}
-use mathlib.Core.Path.{_≡_, refl, sym, ap, ap₂, _∙_}
-use native.Mathlib.Omega.{arith}
-use borrow.Author.Tests.{ltb-true, ltb-false, lt-ltb, le-ltb, eq-eqb}
-use lib.Dec.{eqb, ltb}
-use lib.ListN.{getD, replicate}
+use Rattle.folds.proofs.Ground.{ℕ, _+_, _-_, _<_, _≤_, max, Bool, true, false, cond, _&&_, and-false, _≡_, refl, sym, ap, ap₂, _∙_, List, eqb, ltb, getD, replicate, arith, ltb-true, ltb-false, lt-ltb, le-ltb, eq-eqb}
 use Rattle.folds.specs.Below.{maxBelow, sumBelow}
 use Rattle.folds.proofs.Tests.{is-not-false, same-test, any-none}
 use Rattle.folds.proofs.Figures.{max-same, sum-same, count-bound}

@@ -1,12 +1,5 @@
 -- Equations 4 and 5 over the table of terms.
-use Prim.Native.Nat.{ℕ, _+_, _*_, _<_, _≤_, min}
-use mathlib.Core.Bool.{Bool, true, false, cond, not}
-use mathlib.Core.List.{List}
-use mathlib.Core.Path.{_≡_, refl, _∙_}
-use native.Mathlib.Omega.{arith}
-use native.Mathlib.Nat.{mul-le-mul}
-use lib.Dec.{eqb}
-use lib.ListN.{getD}
+use Rattle.folds.proofs.Ground.{ℕ, _+_, _*_, _<_, _≤_, min, Bool, true, false, cond, not, _≡_, refl, _∙_, List, eqb, getD, mul-le-mul, arith}
 use Rattle.folds.specs.Below.{maxBelow, sumBelow}
 use Rattle.folds.proofs.Figures.{sum-done, max-done}
 use Rattle.folds.proofs.Ranges.{cond-bound}

@@ -1,12 +1,6 @@
 -- Laws of the demand of the tasks above a task.
-use Prim.Native.Nat.{ℕ, _+_, _*_, _-_, _<_, _≤_}
-use mathlib.Core.Bool.{true, false}
-use mathlib.Core.List.{List}
-use mathlib.Core.Path.{_≡_, refl, ap, _∙_}
-use native.Mathlib.Omega.{arith}
-use native.Mathlib.Nat.{mul-le-mul}
+use Rattle.folds.proofs.Ground.{ℕ, _+_, _*_, _-_, _<_, _≤_, true, false, _≡_, refl, ap, _∙_, List, getD, set, replicate, mul-le-mul, arith}
 use lib.IntN.{ℤ, pos, _-ℤ_}
-use lib.ListN.{getD, set, replicate}
 use Rattle.folds.specs.Below.{countBelow}
 use Rattle.folds.specs.Packed.{packedBelow}
 use Rattle.folds.specs.Signed.{maxZ, greatestTo}

@@ -1,11 +1,5 @@
 -- A table of how many sections there are, by key, and what a section that was read names.
-use Prim.Native.Nat.{ℕ, _+_, _<_, _≤_}
-use mathlib.Core.Bool.{Bool, cond, _&&_, and-comm}
-use mathlib.Core.List.{List}
-use mathlib.Core.Path.{_≡_, sym, _∙_}
-use native.Mathlib.Omega.{arith}
-use lib.Dec.{eqb}
-use lib.ListN.{getD, replicate, length-replicate}
+use Rattle.folds.proofs.Ground.{ℕ, _+_, _<_, _≤_, Bool, cond, _&&_, and-comm, _≡_, sym, _∙_, List, eqb, getD, replicate, length-replicate, arith}
 use Rattle.folds.specs.Below.{countBelow}
 use Rattle.folds.proofs.Tests.{cond-both}
 use Rattle.folds.proofs.Figures.{sum-same, sum-count, count-bound, count-same}

@@ -1,13 +1,6 @@
 -- What the tables tell of Equations 6 and 7 and of the requirement, and the bounds that the code's steps need.
-use Prim.Native.Nat.{ℕ, _+_, _*_, _-_, _<_, _≤_}
-use mathlib.Core.Bool.{Bool, true, false, cond, _&&_}
-use mathlib.Core.List.{List}
-use mathlib.Core.Path.{_≡_, refl, _∙_}
-use native.Mathlib.Omega.{arith}
-use native.Mathlib.Nat.{mul-le-mul}
-use borrow.Author.Tests.{lt-ltb, le-ltb}
+use Rattle.folds.proofs.Ground.{ℕ, _+_, _*_, _-_, _<_, _≤_, Bool, true, false, cond, _&&_, _≡_, refl, _∙_, List, getD, mul-le-mul, arith, lt-ltb, le-ltb}
 use lib.IntN.{ℤ, pos, _-ℤ_}
-use lib.ListN.{getD}
 use lib.Signed.{leZ, mag}
 use Rattle.plan_rules.specs.declared.TaskRow.{TaskRow}
 use Rattle.plan_reading.specs.Plan.{Plan, Valid}

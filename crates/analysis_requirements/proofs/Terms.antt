@@ -1,13 +1,5 @@
 -- The table of terms as it is filled: a turn of each of the three loops, and what stands there in the end.
-use Prim.Native.Nat.{ℕ, _+_, _%_, _<_, _≤_, max}
-use mathlib.Core.Bool.{Bool, true, false, cond, not}
-use mathlib.Core.List.{List}
-use mathlib.Core.Path.{_≡_, refl, sym, ap, _∙_}
-use native.Mathlib.Omega.{arith}
-use borrow.Author.Tests.{eq-eqb, ne-eqb}
-use lib.Dec.{eqb}
-use lib.ListN.{length, getD, set, replicate, length-set, length-replicate, getD-replicate}
-use lib.Seq.{getD-set-same, getD-set-other}
+use Rattle.folds.proofs.Ground.{ℕ, _+_, _%_, _<_, _≤_, max, Bool, true, false, cond, not, _≡_, refl, sym, ap, _∙_, List, eqb, length, getD, set, replicate, length-set, length-replicate, getD-replicate, getD-set-same, getD-set-other, arith, eq-eqb, ne-eqb}
 use Rattle.folds.specs.Below.{maxBelow, countBelow}
 use Rattle.folds.proofs.Figures.{max-step, count-step, count-bound}
 use Rattle.folds.proofs.Arrays.{by-eq}

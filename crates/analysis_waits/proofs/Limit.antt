@@ -1,10 +1,5 @@
 -- The longest wait by the figures of the fellows, and that its steps fit 32 bits.
-use Prim.Native.Nat.{ℕ, _+_, _*_, _≤_}
-use mathlib.Core.Bool.{true}
-use mathlib.Core.Path.{_≡_, sym, _∙_}
-use native.Mathlib.Omega.{arith}
-use native.Mathlib.Nat.{mul-le-mul}
-use lib.ListN.{length}
+use Rattle.folds.proofs.Ground.{ℕ, _+_, _*_, _≤_, true, _≡_, sym, _∙_, length, mul-le-mul, arith}
 use mir.Syntax.{w32}
 use mir.Val.{Fits}
 use Rattle.folds.specs.Below.{countBelow}

@@ -1,12 +1,6 @@
 -- What a call is answered on the state that a list of calls returned is what the rules say after that list, and the state is the one
 -- that the lines of the rules tell.
-use Prim.Native.Nat.{ℕ, _/_, _%_, _<_}
-use mathlib.Core.Bool.{Bool, cond}
-use mathlib.Core.List.{List, [], _∷_}
-use mathlib.Core.Path.{_≡_, refl, sym, ap}
-use native.Mathlib.Nat.{mod-lt}
-use native.Mathlib.Omega.{arith}
-use lib.ListN.{length, getD}
+use Rattle.folds.proofs.Ground.{ℕ, _/_, _%_, _<_, Bool, cond, _≡_, refl, sym, ap, List, [], _∷_, length, getD, mod-lt, arith}
 use Rattle.folds.proofs.Arrays.{by-eq}
 use Rattle.plan_reading.specs.Plan.{planOf}
 use Rattle.plan.specs.Acceptance.{refusal, Accepted}

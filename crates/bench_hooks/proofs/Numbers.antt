@@ -1,8 +1,5 @@
 -- The number of an answer, case by case.
-use Prim.Native.Nat.{ℕ, _*_}
-use mathlib.Core.Bool.{Bool, cond}
-use mathlib.Core.List.{List}
-use mathlib.Core.Path.{_≡_, refl, sym, ap, _∙_}
+use Rattle.folds.proofs.Ground.{ℕ, _*_, Bool, cond, _≡_, refl, sym, ap, _∙_, List}
 use Rattle.folds.proofs.Arrays.{by-eq}
 use Rattle.plan.specs.Acceptance.{refusal}
 use Rattle.plan_reading.specs.Plan.{planOf}

@@ -1,6 +1,5 @@
 -- The theorem of the table: the definitions compute what document 01 says.
-use mathlib.Core.Bool.{true}
-use mathlib.Core.Path.{_≡_, refl}
+use Rattle.folds.proofs.Ground.{true, _≡_, refl}
 use Rattle.folds.specs.Below.{anyBelow, countBelow, listBelow, sumBelow, maxBelow, findBelow}
 use Rattle.folds.specs.Words.{wordBelow}
 use Rattle.folds.specs.Signed.{greatestTo}

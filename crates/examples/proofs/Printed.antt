@@ -1,6 +1,5 @@
 -- The definitions give document 01's listing byte for byte, by computing.
-use mathlib.Core.List.{_++_}
-use mathlib.Core.Path.{_≡_, refl}
+use Rattle.folds.proofs.Ground.{_≡_, refl, _++_}
 use Rattle.plan_rules.specs.Rules.{tagNew, priorityNew, uniqueOk, lengthsOk, bytesOk, sameBytes, differ, nameNew, namesDiffer, namesOk, sectionSum, sumsOk}
 use Rattle.plan_layout.specs.Layout.{headerIn, countsOf, lengthSaid, offsetsOk, taskAt, taskSpare, startAt, lengthAt, resourceSpare, sectionAt, taskRows, lengthRows, sectionRows, taskRowsOk, lengthRowsOk, sectionRowsOk, partsCode}
 use Rattle.plan_reading.specs.Plan.{planOf, namePart}

@@ -1,14 +1,5 @@
 -- How much of what came is the plan: all of it, by its own bytes 14-15.
-use Prim.Native.Nat.{ℕ, _-_, _≤_, min}
-use mathlib.Core.Bool.{Bool, true, false, cond}
-use mathlib.Core.List.{List, _++_}
-use mathlib.Core.Path.{_≡_, refl, sym, ap, ap₂, _∙_}
-use native.Mathlib.Nat.{sub-zero, zero-add}
-use native.Mathlib.Omega.{arith}
-use borrow.Author.Tests.{le-ltb, ltb-false}
-use lib.Dec.{ltb}
-use lib.ListN.{length, getD, take, drop}
-use lib.Seq.{length-take-le, getD-take, take-at}
+use Rattle.folds.proofs.Ground.{ℕ, _-_, _≤_, min, Bool, true, false, cond, _≡_, refl, sym, ap, ap₂, _∙_, List, _++_, ltb, length, getD, take, drop, length-take-le, getD-take, take-at, sub-zero, zero-add, arith, le-ltb, ltb-false}
 use Rattle.folds.specs.Bytes.{number}
 use Rattle.plan_layout.specs.Editions.{headerLength}
 use Rattle.plan_layout.specs.Layout.{lengthSaid}

@@ -1,10 +1,5 @@
 -- What a call is answered, refused or not: its number, and the cuts of a tick.
-use Prim.Native.Nat.{ℕ}
-use mathlib.Core.Bool.{Bool, true, false, cond}
-use mathlib.Core.List.{List, [], _∷_}
-use mathlib.Core.Path.{_≡_, refl, sym, ap, _∙_}
-use native.Mathlib.Omega.{arith}
-use borrow.Author.Tests.{ne-eqb}
+use Rattle.folds.proofs.Ground.{ℕ, Bool, true, false, cond, _≡_, refl, sym, ap, _∙_, List, [], _∷_, arith, ne-eqb}
 use Rattle.folds.specs.Below.{countBelow}
 use Rattle.folds.proofs.Tests.{first-zero}
 use Rattle.folds.proofs.WordLaws.{word-ones}

@@ -1,14 +1,5 @@
 -- What a request is refused for, what it tells where it is not, and what it then does.
-use Prim.Native.Nat.{ℕ, _+_, _*_, _<_, _≤_}
-use mathlib.Core.Bool.{Bool, true, false, cond, not}
-use mathlib.Core.List.{List}
-use mathlib.Core.Logic.{_≢_, _⊎_, inl, inr}
-use mathlib.Core.Path.{_≡_, refl, sym, _∙_}
-use native.Mathlib.Omega.{arith}
-use native.Mathlib.Nat.{mul-le-mul}
-use borrow.Author.Tests.{ne-eqb, eqb-true, ltb-true, not-false}
-use lib.Dec.{eqb, ltb}
-use lib.ListN.{length}
+use Rattle.folds.proofs.Ground.{ℕ, _+_, _*_, _<_, _≤_, Bool, true, false, cond, not, _≡_, refl, sym, _∙_, _≢_, _⊎_, inl, inr, List, eqb, ltb, length, mul-le-mul, arith, ne-eqb, eqb-true, ltb-true, not-false}
 use Rattle.folds.proofs.Tests.{code-zero, code-next}
 use Rattle.folds.proofs.Arrays.{by-eq}
 use Rattle.plan_reading.specs.Plan.{Plan, Valid}

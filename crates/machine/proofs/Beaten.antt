@@ -1,8 +1,5 @@
 -- A tick: what it does to a sound state.
-use Prim.Native.Nat.{ℕ}
-use mathlib.Core.Bool.{true}
-use mathlib.Core.List.{List}
-use mathlib.Core.Path.{_≡_, ap₂, _∙_}
+use Rattle.folds.proofs.Ground.{ℕ, true, _≡_, ap₂, _∙_, List}
 use Rattle.plan_reading.specs.Plan.{Plan, Valid}
 use Rattle.machine_rules.specs.declared.Answer.the-variants.{Ticked}
 use Rattle.machine_rules.specs.declared.Call.the-variants.{Tick}

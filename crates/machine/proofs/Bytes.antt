@@ -1,10 +1,5 @@
 -- Bytes as a call: the state after them, and after a list of them.
-use Prim.Native.Nat.{ℕ, _+_, _*_, _/_}
-use mathlib.Core.Bool.{true, false, not}
-use mathlib.Core.List.{List, [], _∷_, _++_}
-use mathlib.Core.Path.{_≡_, refl, ap}
-use native.Mathlib.Numerals.{add-one}
-use lib.ListN.{length}
+use Rattle.folds.proofs.Ground.{ℕ, _+_, _*_, _/_, true, false, not, _≡_, refl, ap, List, [], _∷_, _++_, length, add-one}
 use Rattle.machine_rules.specs.declared.Call.{Call}
 use Rattle.machine_calls.specs.declared.CallBytes.{CallBytes}
 use Rattle.machine_calls.specs.declared.Decoded.{Decoded}

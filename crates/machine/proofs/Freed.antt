@@ -1,13 +1,5 @@
 -- A release: the number by which it is refused, and what it does where it is not.
-use Prim.Native.Nat.{ℕ, _+_, _*_, _-_, _<_, _≤_}
-use mathlib.Core.Bool.{true, cond, true≢false}
-use mathlib.Core.List.{List}
-use mathlib.Core.Logic.{_≢_}
-use mathlib.Core.Path.{_≡_, refl, sym, _∙_}
-use native.Mathlib.Omega.{arith}
-use borrow.Author.Tests.{ltb-true, eq-eqb, ne-eqb, lt-ltb, le-ltb}
-use lib.Dec.{eqb, ltb}
-use lib.ListN.{getD}
+use Rattle.folds.proofs.Ground.{ℕ, _+_, _*_, _-_, _<_, _≤_, true, cond, true≢false, _≡_, refl, sym, _∙_, _≢_, List, eqb, ltb, getD, arith, ltb-true, eq-eqb, ne-eqb, lt-ltb, le-ltb}
 use mir.Val.{boolByte}
 use Rattle.folds.proofs.Tests.{code-zero, code-next}
 use Rattle.plan_rules.specs.declared.TaskRow.{TaskRow}

@@ -1,10 +1,5 @@
 -- The states that the operations return show the lines of the rules, whatever the calls; demand 3, and the longest wait.
-use Prim.Native.Nat.{ℕ, _<_}
-use mathlib.Core.Bool.{Bool, true}
-use mathlib.Core.List.{List, [], _∷_, _++_}
-use mathlib.Core.Path.{_≡_, refl, sym, ap, _∙_}
-use borrow.Author.Tests.{ne-eqb, eq-eqb}
-use lib.ListN.{length, getD}
+use Rattle.folds.proofs.Ground.{ℕ, _<_, Bool, true, _≡_, refl, sym, ap, _∙_, List, [], _∷_, _++_, length, getD, ne-eqb, eq-eqb}
 use Rattle.folds.proofs.Arrays.{by-eq}
 use Rattle.plan_reading.specs.Plan.{Plan, planOf, Valid}
 use Rattle.plan_reading.proofs.Laws.{tags-differ}

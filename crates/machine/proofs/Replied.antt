@@ -1,10 +1,5 @@
 -- The reply to a call on a plan that is accepted, by what was found of the state and of the call.
-use Prim.Native.Nat.{ℕ}
-use mathlib.Core.Bool.{true, false}
-use mathlib.Core.List.{List}
-use mathlib.Core.Path.{_≡_, sym, _∙_}
-use native.Mathlib.Omega.{arith}
-use borrow.Author.Tests.{eq-eqb}
+use Rattle.folds.proofs.Ground.{ℕ, true, false, _≡_, sym, _∙_, List, arith, eq-eqb}
 use Rattle.plan.specs.Acceptance.{refusal}
 use Rattle.plan_reading.specs.Plan.{planOf}
 use Rattle.machine_rules.specs.declared.Call.{Call}

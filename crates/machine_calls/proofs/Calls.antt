@@ -1,14 +1,5 @@
 -- Bytes as calls: what the letter says, that they are one call at most, and that those in front do not depend on what lies behind.
-use Prim.Native.Nat.{ℕ, zero, suc, _+_, _*_, _-_, _≤_, _<_}
-use mathlib.Core.Bool.{Bool, true, false, cond, _&&_, not}
-use mathlib.Core.List.{List, [], _∷_, _++_}
-use mathlib.Core.Path.{_≡_, refl, sym, ap, ap₂, _∙_}
-use native.Mathlib.Nat.{add-zero, zero-add, add-assoc, add-comm, suc-mul}
-use native.Mathlib.Omega.{arith}
-use borrow.Author.Tests.{ne-eqb, not-true, not-false}
-use lib.Dec.{eqb}
-use lib.ListN.{length, getD, take, drop, List·getD-append}
-use lib.Seq.{getD-append-add, getD-drop, getD-take}
+use Rattle.folds.proofs.Ground.{ℕ, zero, suc, _+_, _*_, _-_, _≤_, _<_, Bool, true, false, cond, _&&_, not, _≡_, refl, sym, ap, ap₂, _∙_, List, [], _∷_, _++_, eqb, length, getD, take, drop, List·getD-append, getD-append-add, getD-drop, getD-take, add-zero, zero-add, add-assoc, add-comm, suc-mul, arith, ne-eqb, not-true, not-false}
 use Rattle.folds.specs.Bytes.{number}
 use Rattle.machine_rules.specs.declared.Call.{Call}
 use Rattle.machine_rules.specs.declared.Call.the-variants.{Request, Release, Tick}

@@ -1,11 +1,5 @@
 -- From every sound state: whoever waits has what it waits for within its bound.
-use Prim.Native.Nat.{ℕ, _+_, _-_, _≤_, _<_}
-use mathlib.Core.Bool.{Bool, true, false, not, and-false, or-true, true≢false}
-use mathlib.Core.List.{List, [], _∷_, _++_}
-use mathlib.Core.Logic.{_⊎_, inl, inr}
-use mathlib.Core.Path.{_≡_, refl, sym, ap, _∙_}
-use native.Mathlib.Omega.{arith}
-use borrow.Author.Tests.{not-true}
+use Rattle.folds.proofs.Ground.{ℕ, _+_, _-_, _≤_, _<_, Bool, true, false, not, and-false, or-true, true≢false, _≡_, refl, sym, ap, _∙_, _⊎_, inl, inr, List, [], _∷_, _++_, arith, not-true}
 use Rattle.folds.proofs.Tests.{and-parts}
 use Rattle.plan_reading.specs.Plan.{Plan, Valid}
 use Rattle.analysis_equations.specs.Questions.{taskNumber}

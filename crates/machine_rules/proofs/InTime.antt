@@ -1,11 +1,5 @@
 -- What `Within` says of a list of calls: the event occurs in the calls up to the tick that fills the limit, that tick included.
-use Prim.Native.Nat.{ℕ, _-_, _<_}
-use mathlib.Core.Bool.{true, cond, or-true}
-use mathlib.Core.List.{List, [], _∷_, _++_}
-use mathlib.Core.Path.{_≡_}
-use native.Mathlib.Omega.{arith}
-use borrow.Author.Tests.{ne-eqb}
-use lib.Dec.{eqb}
+use Rattle.folds.proofs.Ground.{ℕ, _-_, _<_, true, cond, or-true, _≡_, List, [], _∷_, _++_, eqb, arith, ne-eqb}
 use Rattle.plan_reading.specs.Plan.{Plan}
 use Rattle.machine_rules.specs.declared.Call.{Call}
 use Rattle.machine_rules.specs.Machine.{View, step, after}

@@ -1,13 +1,6 @@
 -- The longest wait: its figures, and that no request is told more. Who stands ahead of a task is one of its fellows, and stands there
 -- once; so their hold times are at most those of all fellows.
-use Prim.Native.Nat.{ℕ, _+_, _*_, _≤_, _<_}
-use mathlib.Core.Bool.{Bool, true, false, cond, _&&_, not, true≢false}
-use mathlib.Core.List.{List, [], _∷_}
-use mathlib.Core.Path.{_≡_, refl, sym, ap, _∙_}
-use native.Mathlib.Omega.{arith}
-use borrow.Author.Tests.{eq-eqb, ne-eqb}
-use lib.Dec.{eqb}
-use lib.ListN.{length}
+use Rattle.folds.proofs.Ground.{ℕ, _+_, _*_, _≤_, _<_, Bool, true, false, cond, _&&_, not, true≢false, _≡_, refl, sym, ap, _∙_, List, [], _∷_, eqb, length, arith, eq-eqb, ne-eqb}
 use Rattle.folds.specs.Below.{countBelow, listBelow}
 use Rattle.folds.proofs.Tests.{and-parts, first-zero}
 use Rattle.folds.proofs.Figures.{sum-same}

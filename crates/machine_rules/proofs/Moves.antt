@@ -1,8 +1,6 @@
 -- What a call does to the line of a resource: nothing, or one of the moves. Proofs about calls go by these cases and no others, so that
 -- a call that is added has one case here, one line in `moved`, and a clause where each claim is made of the moves.
-use Prim.Native.Nat.{ℕ}
-use mathlib.Core.Bool.{Bool, cond}
-use mathlib.Core.Path.{_≡_, refl, sym}
+use Rattle.folds.proofs.Ground.{ℕ, Bool, cond, _≡_, refl, sym}
 use Rattle.folds.proofs.Arrays.{by-eq}
 use Rattle.plan_reading.specs.Plan.{Plan}
 use Rattle.analysis_equations.specs.Questions.{taskNumber}

@@ -1,6 +1,5 @@
 -- Nobody stands in line twice, whatever is called; and what is asked of the lines that a list of calls starts from.
-use Prim.Native.Nat.{ℕ}
-use mathlib.Core.List.{List, [], _∷_}
+use Rattle.folds.proofs.Ground.{ℕ, List, [], _∷_}
 use Rattle.plan_reading.specs.Plan.{Plan, Valid}
 use Rattle.analysis_equations.specs.Questions.{taskNumber}
 use Rattle.queue_rules.specs.Rules.{Line, queueOf}

@@ -1,9 +1,5 @@
 -- The promise of Waiting.antt holds for every valid plan, every list of calls and every start.
-use Prim.Native.Nat.{ℕ}
-use mathlib.Core.Bool.{Bool, true, false, cond, true≢false}
-use mathlib.Core.List.{List, [], _∷_, _++_}
-use mathlib.Core.Path.{_≡_, refl, ap, _∙_}
-use borrow.Author.Tests.{eq-eqb}
+use Rattle.folds.proofs.Ground.{ℕ, Bool, true, false, cond, true≢false, _≡_, refl, ap, _∙_, List, [], _∷_, _++_, eq-eqb}
 use Rattle.folds.proofs.Arrays.{by-eq}
 use Rattle.plan_reading.specs.Plan.{Plan, Valid}
 use Rattle.analysis_equations.specs.Questions.{taskNumber}

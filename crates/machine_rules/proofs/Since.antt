@@ -1,10 +1,5 @@
 -- Everybody who waits after a list of calls has done so since the start, or since a call of the list.
-use Prim.Native.Nat.{ℕ}
-use mathlib.Core.Bool.{Bool, true, false, _&&_, _||_, not, and-false, true≢false}
-use mathlib.Core.List.{List, [], _∷_, _++_}
-use mathlib.Core.Logic.{_⊎_, inl, inr}
-use mathlib.Core.Path.{_≡_, refl, sym, ap, _∙_}
-use borrow.Author.Tests.{eq-eqb, ne-eqb, not-true, not-false}
+use Rattle.folds.proofs.Ground.{ℕ, Bool, true, false, _&&_, _||_, not, and-false, true≢false, _≡_, refl, sym, ap, _∙_, _⊎_, inl, inr, List, [], _∷_, _++_, eq-eqb, ne-eqb, not-true, not-false}
 use Rattle.folds.proofs.Tests.{and-parts}
 use Rattle.plan_reading.specs.Plan.{Plan, Valid}
 use Rattle.analysis_equations.specs.Questions.{taskNumber}

@@ -1,10 +1,5 @@
 -- The lines of a valid plan are sound from a fresh state on, whatever is called.
-use Prim.Native.Nat.{ℕ, suc, _<_}
-use mathlib.Core.Bool.{Bool, true, false, cond, _&&_, true≢false}
-use mathlib.Core.Path.{_≡_, refl, sym, _∙_}
-use native.Mathlib.Omega.{arith}
-use borrow.Author.Tests.{ltb-true}
-use lib.Dec.{eqb, ltb}
+use Rattle.folds.proofs.Ground.{ℕ, suc, _<_, Bool, true, false, cond, _&&_, true≢false, _≡_, refl, sym, _∙_, eqb, ltb, arith, ltb-true}
 use Rattle.folds.proofs.Tests.{and-parts, is-not-true, code-zero, code-next, any-at}
 use Rattle.folds.proofs.Arrays.{by-eq}
 use Rattle.plan_reading.specs.Plan.{Plan, Valid}

@@ -1,12 +1,5 @@
 -- A fresh state is sound, shows nobody in line, and is what such lines tell.
-use Prim.Native.Nat.{ℕ, _<_}
-use mathlib.Core.Bool.{true, false}
-use mathlib.Core.List.{List}
-use mathlib.Core.Path.{_≡_, refl, ap, fun-ext}
-use native.Mathlib.Omega.{arith}
-use borrow.Author.Tests.{eq-eqb, le-ltb, leb-true}
-use lib.Dec.{leb}
-use lib.ListN.{replicate, length-replicate, getD-replicate, List·getD-eq-default}
+use Rattle.folds.proofs.Ground.{ℕ, _<_, true, false, _≡_, refl, ap, fun-ext, List, leb, replicate, length-replicate, getD-replicate, List·getD-eq-default, arith, eq-eqb, le-ltb, leb-true}
 use Rattle.folds.proofs.Tests.{all-from, any-none, is-not-true, find-none}
 use Rattle.plan_reading.specs.Plan.{Plan, Valid}
 use Rattle.machine_rules.specs.Machine.{Lines, fresh}

@@ -1,8 +1,5 @@
 -- A sound state over ranks: what the laws of ranks ask of each line, and what is left to say of each task's row.
-use Prim.Native.Nat.{ℕ, _<_, _≤_}
-use mathlib.Core.List.{List}
-use mathlib.Core.Logic.{_⊎_}
-use mathlib.Core.Path.{_≡_}
+use Rattle.folds.proofs.Ground.{ℕ, _<_, _≤_, _≡_, _⊎_, List}
 use Rattle.plan_reading.specs.Plan.{Plan}
 use Rattle.analysis_equations.specs.HoldTimes.{holdAt}
 use Rattle.machine_rules.specs.Machine.{terms}

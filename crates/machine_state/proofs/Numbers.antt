@@ -1,14 +1,5 @@
 -- Laws of eight bytes as one number: it tells whether all of them are 0, and whether those from some place on are 255.
-use Prim.Native.Nat.{ℕ, zero, suc, _+_, _-_, _*_, _/_, _^_, _<_, _≤_}
-use mathlib.Core.Bool.{Bool, true, _||_, or-true}
-use mathlib.Core.List.{List}
-use mathlib.Core.Path.{_≡_, refl}
-use mathlib.Core.Logic.{_↔_}
-use native.Mathlib.Omega.{arith}
-use native.Mathlib.Nat.{pow-succ', div-lt-iff-lt-mul}
-use borrow.Author.Tests.{eqb-true, eq-eqb, ltb-true, lt-ltb}
-use lib.Dec.{eqb, ltb}
-use lib.ListN.{getD}
+use Rattle.folds.proofs.Ground.{ℕ, zero, suc, _+_, _-_, _*_, _/_, _^_, _<_, _≤_, Bool, true, _||_, or-true, _≡_, refl, _↔_, List, eqb, ltb, getD, pow-succ', div-lt-iff-lt-mul, arith, eqb-true, eq-eqb, ltb-true, lt-ltb}
 use lib.Pow.{pow-pos, pow-add}
 use Rattle.folds.specs.Below.{allBelow}
 use Rattle.folds.specs.Bytes.{number}

@@ -1,10 +1,5 @@
 -- A sound state is the one that its lines tell, so two that show the same are the same.
-use Prim.Native.Nat.{ℕ, _<_}
-use mathlib.Core.Bool.{true}
-use mathlib.Core.List.{List}
-use mathlib.Core.Path.{_≡_, sym, ap, ap₂, _∙_}
-use lib.ListN.{length}
-use lib.Seq.{ext-getD}
+use Rattle.folds.proofs.Ground.{ℕ, _<_, true, _≡_, sym, ap, ap₂, _∙_, List, length, ext-getD}
 use Rattle.plan_reading.specs.Plan.{Plan, Valid}
 use Rattle.queue_rules.specs.Rules as Rules
 use Rattle.machine_rules.specs.Machine.{View}

@@ -1,14 +1,6 @@
 -- The queue of a resource by what is left of its processors' first seats, what a test that has passed tells of its head, and the
 -- row of a free resource.
-use Prim.Native.Nat.{ℕ, zero, suc, _<_, _≤_}
-use mathlib.Core.Bool.{Bool, true, false, cond, _&&_, _||_, not, and-true, and-false, and-assoc, or-true, or-false}
-use mathlib.Core.List.{List}
-use mathlib.Core.Path.{_≡_, refl, sym, ap, _∙_}
-use native.Mathlib.Omega.{arith}
-use borrow.Author.Tests.{ltb-true, leb-true, lt-ltb, le-ltb}
-use lib.Dec.{eqb, leb, ltb}
-use lib.ListN.{length, getD, set, replicate, length-replicate}
-use lib.Seq.{getD-set-same, getD-set-other}
+use Rattle.folds.proofs.Ground.{ℕ, zero, suc, _<_, _≤_, Bool, true, false, cond, _&&_, _||_, not, and-true, and-false, and-assoc, or-true, or-false, _≡_, refl, sym, ap, _∙_, List, eqb, leb, ltb, length, getD, set, replicate, length-replicate, getD-set-same, getD-set-other, arith, ltb-true, leb-true, lt-ltb, le-ltb}
 use Rattle.folds.specs.Below.{allBelow, anyBelow}
 use Rattle.folds.specs.Bytes.{number, placedBelow}
 use Rattle.folds.proofs.Tests.{and-parts, all-at, all-same}

@@ -1,12 +1,5 @@
 -- A sound state shows sound lines, in which nobody stands twice.
-use Prim.Native.Nat.{ℕ, zero, suc, _+_, _<_, _≤_}
-use mathlib.Core.Bool.{Bool, true, false, true≢false}
-use mathlib.Core.List.{_∷_}
-use mathlib.Core.Path.{_≡_, refl, sym, ap, _∙_}
-use native.Mathlib.Omega.{arith}
-use borrow.Author.Tests.{eqb-true, ne-eqb}
-use lib.Dec.{eqb}
-use lib.ListN.{length, List·getD-eq-default}
+use Rattle.folds.proofs.Ground.{ℕ, zero, suc, _+_, _<_, _≤_, Bool, true, false, true≢false, _≡_, refl, sym, ap, _∙_, _∷_, eqb, length, List·getD-eq-default, arith, eqb-true, ne-eqb}
 use Rattle.folds.specs.Below.{maxBelow}
 use Rattle.folds.proofs.Tests.{or-out, is-not-true}
 use Rattle.plan_reading.specs.Plan.{Plan, Valid}

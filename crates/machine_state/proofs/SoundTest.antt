@@ -1,14 +1,5 @@
 -- The test by the tables is the test of soundness.
-use Prim.Native.Nat.{ℕ, zero, suc, _+_, _-_, _/_, _%_, _<_, _≤_}
-use mathlib.Core.Bool.{Bool, true, false, cond, _&&_, _||_, not, and-assoc, or-true}
-use mathlib.Core.List.{List}
-use mathlib.Core.Path.{_≡_, refl, sym, ap, ap₂, _∙_}
-use mathlib.Core.Logic.{_⊎_, inl, inr, _≢_}
-use native.Mathlib.Omega.{arith}
-use native.Mathlib.Nat.{le-antisymm}
-use borrow.Author.Tests.{eqb-true, eq-eqb, ne-eqb, lt-ltb, le-ltb, leb-true, le-leb}
-use lib.Dec.{eqb, leb, ltb}
-use lib.ListN.{getD}
+use Rattle.folds.proofs.Ground.{ℕ, zero, suc, _+_, _-_, _/_, _%_, _<_, _≤_, Bool, true, false, cond, _&&_, _||_, not, and-assoc, or-true, _≡_, refl, sym, ap, ap₂, _∙_, _⊎_, inl, inr, _≢_, List, eqb, leb, ltb, getD, le-antisymm, arith, eqb-true, eq-eqb, ne-eqb, lt-ltb, le-ltb, leb-true, le-leb}
 use Rattle.folds.specs.Below.{allBelow, anyBelow, maxBelow}
 use Rattle.folds.proofs.Tests.{and-parts, is-not-true, or-out, same-test, all-at, all-from, all-same, any-out}
 use Rattle.folds.proofs.Figures.{max-at}

@@ -1,15 +1,5 @@
 -- Laws of the tables: the seats of the tasks, and who sits where.
-use Prim.Native.Nat.{ℕ, zero, suc, _+_, _<_, _≤_, max}
-use mathlib.Core.Bool.{Bool, true, false, cond, _&&_}
-use mathlib.Core.List.{List, [], _∷_}
-use mathlib.Core.Path.{_≡_, refl, sym, ap, _∙_}
-use mathlib.Core.Logic.{_≢_}
-use native.Mathlib.Omega.{arith}
-use native.Mathlib.Nat.{max-zero}
-use borrow.Author.Tests.{eqb-true, eq-eqb, ltb-true, lt-ltb}
-use lib.Dec.{eqb, ltb}
-use lib.ListN.{length, getD, set, replicate, length-replicate, getD-replicate}
-use lib.Seq.{getD-set-same, getD-set-other}
+use Rattle.folds.proofs.Ground.{ℕ, zero, suc, _+_, _<_, _≤_, max, Bool, true, false, cond, _&&_, _≡_, refl, sym, ap, _∙_, _≢_, List, [], _∷_, eqb, ltb, length, getD, set, replicate, length-replicate, getD-replicate, getD-set-same, getD-set-other, max-zero, arith, eqb-true, eq-eqb, ltb-true, lt-ltb}
 use Rattle.folds.specs.Below.{maxBelow}
 use Rattle.folds.specs.Bytes.{placedBelow}
 use Rattle.folds.proofs.Tests.{and-parts, is-not-false, same-test}

@@ -1,13 +1,5 @@
 -- A sound state is told by what it shows: each row of a resource, and each row of a task.
-use Prim.Native.Nat.{ℕ, zero, suc, _+_, _<_, _≤_}
-use mathlib.Core.Bool.{Bool, true, false, cond, not}
-use mathlib.Core.List.{List}
-use mathlib.Core.Path.{_≡_, refl, sym, ap, _∙_}
-use mathlib.Core.Logic.{_⊎_, inl, inr, _≢_}
-use native.Mathlib.Omega.{arith}
-use borrow.Author.Tests.{eq-eqb, ne-eqb, lt-ltb, le-ltb, le-leb, lt-leb}
-use lib.Dec.{eqb, leb}
-use lib.ListN.{length}
+use Rattle.folds.proofs.Ground.{ℕ, zero, suc, _+_, _<_, _≤_, Bool, true, false, cond, not, _≡_, refl, sym, ap, _∙_, _⊎_, inl, inr, _≢_, List, eqb, leb, length, arith, eq-eqb, ne-eqb, lt-ltb, le-ltb, le-leb, lt-leb}
 use Rattle.folds.specs.Below.{maxBelow}
 use Rattle.folds.proofs.Tests.{all-from, find-none}
 use Rattle.folds.proofs.Figures.{max-at}

@@ -1,12 +1,5 @@
 -- A state passes the test of soundness exactly when it is whole: the test says what the laws of ranks ask, and nothing less.
-use Prim.Native.Nat.{ℕ, _+_, _-_, _<_, _≤_}
-use mathlib.Core.Bool.{Bool, true, false, cond, _&&_, _||_, not, or-true}
-use mathlib.Core.List.{List}
-use mathlib.Core.Path.{_≡_, refl, sym, ap, ap₂, _∙_}
-use mathlib.Core.Logic.{_⊎_, inl, inr, ⊎-elim, _≢_}
-use native.Mathlib.Omega.{arith}
-use borrow.Author.Tests.{eqb-true, eqb-false, eq-eqb, ne-eqb, lt-ltb, le-ltb, leb-true, le-leb, not-true}
-use lib.Dec.{eqb, leb}
+use Rattle.folds.proofs.Ground.{ℕ, _+_, _-_, _<_, _≤_, Bool, true, false, cond, _&&_, _||_, not, or-true, _≡_, refl, sym, ap, ap₂, _∙_, _⊎_, inl, inr, ⊎-elim, _≢_, List, eqb, leb, arith, eqb-true, eqb-false, eq-eqb, ne-eqb, lt-ltb, le-ltb, leb-true, le-leb, not-true}
 use Rattle.folds.specs.Below.{allBelow, anyBelow, maxBelow}
 use Rattle.folds.proofs.Tests.{and-parts, or-out, all-at, all-from, any-at, any-out}
 use Rattle.folds.proofs.Figures.{max-at}

@@ -1,14 +1,5 @@
 -- The rows once some lines lost their holders: in those the queue of the head has moved up, in all others nothing has.
-use Prim.Native.Nat.{ℕ, _+_, _-_, _/_, _<_, _≤_}
-use mathlib.Core.Bool.{Bool, true, false, cond, _&&_, and-false}
-use mathlib.Core.List.{List}
-use mathlib.Core.Logic.{_≢_, _⊎_, inl, inr}
-use mathlib.Core.Path.{_≡_, refl, sym, _∙_}
-use native.Mathlib.Omega.{arith}
-use native.Mathlib.Nat.{sub-zero}
-use borrow.Author.Tests.{eq-eqb, ne-eqb, lt-ltb}
-use lib.Dec.{eqb}
-use lib.ListN.{getD}
+use Rattle.folds.proofs.Ground.{ℕ, _+_, _-_, _/_, _<_, _≤_, Bool, true, false, cond, _&&_, and-false, _≡_, refl, sym, _∙_, _≢_, _⊎_, inl, inr, List, eqb, getD, sub-zero, arith, eq-eqb, ne-eqb, lt-ltb}
 use Rattle.folds.proofs.Figures.{max-at}
 use Rattle.folds.proofs.Arrays.{by-eq}
 use Rattle.folds.proofs.EachLaws.{each-at}

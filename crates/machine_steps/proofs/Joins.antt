@@ -1,15 +1,5 @@
 -- Task i joins the line of q: the state stays sound, and shows what the rule makes of that line.
-use Prim.Native.Nat.{ℕ, _+_, _<_, _≤_}
-use mathlib.Core.Bool.{Bool, true, false, cond, and-false}
-use mathlib.Core.List.{List}
-use mathlib.Core.Logic.{_≢_, _⊎_, inr}
-use mathlib.Core.Path.{_≡_, refl, sym, ap, _∙_, fun-ext}
-use native.Mathlib.Numerals.{add-one}
-use native.Mathlib.Omega.{arith}
-use borrow.Author.Tests.{eq-eqb, ne-eqb}
-use lib.Dec.{eqb}
-use lib.ListN.{length, getD, set, List·getD-eq-default}
-use lib.Seq.{getD-set-same, getD-set-other}
+use Rattle.folds.proofs.Ground.{ℕ, _+_, _<_, _≤_, Bool, true, false, cond, and-false, _≡_, refl, sym, ap, _∙_, fun-ext, _≢_, _⊎_, inr, List, eqb, length, getD, set, List·getD-eq-default, getD-set-same, getD-set-other, add-one, arith, eq-eqb, ne-eqb}
 use Rattle.folds.specs.Below.{maxBelow}
 use Rattle.folds.proofs.Arrays.{by-eq}
 use Rattle.folds.proofs.Ranges.{max-where-at}

@@ -1,13 +1,5 @@
 -- The holder of a line leaves: the state after it shows what the rule makes of what it showed, and is sound.
-use Prim.Native.Nat.{ℕ, zero, suc, _+_, _-_, _<_, _≤_}
-use mathlib.Core.Bool.{Bool, false, cond, _&&_, and-true, and-false}
-use mathlib.Core.List.{List}
-use mathlib.Core.Path.{_≡_, refl, sym, ap, _∙_}
-use native.Mathlib.Omega.{arith}
-use borrow.Author.Tests.{eq-eqb, ne-eqb}
-use lib.Dec.{eqb}
-use lib.ListN.{getD, set, replicate, length-set, length-replicate, getD-replicate}
-use lib.Seq.{getD-set-same, getD-set-other}
+use Rattle.folds.proofs.Ground.{ℕ, zero, suc, _+_, _-_, _<_, _≤_, Bool, false, cond, _&&_, and-true, and-false, _≡_, refl, sym, ap, _∙_, List, eqb, getD, set, replicate, length-set, length-replicate, getD-replicate, getD-set-same, getD-set-other, arith, eq-eqb, ne-eqb}
 use Rattle.folds.proofs.Arrays.{by-eq, cell-eqb}
 use Rattle.plan_reading.specs.Plan.{Plan, Valid}
 use Rattle.queue_rules.specs.Rules as Rules

@@ -1,14 +1,6 @@
 -- Laws of what a tick tells: the words of resources, and the queues that lose their first.
-use Prim.Native.Nat.{ℕ, zero, suc, _+_, _*_, _/_, _<_, _≤_}
-use mathlib.Core.Bool.{Bool, true, false, cond, _&&_}
-use mathlib.Core.List.{List}
-use mathlib.Core.Path.{_≡_, refl, sym, ap, ap₂, _∙_}
-use native.Mathlib.Omega.{arith}
-use lib.Dec.{eqb, ltb}
-use lib.ListN.{length, getD, set, replicate}
+use Rattle.folds.proofs.Ground.{ℕ, zero, suc, _+_, _*_, _/_, _<_, _≤_, Bool, true, false, cond, _&&_, _≡_, refl, sym, ap, ap₂, _∙_, List, eqb, ltb, length, getD, set, replicate, set-getD, arith, ltb-true}
 use lib.Pow.{pow-pos}
-use lib.Seq.{set-getD}
-use borrow.Author.Tests.{ltb-true}
 use Rattle.folds.specs.Below.{anyBelow}
 use Rattle.folds.proofs.Tests.{and-parts}
 use Rattle.folds.proofs.Searches.{on-le}

@@ -1,14 +1,5 @@
 -- A held line whose holder leaves: what the tables make of it is what the rule does, and is sound.
-use Prim.Native.Nat.{ℕ, zero, suc, _+_, _-_, _<_, _≤_}
-use mathlib.Core.Bool.{Bool, cond}
-use mathlib.Core.List.{List}
-use mathlib.Core.Logic.{_≢_}
-use mathlib.Core.Path.{_≡_, refl, sym, ap, _∙_, fun-ext}
-use native.Mathlib.Omega.{arith}
-use borrow.Author.Tests.{eq-eqb, ne-eqb, lt-ltb, le-ltb, le-leb, lt-leb}
-use lib.Dec.{eqb, ltb}
-use lib.ListN.{length, getD, List·getD-eq-default}
-use lib.Seq.{getD-set-same, getD-set-other}
+use Rattle.folds.proofs.Ground.{ℕ, zero, suc, _+_, _-_, _<_, _≤_, Bool, cond, _≡_, refl, sym, ap, _∙_, fun-ext, _≢_, List, eqb, ltb, length, getD, List·getD-eq-default, getD-set-same, getD-set-other, arith, eq-eqb, ne-eqb, lt-ltb, le-ltb, le-leb, lt-leb}
 use Rattle.folds.specs.Below.{maxBelow}
 use Rattle.folds.proofs.Figures.{max-at}
 use Rattle.folds.proofs.Ranges.{max-where-at}

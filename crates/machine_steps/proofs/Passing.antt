@@ -1,13 +1,5 @@
 -- What the tables tell of a line that goes on to its next task.
-use Prim.Native.Nat.{ℕ, _+_, _*_, _-_, _≤_, _<_}
-use mathlib.Core.Bool.{Bool, true, false, cond}
-use mathlib.Core.List.{List}
-use mathlib.Core.Path.{_≡_, refl, sym, ap, subst, _∙_}
-use native.Mathlib.Omega.{arith}
-use borrow.Author.Tests.{eq-eqb, ne-eqb}
-use lib.Dec.{eqb}
-use lib.ListN.{getD}
-use lib.Seq.{getD-set-other}
+use Rattle.folds.proofs.Ground.{ℕ, _+_, _*_, _-_, _≤_, _<_, Bool, true, false, cond, _≡_, refl, sym, ap, subst, _∙_, List, eqb, getD, getD-set-other, arith, eq-eqb, ne-eqb}
 use mir.Val.{boolByte}
 use Rattle.folds.proofs.Arrays.{by-eq}
 use Rattle.machine_state.specs.declared.LineRow.{LineRow}

@@ -1,12 +1,5 @@
 -- What the functions rely on, from a sound state and its tables.
-use Prim.Native.Nat.{ℕ, _+_, _<_, _≤_}
-use mathlib.Core.Bool.{cond}
-use mathlib.Core.List.{List}
-use mathlib.Core.Path.{_≡_, _∙_}
-use native.Mathlib.Omega.{arith}
-use borrow.Author.Tests.{lt-ltb}
-use lib.Dec.{ltb}
-use lib.ListN.{length, getD}
+use Rattle.folds.proofs.Ground.{ℕ, _+_, _<_, _≤_, cond, _≡_, _∙_, List, ltb, length, getD, arith, lt-ltb}
 use Rattle.plan_reading.specs.Plan.{Plan, Valid}
 use Rattle.analysis_hold_times.specs.Figures.{Figures}
 use Rattle.queue_ranks.specs.Ranks.{taskAt}

@@ -1,12 +1,5 @@
 -- Counting the taken seats of a queue, from the first on, with the hold times of those who sit there.
-use Prim.Native.Nat.{ℕ, _+_, _*_, _-_, _≤_, _<_}
-use mathlib.Core.Bool.{Bool, true, not}
-use mathlib.Core.List.{List}
-use mathlib.Core.Path.{_≡_, refl, sym, ap, _∙_}
-use native.Mathlib.Omega.{arith}
-use borrow.Author.Tests.{eq-eqb, ne-eqb}
-use lib.Dec.{eqb}
-use lib.ListN.{getD}
+use Rattle.folds.proofs.Ground.{ℕ, _+_, _*_, _-_, _≤_, _<_, Bool, true, not, _≡_, refl, sym, ap, _∙_, List, eqb, getD, arith, eq-eqb, ne-eqb}
 use Rattle.folds.specs.Below.{allBelow, sumBelow}
 use Rattle.folds.proofs.Tests.{all-more, find-at, find-none}
 use Rattle.folds.proofs.Figures.{sum-step}

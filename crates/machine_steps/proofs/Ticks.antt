@@ -1,13 +1,5 @@
 -- A tick: the state after it shows what the rules make of what it showed, and is sound; and the two words of its answer.
-use Prim.Native.Nat.{ℕ, zero, suc, _+_, _-_, _<_, _≤_}
-use mathlib.Core.Bool.{Bool, true, false, cond, _&&_, and-false}
-use mathlib.Core.List.{List}
-use mathlib.Core.Logic.{_≢_}
-use mathlib.Core.Path.{_≡_, refl, sym, ap, ap₂, _∙_}
-use native.Mathlib.Omega.{arith}
-use borrow.Author.Tests.{ltb-true, eqb-true, eq-eqb, ne-eqb, lt-ltb}
-use lib.Dec.{eqb, ltb}
-use lib.ListN.{getD}
+use Rattle.folds.proofs.Ground.{ℕ, zero, suc, _+_, _-_, _<_, _≤_, Bool, true, false, cond, _&&_, and-false, _≡_, refl, sym, ap, ap₂, _∙_, _≢_, List, eqb, ltb, getD, arith, ltb-true, eqb-true, eq-eqb, ne-eqb, lt-ltb}
 use Rattle.folds.specs.Below.{anyBelow}
 use Rattle.folds.specs.Words.{bitOf, wordBelow}
 use Rattle.folds.proofs.Tests.{and-parts, same-test, any-at, any-out}

@@ -1,11 +1,5 @@
 -- What an accepted plan file passed, and what reading one tells.
-use Prim.Native.Nat.{ℕ, suc, _<_}
-use mathlib.Core.Bool.{Bool, true, false, cond}
-use mathlib.Core.List.{List, []}
-use mathlib.Core.Path.{_≡_, refl, sym, ap, _∙_}
-use native.Mathlib.Omega.{arith}
-use borrow.Author.Tests.{ltb-true, eqb-true, eqb-false, eq-eqb, ne-eqb}
-use lib.Dec.{eqb, ltb}
+use Rattle.folds.proofs.Ground.{ℕ, suc, _<_, Bool, true, false, cond, _≡_, refl, sym, ap, _∙_, List, [], eqb, ltb, arith, ltb-true, eqb-true, eqb-false, eq-eqb, ne-eqb}
 use Rattle.refusals.specs.Numbers.{unknownResource}
 use Rattle.folds.proofs.Tests.{code-zero, first-zero, then-zero}
 use Rattle.folds.proofs.Arrays.{by-eq}

@@ -1,9 +1,5 @@
 -- Numbers of checks in order: one that fails is the number of the whole, and one that holds passes it on.
-use Prim.Native.Nat.{ℕ, suc}
-use mathlib.Core.Bool.{Bool, true, false, cond}
-use mathlib.Core.List.{List}
-use mathlib.Core.Path.{_≡_, refl, sym}
-use native.Mathlib.Omega.{arith}
+use Rattle.folds.proofs.Ground.{ℕ, suc, Bool, true, false, cond, _≡_, refl, sym, List, arith}
 use Rattle.plan_rules.specs.declared.Counts.{Counts}
 use Rattle.refusals.specs.Numbers.{wrongName}
 use Rattle.plan_rules.specs.Rules.{namesOk, Tests}

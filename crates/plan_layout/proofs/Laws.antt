@@ -1,12 +1,5 @@
 -- What the rows of a part tell of the rows by value: the same rows, under the same rules.
-use Prim.Native.Nat.{ℕ, _+_, _*_, _<_, _≤_}
-use mathlib.Core.Bool.{true}
-use mathlib.Core.List.{List, [], _∷_}
-use mathlib.Core.Path.{_≡_, refl, ap, _∙_}
-use native.Mathlib.Nat.{add-zero}
-use native.Mathlib.Omega.{arith}
-use lib.Dec.{eqb}
-use lib.ListN.{length, getD, replicate, length-replicate}
+use Rattle.folds.proofs.Ground.{ℕ, _+_, _*_, _<_, _≤_, true, _≡_, refl, ap, _∙_, List, [], _∷_, eqb, length, getD, replicate, length-replicate, add-zero, arith}
 use Rattle.sizes.specs.Sizes.{mostTasks, mostResources, mostSections}
 use Rattle.folds.specs.Below.{sumBelow}
 use Rattle.folds.proofs.Tests.{all-at, all-from, all-same, and-parts}

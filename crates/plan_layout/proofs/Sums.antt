@@ -1,12 +1,5 @@
 -- The table of the sums of section lengths by task, and what it tells of the sections by value.
-use Prim.Native.Nat.{ℕ, _+_, _*_, _%_, _<_, _≤_}
-use mathlib.Core.Bool.{Bool, true, false, cond, not}
-use mathlib.Core.List.{List}
-use mathlib.Core.Path.{_≡_, _∙_}
-use native.Mathlib.Omega.{arith}
-use borrow.Author.Tests.{not-true, not-false}
-use lib.Dec.{eqb}
-use lib.ListN.{getD, replicate}
+use Rattle.folds.proofs.Ground.{ℕ, _+_, _*_, _%_, _<_, _≤_, Bool, true, false, cond, not, _≡_, _∙_, List, eqb, getD, replicate, arith, not-true, not-false}
 use Rattle.folds.specs.Bytes.{number}
 use Rattle.folds.proofs.RowLaws.{Bytes}
 use Rattle.folds.proofs.Tests.{all-at, all-same}

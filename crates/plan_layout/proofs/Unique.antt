@@ -1,11 +1,5 @@
 -- Tags and places seen in a pass over task rows, and what they tell once every row keeps its rule.
-use Prim.Native.Nat.{ℕ, _+_, _*_, _%_, _<_, _≤_}
-use mathlib.Core.Bool.{Bool, true, _&&_, not}
-use mathlib.Core.List.{List}
-use mathlib.Core.Path.{_≡_, sym, ap, ap₂, _∙_}
-use native.Mathlib.Omega.{arith}
-use lib.Dec.{eqb}
-use lib.ListN.{replicate}
+use Rattle.folds.proofs.Ground.{ℕ, _+_, _*_, _%_, _<_, _≤_, Bool, true, _&&_, not, _≡_, sym, ap, ap₂, _∙_, List, eqb, replicate, arith}
 use Rattle.folds.specs.Below.{allBelow}
 use Rattle.folds.proofs.Tests.{all-at, all-same, and-parts}
 use Rattle.folds.proofs.Arrays.{markedBelow}

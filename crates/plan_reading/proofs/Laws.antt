@@ -1,13 +1,5 @@
 -- What a file that passed its checks tells.
-use Prim.Native.Nat.{ℕ, suc, _+_, _*_, _<_, _≤_}
-use mathlib.Core.Bool.{Bool, true, false, cond, _&&_, not, true≢false}
-use mathlib.Core.List.{List}
-use mathlib.Core.Path.{_≡_, refl, sym, ap, ap₂, _∙_}
-use native.Mathlib.Omega.{arith}
-use borrow.Author.Tests.{ltb-true, ltb-false, leb-true, eqb-true, eqb-false, eq-eqb, ne-eqb, not-true}
-use lib.Dec.{eqb, ltb}
-use lib.ListN.{length, getD, drop, length-drop, length-take, List·getD-eq-default}
-use lib.Seq.{getD-drop}
+use Rattle.folds.proofs.Ground.{ℕ, suc, _+_, _*_, _<_, _≤_, Bool, true, false, cond, _&&_, not, true≢false, _≡_, refl, sym, ap, ap₂, _∙_, List, eqb, ltb, length, getD, drop, length-drop, length-take, List·getD-eq-default, getD-drop, arith, ltb-true, ltb-false, leb-true, eqb-true, eqb-false, eq-eqb, ne-eqb, not-true}
 use Rattle.folds.specs.Below.{sumBelow}
 use Rattle.folds.specs.Bytes.{number}
 use Rattle.folds.proofs.Tests.{and-parts, is-not-true, code-zero, code-next, first-zero, then-zero, all-at}

@@ -1,13 +1,5 @@
 -- What counts, rows and lengths that keep their rules have, and the laws of the numbers of names.
-use Prim.Native.Nat.{ℕ, _+_, _-_, _*_, _/_, _<_, _≤_}
-use mathlib.Core.Bool.{Bool, true, false, cond, _&&_, not}
-use mathlib.Core.List.{List}
-use mathlib.Core.Path.{_≡_, refl, sym, ap, _∙_}
-use native.Mathlib.Nat.{add-zero, add-assoc}
-use native.Mathlib.Omega.{arith}
-use borrow.Author.Tests.{le-leb, ltb-true, ltb-false, leb-true, eq-eqb, ne-eqb, eqb-true, eqb-false, not-true}
-use lib.Dec.{leb, ltb, eqb}
-use lib.ListN.{length, getD, replicate}
+use Rattle.folds.proofs.Ground.{ℕ, _+_, _-_, _*_, _/_, _<_, _≤_, Bool, true, false, cond, _&&_, not, _≡_, refl, sym, ap, _∙_, List, leb, ltb, eqb, length, getD, replicate, add-zero, add-assoc, arith, le-leb, ltb-true, ltb-false, leb-true, eq-eqb, ne-eqb, eqb-true, eqb-false, not-true}
 use Rattle.sizes.specs.Sizes.{mostProcessors, mostTasks, mostResources, mostSections, mostNameBytes, mostSectionTicks}
 use Rattle.folds.proofs.Tests.{and-parts, code-zero, code-next, all-at, all-from}
 use Rattle.folds.specs.Bytes.{number}

@@ -1,13 +1,5 @@
 -- What writing, reading back and copying come to, by the number of the refusal.
-use Prim.Native.Nat.{ℕ, suc, _<_, _≤_}
-use mathlib.Core.Bool.{Bool, cond}
-use mathlib.Core.List.{List, [], _∷_, _++_}
-use mathlib.Core.Path.{_≡_, refl, sym, ap, _∙_}
-use native.Mathlib.Omega.{arith}
-use borrow.Author.Tests.{eq-eqb, ne-eqb, le-leb, lt-leb, leb-true}
-use lib.Dec.{leb}
-use lib.ListN.{length, getD, take, drop}
-use lib.Seq.{take-at}
+use Rattle.folds.proofs.Ground.{ℕ, suc, _<_, _≤_, Bool, cond, _≡_, refl, sym, ap, _∙_, List, [], _∷_, _++_, leb, length, getD, take, drop, take-at, arith, eq-eqb, ne-eqb, le-leb, lt-leb, leb-true}
 use Rattle.refusals.specs.Numbers.{noRoom}
 use Rattle.folds.proofs.Tests.{code-zero}
 use Rattle.folds.proofs.Arrays.{by-eq}

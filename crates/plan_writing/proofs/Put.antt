@@ -1,12 +1,5 @@
 -- Laws of the writer: what stands at the front of a buffer after each part that is put, and the lengths of the parts.
-use Prim.Native.Nat.{ℕ, _+_, _-_, _*_, _<_, _≤_}
-use mathlib.Core.Bool.{true}
-use mathlib.Core.List.{List, _++_}
-use mathlib.Core.Path.{_≡_, ap, _∙_}
-use native.Mathlib.Omega.{arith}
-use borrow.Author.Tests.{eqb-true, leb-true}
-use lib.Dec.{leb, eqb}
-use lib.ListN.{length, take, drop, length-append}
+use Rattle.folds.proofs.Ground.{ℕ, _+_, _-_, _*_, _<_, _≤_, true, _≡_, ap, _∙_, List, _++_, leb, eqb, length, take, drop, length-append, arith, eqb-true, leb-true}
 use Rattle.sizes.specs.Sizes.{mostResources, mostNameBytes}
 use Rattle.folds.specs.Below.{sumBelow}
 use Rattle.folds.specs.Bytes.{bytesBelow}

@@ -1,13 +1,5 @@
 -- Demand 2: a file and the values that it holds. Both round trips go by what the file has at each place.
-use Prim.Native.Nat.{ℕ, _+_, _<_}
-use mathlib.Core.Bool.{true}
-use mathlib.Core.List.{List, _++_, append-assoc}
-use mathlib.Core.Path.{_≡_, refl, sym, ap, ap₂, subst, _∙_}
-use native.Mathlib.Omega.{arith}
-use borrow.Author.Tests.{lt-ltb, le-ltb, le-leb, eq-eqb, eqb-true}
-use lib.Dec.{eqb}
-use lib.ListN.{length, getD, take, drop, replicate, length-append, length-drop, take-append-drop}
-use lib.Seq.{drop-at, drop-drop}
+use Rattle.folds.proofs.Ground.{ℕ, _+_, _<_, true, _≡_, refl, sym, ap, ap₂, subst, _∙_, List, _++_, append-assoc, eqb, length, getD, take, drop, replicate, length-append, length-drop, take-append-drop, drop-at, drop-drop, arith, lt-ltb, le-ltb, le-leb, eq-eqb, eqb-true}
 use Rattle.sizes.specs.Sizes.{mostTasks, mostResources, mostSections}
 use Rattle.folds.specs.Below.{sumBelow}
 use Rattle.folds.specs.Bytes.{rowAt, rowBytes}

@@ -1,12 +1,5 @@
 -- Values that keep their rules, and rows that agree below a count: they keep the same rules, and have the same bytes.
-use Prim.Native.Nat.{ℕ, zero, suc, _+_, _*_, _<_, _≤_}
-use mathlib.Core.Bool.{Bool, true, cond, _&&_, not}
-use mathlib.Core.List.{List, _++_}
-use mathlib.Core.Path.{_≡_, refl, sym, ap, ap₂, _∙_}
-use native.Mathlib.Omega.{arith}
-use lib.Dec.{leb, eqb}
-use lib.ListN.{length, take, drop, length-drop}
-use lib.Seq.{drop-at, take-add, getD-drop}
+use Rattle.folds.proofs.Ground.{ℕ, zero, suc, _+_, _*_, _<_, _≤_, Bool, true, cond, _&&_, not, _≡_, refl, sym, ap, ap₂, _∙_, List, _++_, leb, eqb, length, take, drop, length-drop, drop-at, take-add, getD-drop, arith}
 use Rattle.sizes.specs.Sizes.{mostNameBytes}
 use Rattle.folds.specs.Below.{allBelow}
 use Rattle.folds.specs.Bytes.{width, rowAt, rowBytes, bytesBelow}

@@ -1,11 +1,5 @@
 -- The rows of values in a file: they stand at their places, and the checks of a file's parts say of them what the rules of values say.
-use Prim.Native.Nat.{ℕ, _<_}
-use mathlib.Core.Bool.{true, false, _&&_, and-true, true≢false}
-use mathlib.Core.List.{List, [], _++_, append-assoc}
-use mathlib.Core.Path.{_≡_, sym, ap, ap₂, _∙_}
-use native.Mathlib.Omega.{arith}
-use borrow.Author.Tests.{eq-eqb}
-use lib.ListN.{length, getD, drop, length-append}
+use Rattle.folds.proofs.Ground.{ℕ, _<_, true, false, _&&_, and-true, true≢false, _≡_, sym, ap, ap₂, _∙_, List, [], _++_, append-assoc, length, getD, drop, length-append, arith, eq-eqb}
 use Rattle.folds.specs.Bytes.{bytesBelow}
 use Rattle.folds.proofs.Tests.{all-from, all-same, is-not-true}
 use Rattle.folds.proofs.Figures.{sum-same}

@@ -1,14 +1,5 @@
 -- The lines of many calls, one more at a time.
-use Prim.Native.Nat.{ℕ, _+_, _-_, _<_, _≤_}
-use mathlib.Core.Bool.{Bool, true, false, cond, _&&_, true≢false}
-use mathlib.Core.List.{List, [], _++_}
-use mathlib.Core.Logic.{_⊎_, inl, inr}
-use mathlib.Core.Path.{_≡_, refl, sym, ap, _∙_}
-use native.Mathlib.Omega.{arith}
-use borrow.Author.Tests.{leb-true, leb-false, le-leb, ltb-false}
-use lib.Dec.{leb, ltb}
-use lib.ListN.{length, take, drop, length-take, length-drop}
-use lib.Seq.{take-add, drop-drop, length-take-le}
+use Rattle.folds.proofs.Ground.{ℕ, _+_, _-_, _<_, _≤_, Bool, true, false, cond, _&&_, true≢false, _≡_, refl, sym, ap, _∙_, _⊎_, inl, inr, List, [], _++_, leb, ltb, length, take, drop, length-take, length-drop, take-add, drop-drop, length-take-le, arith, leb-true, leb-false, le-leb, ltb-false}
 use Rattle.folds.proofs.Tests.{and-parts, then-zero}
 use Rattle.machine_state.specs.declared.State.{State}
 use Rattle.print_text.specs.Text.{Put}

@@ -1,7 +1,5 @@
 -- What the bytes of a call print and do, once it is known whether they are a call.
-use Prim.Native.Nat.{ℕ}
-use mathlib.Core.List.{List, [], _∷_}
-use mathlib.Core.Path.{_≡_, refl, sym}
+use Rattle.folds.proofs.Ground.{ℕ, _≡_, refl, sym, List, [], _∷_}
 use Rattle.machine_rules.specs.declared.Call.{Call}
 use Rattle.machine_rules.specs.declared.Answer.{Answer}
 use Rattle.machine_state.specs.declared.State.{State}

@@ -1,11 +1,5 @@
 -- An answer that names a resource is one of a checked plan that has it, since the call was not refused.
-use Prim.Native.Nat.{ℕ, _<_}
-use mathlib.Core.Bool.{Bool, true, false, cond, _&&_}
-use mathlib.Core.List.{List, [], _∷_}
-use mathlib.Core.Path.{_≡_}
-use borrow.Author.Tests.{ltb-true}
-use lib.Dec.{eqb, ltb}
-use lib.ListN.{length, getD}
+use Rattle.folds.proofs.Ground.{ℕ, _<_, Bool, true, false, cond, _&&_, _≡_, List, [], _∷_, eqb, ltb, length, getD, ltb-true}
 use Rattle.folds.proofs.Tests.{code-zero, code-next, first-zero, then-zero}
 use Rattle.folds.proofs.Arrays.{by-eq}
 use Rattle.plan_reading.specs.Plan.{Plan, planOf, Checked}

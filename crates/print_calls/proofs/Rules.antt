@@ -1,10 +1,5 @@
 -- The text that calls print, put together from pieces; and from a fresh machine on, that of the rules alone.
-use Prim.Native.Nat.{ℕ, zero, suc, _+_, _*_, _≤_}
-use mathlib.Core.List.{List, [], _∷_, _++_, append-assoc, append-nil}
-use mathlib.Core.Path.{_≡_, refl, sym, ap₂, _∙_}
-use native.Mathlib.Numerals.{add-one}
-use native.Mathlib.Omega.{arith}
-use lib.ListN.{length, length-append}
+use Rattle.folds.proofs.Ground.{ℕ, zero, suc, _+_, _*_, _≤_, _≡_, refl, sym, ap₂, _∙_, List, [], _∷_, _++_, append-assoc, append-nil, length, length-append, add-one, arith}
 use Rattle.plan_reading.specs.Plan.{planOf}
 use Rattle.plan.specs.Acceptance.{Accepted}
 use Rattle.machine_rules.specs.declared.Call.{Call}

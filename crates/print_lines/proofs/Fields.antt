@@ -1,9 +1,5 @@
 -- Fields put one behind the other: what is put, and what is left.
-use Prim.Native.Nat.{ℕ, _+_, _≤_}
-use mathlib.Core.List.{List, [], _∷_, _++_, append-assoc, append-nil}
-use mathlib.Core.Path.{_≡_, refl, sym, _∙_}
-use native.Mathlib.Omega.{arith}
-use lib.ListN.{length}
+use Rattle.folds.proofs.Ground.{ℕ, _+_, _≤_, _≡_, refl, sym, _∙_, List, [], _∷_, _++_, append-assoc, append-nil, length, arith}
 use Rattle.print_text.specs.Text.{Put, PutIn}
 use Rattle.print_text.proofs.TextLaws.{put-none, put-then}
 use Rattle.print_lines.specs.declared.Field.{Field}

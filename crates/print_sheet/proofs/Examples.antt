@@ -1,8 +1,5 @@
 -- Lines of a sheet as they are printed, by computing, of a plan whose resource 0 has the name "bus".
-use Prim.Native.Nat.{ℕ}
-use mathlib.Core.Bool.{true, false}
-use mathlib.Core.List.{List}
-use mathlib.Core.Path.{_≡_, refl}
+use Rattle.folds.proofs.Ground.{ℕ, true, false, _≡_, refl, List}
 use lib.IntN.{pos, negsuc}
 use Rattle.print_text.specs.Text.{quoted, placesTo, digits}
 use Rattle.plan_reading.specs.Plan.{namePart}

@@ -1,11 +1,5 @@
 -- Which lines of a sheet are left out, and what the tables tell of them.
-use Prim.Native.Nat.{ℕ, _<_}
-use mathlib.Core.Bool.{Bool, true, false, cond, _&&_}
-use mathlib.Core.List.{List}
-use mathlib.Core.Path.{_≡_, refl, sym, _∙_}
-use native.Mathlib.Omega.{arith}
-use borrow.Author.Tests.{eq-eqb, ne-eqb, not-true, not-false}
-use lib.ListN.{length, getD}
+use Rattle.folds.proofs.Ground.{ℕ, _<_, Bool, true, false, cond, _&&_, _≡_, refl, sym, _∙_, List, length, getD, arith, eq-eqb, ne-eqb, not-true, not-false}
 use Rattle.folds.proofs.Tests.{and-parts}
 use Rattle.print_text.specs.Text.{PutIn}
 use Rattle.print_text.proofs.TextLaws.{put-none, put-in}

@@ -1,13 +1,5 @@
 -- Texts at the front of a lent buffer: one that is too short for them, and one that is long enough.
-use Prim.Native.Nat.{ℕ, _-_, _<_, _≤_}
-use mathlib.Core.Bool.{Bool, true, false, cond}
-use mathlib.Core.List.{List, [], _++_}
-use mathlib.Core.Path.{_≡_, refl, sym, ap, _∙_}
-use native.Mathlib.Nat.{zero-add}
-use native.Mathlib.Omega.{arith}
-use borrow.Author.Tests.{leb-true, le-leb, lt-leb, eq-eqb, ne-eqb}
-use lib.Dec.{leb, eqb}
-use lib.ListN.{length, take, drop}
+use Rattle.folds.proofs.Ground.{ℕ, _-_, _<_, _≤_, Bool, true, false, cond, _≡_, refl, sym, ap, _∙_, List, [], _++_, leb, eqb, length, take, drop, zero-add, arith, leb-true, le-leb, lt-leb, eq-eqb, ne-eqb}
 use Rattle.print_text.specs.declared.Line.{Line}
 use Rattle.print_text.specs.Text.{Put}
 use Rattle.print_text.specs.Buffers.{lineFor, lineIn, lineUnless, lineInUnless}

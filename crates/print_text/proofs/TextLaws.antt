@@ -1,16 +1,6 @@
 -- Laws of text in a buffer, for the crates that put several texts one after the other; and what shows that `decimal` is decimal.
-use Prim.Native.Nat.{ℕ, zero, suc, _+_, _-_, _*_, _/_, _%_, _^_, _<_, _≤_}
-use mathlib.Core.Bool.{Bool, true, false, cond}
-use mathlib.Core.List.{List, [], _∷_, _++_, append-assoc, append-nil}
-use mathlib.Core.Path.{_≡_, refl, sym, ap, _∙_}
-use mathlib.Core.Logic.{⊎-elim}
-use native.Mathlib.Nat.{zero-add, suc-add, add-zero, not-suc-le-zero, eq-or-lt-of-le, le-of-suc-le-suc}
-use native.Mathlib.Omega.{arith}
-use borrow.Author.Tests.{ltb-true, ltb-false, lt-ltb}
-use lib.Dec.{ltb}
+use Rattle.folds.proofs.Ground.{ℕ, zero, suc, _+_, _-_, _*_, _/_, _%_, _^_, _<_, _≤_, Bool, true, false, cond, _≡_, refl, sym, ap, _∙_, ⊎-elim, List, [], _∷_, _++_, append-assoc, append-nil, ltb, length, getD, take, drop, length-append, length-drop, take-append-drop, drop-of-length-le, List·getD-append, length-take-le, take-all, take-append-seam, drop-append-add, drop-drop, drop-nil, getD-at, zero-add, suc-add, add-zero, not-suc-le-zero, eq-or-lt-of-le, le-of-suc-le-suc, arith, ltb-true, ltb-false, lt-ltb}
 use lib.IntN.{ℤ, pos, negsuc}
-use lib.ListN.{length, getD, take, drop, length-append, length-drop, take-append-drop, drop-of-length-le, List·getD-append}
-use lib.Seq.{length-take-le, take-all, take-append-seam, drop-append-add, drop-drop, drop-nil, getD-at}
 use mir.Syntax.{w64}
 use mir.Val.{SFits, toZ, ofZ}
 use mir.Facts.{toZ-ofZ}

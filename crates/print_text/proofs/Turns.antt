@@ -1,12 +1,6 @@
 -- A loop that puts one text behind the other, each no longer than `width`: the texts of the numbers below its counter. It ends at
 -- `count`, which is at most `most`, and there is room for so many.
-use Prim.Native.Nat.{ℕ, _+_, _*_, _<_, _≤_}
-use mathlib.Core.List.{List}
-use mathlib.Core.Path.{_≡_, refl, _∙_}
-use native.Mathlib.Nat.{suc-mul, mul-le-mul-right}
-use native.Mathlib.Numerals.{add-one}
-use native.Mathlib.Omega.{arith}
-use lib.ListN.{length}
+use Rattle.folds.proofs.Ground.{ℕ, _+_, _*_, _<_, _≤_, _≡_, refl, _∙_, List, length, suc-mul, mul-le-mul-right, add-one, arith}
 use Rattle.print_text.specs.Text.{textBelow, Put, PutIn}
 use Rattle.print_text.proofs.TextLaws.{below-more, below-none, put-none, put-then}
 

@@ -1,13 +1,5 @@
 -- Task i joins: the rules' line after it, over ranks and slots.
-use Prim.Native.Nat.{ℕ, zero, suc, _+_, _-_, _<_, _≤_}
-use mathlib.Core.List.{List, [], _∷_, _++_}
-use mathlib.Core.Path.{_≡_, refl, sym, ap, ap₂, _∙_}
-use mathlib.Core.Logic.{_≢_}
-use native.Mathlib.Omega.{arith}
-use native.Mathlib.Numerals.{add-one}
-use native.Mathlib.Nat.{le-antisymm}
-use lib.Dec.{eqb}
-use borrow.Author.Tests.{eq-eqb, ne-eqb}
+use Rattle.folds.proofs.Ground.{ℕ, zero, suc, _+_, _-_, _<_, _≤_, _≡_, refl, sym, ap, ap₂, _∙_, _≢_, List, [], _∷_, _++_, eqb, le-antisymm, add-one, arith, eq-eqb, ne-eqb}
 use Rattle.folds.specs.Below.{maxBelow}
 use Rattle.folds.proofs.Figures.{max-at, max-bound}
 use Rattle.queue_rules.specs.Rules.{Terms, Turn, turn, line, join, entered}

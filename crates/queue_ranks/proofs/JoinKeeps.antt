@@ -1,8 +1,5 @@
 -- A line that is sound stays so when a task joins.
-use Prim.Native.Nat.{ℕ, suc, _+_, _-_, _<_, _≤_}
-use mathlib.Core.Path.{_≡_, sym, ap, _∙_}
-use mathlib.Core.Logic.{_≢_}
-use native.Mathlib.Omega.{arith}
+use Rattle.folds.proofs.Ground.{ℕ, suc, _+_, _-_, _<_, _≤_, _≡_, sym, ap, _∙_, _≢_, arith}
 use Rattle.folds.specs.Below.{maxBelow}
 use Rattle.folds.proofs.Figures.{max-at, max-same}
 use Rattle.queue_rules.specs.Rules.{Terms}

@@ -1,12 +1,5 @@
 -- The first task of the head leaves, or a head begins: the rules' line after it, over ranks and slots.
-use Prim.Native.Nat.{ℕ, zero, suc, _-_, _<_, _≤_}
-use mathlib.Core.Bool.{Bool, cond}
-use mathlib.Core.List.{List, [], _∷_, _++_}
-use mathlib.Core.Path.{_≡_, refl, sym, ap, _∙_}
-use mathlib.Core.Logic.{_≢_}
-use native.Mathlib.Omega.{arith}
-use lib.Dec.{eqb}
-use borrow.Author.Tests.{le-leb, lt-leb}
+use Rattle.folds.proofs.Ground.{ℕ, zero, suc, _-_, _<_, _≤_, Bool, cond, _≡_, refl, sym, ap, _∙_, _≢_, List, [], _∷_, _++_, eqb, arith, le-leb, lt-leb}
 use Rattle.folds.specs.Below.{maxBelow}
 use Rattle.folds.proofs.Figures.{max-at, max-bound}
 use Rattle.folds.proofs.Arrays.{by-eq}

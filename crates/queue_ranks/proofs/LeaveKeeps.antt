@@ -1,8 +1,5 @@
 -- A line that is sound stays so when the first task of the head leaves, and is when a head begins.
-use Prim.Native.Nat.{ℕ, zero, suc, _-_, _<_, _≤_}
-use mathlib.Core.Path.{_≡_, refl, sym, ap, _∙_}
-use mathlib.Core.Logic.{_≢_}
-use native.Mathlib.Omega.{arith}
+use Rattle.folds.proofs.Ground.{ℕ, zero, suc, _-_, _<_, _≤_, _≡_, refl, sym, ap, _∙_, _≢_, arith}
 use Rattle.folds.specs.Below.{maxBelow}
 use Rattle.folds.proofs.Figures.{max-same}
 use Rattle.queue_rules.specs.Rules.{Terms}

@@ -1,9 +1,5 @@
 -- Laws of listFrom.
-use Prim.Native.Nat.{ℕ, zero, suc, _+_, _<_, _≤_}
-use mathlib.Core.List.{List, [], _∷_, _++_}
-use mathlib.Core.Path.{_≡_, refl, ap, ap₂}
-use native.Mathlib.Omega.{arith}
-use lib.ListN.{length, getD}
+use Rattle.folds.proofs.Ground.{ℕ, zero, suc, _+_, _<_, _≤_, _≡_, refl, ap, ap₂, List, [], _∷_, _++_, length, getD, arith}
 use Rattle.queue_ranks.specs.Ranks.{listFrom}
 
 module _ {A : Type 0} where

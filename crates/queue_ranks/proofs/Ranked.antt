@@ -1,12 +1,5 @@
 -- What a sound line is, over ranks and slots.
-use Prim.Native.Nat.{ℕ, zero, suc, _+_, _-_, _<_, _≤_}
-use mathlib.Core.Bool.{Bool, cond}
-use mathlib.Core.Path.{_≡_, sym, ap, _∙_}
-use mathlib.Core.Logic.{_≢_}
-use native.Mathlib.Omega.{arith}
-use native.Mathlib.Nat.{le-antisymm}
-use lib.Dec.{eqb, ltb}
-use borrow.Author.Tests.{eqb-true, eq-eqb, lt-ltb, le-ltb}
+use Rattle.folds.proofs.Ground.{ℕ, zero, suc, _+_, _-_, _<_, _≤_, Bool, cond, _≡_, sym, ap, _∙_, _≢_, eqb, ltb, le-antisymm, arith, eqb-true, eq-eqb, lt-ltb, le-ltb}
 use Rattle.folds.specs.Below.{maxBelow}
 use Rattle.folds.proofs.Tests.{find-le}
 use Rattle.folds.proofs.Figures.{max-at, max-bound}

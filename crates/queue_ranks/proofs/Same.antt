@@ -1,9 +1,5 @@
 -- Ranks and slots that agree: they show one queue, and are sound together.
-use Prim.Native.Nat.{ℕ, _-_, _<_}
-use mathlib.Core.List.{List}
-use mathlib.Core.Path.{_≡_, refl, sym, ap, ap₂, _∙_}
-use native.Mathlib.Omega.{arith}
-use lib.Dec.{eqb}
+use Rattle.folds.proofs.Ground.{ℕ, _-_, _<_, _≡_, refl, sym, ap, ap₂, _∙_, List, eqb, arith}
 use Rattle.folds.specs.Below.{maxBelow}
 use Rattle.folds.proofs.Figures.{max-same}
 use Rattle.queue_rules.specs.Rules.{Terms, turn}

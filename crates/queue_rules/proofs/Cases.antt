@@ -1,10 +1,5 @@
 -- Proofs by cases: the outcomes of a test, and the two ways on when a task leaves.
-use Prim.Native.Nat.{ℕ, _≤_}
-use mathlib.Core.Bool.{Bool, true, false, cond, _||_, true≢false}
-use mathlib.Core.List.{List, _∷_}
-use mathlib.Core.Path.{_≡_, refl}
-use borrow.Author.Tests.{leb-true}
-use lib.Dec.{leb}
+use Rattle.folds.proofs.Ground.{ℕ, _≤_, Bool, true, false, cond, _||_, true≢false, _≡_, refl, List, _∷_, leb, leb-true}
 use Rattle.queue_rules.specs.Rules.{Terms, Turn, turn, Line, goOn, sendBack, leave}
 
 -- a proof for each outcome of a test

@@ -1,11 +1,6 @@
 -- "first come first served": who comes stands behind the tasks of its processor that are in line; when the first task of the head
 -- leaves, those of each processor stay in their order, also of one that is sent to the tail.
-use Prim.Native.Nat.{ℕ}
-use mathlib.Core.Bool.{Bool, false, cond}
-use mathlib.Core.List.{List, [], _∷_, _++_}
-use mathlib.Core.Path.{_≡_, refl, sym, _∙_}
-use borrow.Author.Tests.{eqb-true, eqb-false, eq-eqb, ne-eqb}
-use lib.Dec.{eqb}
+use Rattle.folds.proofs.Ground.{ℕ, Bool, false, cond, _≡_, refl, sym, _∙_, List, [], _∷_, _++_, eqb, eqb-true, eqb-false, eq-eqb, ne-eqb}
 use Rattle.folds.proofs.Arrays.{by-eq}
 use Rattle.folds.proofs.Searches.{on-eq}
 use Rattle.queue_rules.specs.Rules.{Terms, Turn, turn, Line, line, queueOf, hasTurn, tasksOf, begin, join, entered, sendBack, leave}

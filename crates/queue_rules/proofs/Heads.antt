@@ -1,11 +1,5 @@
 -- How long a processor in the queue is still without the resource: a bound that no move raises and a tick lowers.
-use Prim.Native.Nat.{ℕ, _+_, _-_, _≤_}
-use mathlib.Core.Bool.{Bool, true, false, cond, _||_, true≢false}
-use mathlib.Core.List.{List, [], _∷_, _++_}
-use mathlib.Core.Path.{_≡_, sym}
-use native.Mathlib.Omega.{arith}
-use borrow.Author.Tests.{eqb-false}
-use lib.Dec.{eqb}
+use Rattle.folds.proofs.Ground.{ℕ, _+_, _-_, _≤_, Bool, true, false, cond, _||_, true≢false, _≡_, sym, List, [], _∷_, _++_, eqb, arith, eqb-false}
 use Rattle.folds.proofs.Arrays.{by-eq}
 use Rattle.queue_rules.specs.Rules.{Terms, Turn, turn, Line, line, hasTurn, queued, isHead, begin, join, entered, cut, leave, released, ticked}
 use Rattle.queue_rules.proofs.Cases.{by-test, by-leave}

@@ -1,12 +1,5 @@
 -- The list of the tasks below a count that pass a test: who is in it, how many they are, and sums over them.
-use Prim.Native.Nat.{ℕ, zero, suc, _+_, _<_}
-use mathlib.Core.Bool.{Bool, true, false, cond, true≢false}
-use mathlib.Core.List.{List, [], _∷_, _++_, append-nil}
-use mathlib.Core.Path.{_≡_, refl, sym, _∙_}
-use native.Mathlib.Omega.{arith}
-use borrow.Author.Tests.{eqb-true}
-use lib.Dec.{eqb}
-use lib.ListN.{length, length-append}
+use Rattle.folds.proofs.Ground.{ℕ, zero, suc, _+_, _<_, Bool, true, false, cond, true≢false, _≡_, refl, sym, _∙_, List, [], _∷_, _++_, append-nil, eqb, length, length-append, arith, eqb-true}
 use Rattle.folds.specs.Below.{countBelow, sumBelow, listBelow}
 use Rattle.folds.proofs.Tests.{or-out}
 use Rattle.queue_rules.specs.Rules.{among, sumOf}

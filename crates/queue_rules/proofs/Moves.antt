@@ -1,11 +1,5 @@
 -- Each move of the rules keeps a line sound.
-use Prim.Native.Nat.{ℕ, _-_, _≤_, _<_}
-use mathlib.Core.Bool.{Bool, true, false, cond, or-true, true≢false}
-use mathlib.Core.List.{List, [], _∷_, _++_}
-use mathlib.Core.Path.{_≡_, refl, sym, ap}
-use native.Mathlib.Omega.{arith}
-use borrow.Author.Tests.{eqb-true, eqb-false, eq-eqb, ne-eqb}
-use lib.Dec.{eqb}
+use Rattle.folds.proofs.Ground.{ℕ, _-_, _≤_, _<_, Bool, true, false, cond, or-true, true≢false, _≡_, refl, sym, ap, List, [], _∷_, _++_, eqb, arith, eqb-true, eqb-false, eq-eqb, ne-eqb}
 use Rattle.folds.proofs.Tests.{or-out}
 use Rattle.folds.proofs.Arrays.{by-eq}
 use Rattle.queue_rules.specs.Rules.{Terms, Turn, turn, Line, line, among, hasTurn, begin, join, entered, leave, released, ticked}

@@ -1,14 +1,6 @@
 -- Nobody stands in line twice, so the tasks ahead of one are at most all those that may be: a sum over them is at most the sum over
 -- all.
-use Prim.Native.Nat.{ℕ, zero, suc, _+_, _*_, _-_, _≤_, _<_}
-use mathlib.Core.Bool.{Bool, true, false, cond, _||_, or-true, true≢false}
-use mathlib.Core.List.{List, [], _∷_, _++_}
-use mathlib.Core.Path.{_≡_, refl, sym, ap, _∙_}
-use native.Mathlib.Nat.{mul-le-mul}
-use native.Mathlib.Omega.{arith}
-use borrow.Author.Tests.{eq-eqb, eqb-true, eqb-false, ne-eqb}
-use lib.Dec.{eqb}
-use lib.ListN.{length}
+use Rattle.folds.proofs.Ground.{ℕ, zero, suc, _+_, _*_, _-_, _≤_, _<_, Bool, true, false, cond, _||_, or-true, true≢false, _≡_, refl, sym, ap, _∙_, List, [], _∷_, _++_, eqb, length, mul-le-mul, arith, eq-eqb, eqb-true, eqb-false, ne-eqb}
 use Rattle.folds.specs.Below.{sumBelow, listBelow}
 use Rattle.folds.proofs.Tests.{or-out, is-not-true}
 use Rattle.folds.proofs.Arrays.{by-eq}

@@ -1,8 +1,5 @@
 -- In a proper queue a task is in line where it is among the tasks of its own processor.
-use Prim.Native.Nat.{ℕ}
-use mathlib.Core.Bool.{Bool, cond, _||_, or-false}
-use mathlib.Core.List.{List, _∷_}
-use mathlib.Core.Path.{_≡_, refl, sym}
+use Rattle.folds.proofs.Ground.{ℕ, Bool, cond, _||_, or-false, _≡_, refl, sym, List, _∷_}
 use Rattle.folds.proofs.Tests.{is-not-true}
 use Rattle.folds.proofs.Arrays.{by-eq}
 use Rattle.queue_rules.specs.Rules.{Terms, Turn, among, standsIn, tasksOf}

@@ -1,10 +1,5 @@
 -- What holds of every line that the rules reach. That each of their moves keeps it is in Moves.
-use Prim.Native.Nat.{ℕ, zero, suc, _+_, _≤_, _<_}
-use mathlib.Core.Bool.{Bool, true, false, cond, _||_, or-false, or-assoc}
-use mathlib.Core.List.{List, [], _∷_, _++_}
-use mathlib.Core.Path.{_≡_, refl, sym, ap}
-use native.Mathlib.Omega.{arith}
-use lib.Dec.{eqb}
+use Rattle.folds.proofs.Ground.{ℕ, zero, suc, _+_, _≤_, _<_, Bool, true, false, cond, _||_, or-false, or-assoc, _≡_, refl, sym, ap, List, [], _∷_, _++_, eqb, arith}
 use Rattle.folds.specs.Below.{sumBelow}
 use Rattle.folds.proofs.Arrays.{by-eq}
 use Rattle.queue_rules.specs.Rules.{Terms, Turn, turn, Line, line, free, queueOf, among, hasTurn}

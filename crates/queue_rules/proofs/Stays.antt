@@ -1,12 +1,5 @@
 -- Who waits after a move waited before it, but for the one who came by it.
-use Prim.Native.Nat.{ℕ, _-_, _≤_}
-use mathlib.Core.Bool.{Bool, true, false, cond, _||_, _&&_, not, or-false, or-true, or-assoc, true≢false}
-use mathlib.Core.List.{List, [], _∷_}
-use mathlib.Core.Logic.{_⊎_, inl, inr}
-use mathlib.Core.Path.{_≡_, refl, sym, ap, _∙_}
-use native.Mathlib.Omega.{arith}
-use borrow.Author.Tests.{eq-eqb, ne-eqb, eqb-true}
-use lib.Dec.{eqb}
+use Rattle.folds.proofs.Ground.{ℕ, _-_, _≤_, Bool, true, false, cond, _||_, _&&_, not, or-false, or-true, or-assoc, true≢false, _≡_, refl, sym, ap, _∙_, _⊎_, inl, inr, List, [], _∷_, eqb, arith, eq-eqb, ne-eqb, eqb-true}
 use Rattle.folds.proofs.Tests.{or-out, and-parts}
 use Rattle.folds.proofs.Arrays.{by-eq}
 use Rattle.queue_rules.specs.Rules.{Terms, Turn, turn, Line, line, queueOf, among, standsIn, inLine, waiting, tasksOf, join, entered, leave, released, ticked}

@@ -1,12 +1,5 @@
 -- How long a task in line still waits: a bound that no move raises and a tick lowers.
-use Prim.Native.Nat.{ℕ, _+_, _*_, _-_, _≤_}
-use mathlib.Core.Bool.{Bool, true, false, cond, _||_, or-true, true≢false}
-use mathlib.Core.List.{List, [], _∷_, _++_}
-use mathlib.Core.Path.{_≡_, refl, sym, ap, _∙_}
-use native.Mathlib.Omega.{arith}
-use borrow.Author.Tests.{eqb-false, eq-eqb}
-use lib.Dec.{eqb}
-use lib.ListN.{length}
+use Rattle.folds.proofs.Ground.{ℕ, _+_, _*_, _-_, _≤_, Bool, true, false, cond, _||_, or-true, true≢false, _≡_, refl, sym, ap, _∙_, List, [], _∷_, _++_, eqb, length, arith, eqb-false, eq-eqb}
 use Rattle.folds.proofs.Tests.{or-out}
 use Rattle.folds.proofs.Arrays.{by-eq}
 use Rattle.queue_rules.specs.Rules.{Terms, Turn, turn, Line, line, queueOf, among, standsIn, inLine, holds, tasksOf, aheadOf, sumOf}

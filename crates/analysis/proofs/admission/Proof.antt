@@ -1,6 +1,5 @@
 -- The number of the reading, then what is decided of the checked plan.
-use mathlib.Core.Path.{sym, _∙_}
-use borrow.Author.Needs.{needs}
+use Rattle.folds.proofs.Ground.{sym, _∙_, needs}
 use Rattle.analysis.proofs.Told.{checked-file, admission-refused, admission-decided, admission-told}
 use Rattle.analysis.proofs.admission.Statement.{statement}
 use Rattle.analysis.proofs.admission.Tie as tie

@@ -1,9 +1,5 @@
 -- The invariant: each task below `i` passes.
-use Prim.Native.Nat.{_≤_, _-_}
-use mathlib.Core.Bool.{true, not, _||_}
-use mathlib.Core.Path.{_≡_, refl, sym, _∙_}
-use native.Mathlib.Omega.{arith}
-use borrow.Author.Needs.{needs}
+use Rattle.folds.proofs.Ground.{_≤_, _-_, true, not, _||_, _≡_, refl, sym, _∙_, arith, needs}
 use Rattle.folds.specs.Below.{allBelow}
 use Rattle.folds.proofs.Tests.{all-more, all-left, all-done, held, failed}
 use Rattle.plan_reading.specs.Plan.{planOf}

@@ -1,6 +1,5 @@
 -- A number of 0 says that the file is checked and the resource is there.
-use mathlib.Core.Path.{sym, _∙_}
-use borrow.Author.Needs.{needs}
+use Rattle.folds.proofs.Ground.{sym, _∙_, needs}
 use Rattle.analysis.proofs.Told.{share-clear, figure-given, figure-refused, figure-told}
 use Rattle.analysis.proofs.budget.Statement.{statement}
 use Rattle.analysis.proofs.budget.Tie as tie

@@ -1,7 +1,5 @@
 -- The figure stands in the table, at the place of the task and the resource.
-use mathlib.Core.Path.{sym, _∙_}
-use native.Mathlib.Omega.{arith}
-use borrow.Author.Needs.{needs}
+use Rattle.folds.proofs.Ground.{sym, _∙_, arith, needs}
 use Rattle.analysis.proofs.Told.{figure-given, figure-refused, figure-told}
 use Rattle.analysis.proofs.Users.{user-task, user-resource, user-hold}
 use Rattle.analysis.proofs.hold_time.Statement.{statement}

@@ -1,6 +1,5 @@
 -- A table of each hold time is the list of them.
-use mathlib.Core.Path.{refl, sym, _∙_}
-use borrow.Author.Needs.{needs}
+use Rattle.folds.proofs.Ground.{refl, sym, _∙_, needs}
 use Rattle.plan_reading.specs.Plan.{Checked}
 use Rattle.analysis.proofs.Told.{checked-file, times-refused, times-given}
 use Rattle.analysis.proofs.hold_times.Statement.{statement}

@@ -1,8 +1,5 @@
 -- The invariant: the figures below `x` are there.
-use Prim.Native.Nat.{_≤_, _-_}
-use mathlib.Core.Path.{_≡_, refl}
-use native.Mathlib.Omega.{arith}
-use lib.ListN.{getD, replicate}
+use Rattle.folds.proofs.Ground.{_≤_, _-_, _≡_, refl, getD, replicate, arith}
 use Rattle.folds.specs.Bytes.{placedBelow}
 use Rattle.folds.proofs.Arrays.{placed-step, placed-done}
 use Rattle.analysis.proofs.holds_of.Statement.{statement}

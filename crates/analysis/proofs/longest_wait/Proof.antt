@@ -1,6 +1,5 @@
 -- The formula's figure, of the task and the resource that were asked about.
-use mathlib.Core.Path.{sym, _∙_}
-use borrow.Author.Needs.{needs}
+use Rattle.folds.proofs.Ground.{sym, _∙_, needs}
 use Rattle.analysis.proofs.Told.{figure-given, figure-refused, figure-told}
 use Rattle.analysis.proofs.Users.{user-resource}
 use Rattle.analysis.proofs.longest_wait.Statement.{statement}

@@ -1,7 +1,5 @@
 -- A processor and a resource of the plan lie within the table of budgets.
-use mathlib.Core.Path.{ap, _∙_}
-use native.Mathlib.Omega.{arith}
-use borrow.Author.Needs.{needs}
+use Rattle.folds.proofs.Ground.{ap, _∙_, arith, needs}
 use Rattle.plan_reading.proofs.Laws.{valid-plan}
 use Rattle.analysis_equations.specs.HoldTimes.{waitTime}
 use Rattle.analysis_hold_times.proofs.Rows.{budget-of}

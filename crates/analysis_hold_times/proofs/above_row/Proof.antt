@@ -1,8 +1,5 @@
 -- The invariant: the sums are in place at the resources below `q`.
-use Prim.Native.Nat.{_+_, _-_}
-use native.Mathlib.Omega.{arith}
-use borrow.Author.Needs.{needs}
-use lib.ListN.{getD}
+use Rattle.folds.proofs.Ground.{_+_, _-_, getD, arith, needs}
 use Rattle.analysis_hold_times.proofs.Rows.{Made, row-none, row-next, row-done, minus-same}
 use Rattle.analysis_hold_times.proofs.above_row.Statement.{statement}
 use Rattle.analysis_hold_times.proofs.above_row.Tie as tie

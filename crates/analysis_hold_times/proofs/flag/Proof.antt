@@ -1,4 +1,4 @@
-use borrow.Author.Needs.{needs}
+use Rattle.folds.proofs.Ground.{needs}
 use Rattle.folds.proofs.Tests.{byte-count, byte-le}
 use Rattle.analysis_hold_times.proofs.flag.Statement.{statement}
 use Rattle.analysis_hold_times.proofs.flag.Tie as tie

@@ -1,8 +1,5 @@
 -- The invariant: the processors passed have their hold times and budgets in the tables.
-use Prim.Native.Nat.{_-_, _≤_}
-use mathlib.Core.Path.{_≡_, sym, _∙_}
-use native.Mathlib.Omega.{arith}
-use borrow.Author.Needs.{needs}
+use Rattle.folds.proofs.Ground.{_-_, _≤_, _≡_, sym, _∙_, arith, needs}
 use Rattle.plan_reading.specs.Plan.{planOf, Checked}
 use Rattle.plan_reading.proofs.Laws.{valid-plan}
 use Rattle.analysis_hold_times.specs.Inner.{Orders, Tops, Flags}

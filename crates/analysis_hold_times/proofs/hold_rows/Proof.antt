@@ -1,9 +1,5 @@
 -- The invariant: the tasks passed have their hold times in the rows, and the sums and maxima are over them.
-use Prim.Native.Nat.{ℕ, _-_, _≤_}
-use mathlib.Core.List.{List}
-use mathlib.Core.Path.{_≡_, refl, sym, _∙_}
-use native.Mathlib.Omega.{arith}
-use borrow.Author.Needs.{needs}
+use Rattle.folds.proofs.Ground.{ℕ, _-_, _≤_, _≡_, refl, sym, _∙_, List, arith, needs}
 use Rattle.plan_reading.specs.Plan.{planOf}
 use Rattle.plan_reading.proofs.Laws.{valid-plan}
 use Rattle.analysis_hold_times.specs.Inner.{Row, Walk, sharedOn}

@@ -1,11 +1,5 @@
 -- The invariant: no task passed has a hold time of the resource.
-use Prim.Native.Nat.{_≤_, _-_}
-use mathlib.Core.Bool.{true}
-use mathlib.Core.Path.{_≡_, refl, sym, _∙_}
-use native.Mathlib.Omega.{arith}
-use borrow.Author.Needs.{needs}
-use borrow.Author.Tests.{eqb-true, eq-eqb}
-use lib.Dec.{eqb}
+use Rattle.folds.proofs.Ground.{_≤_, _-_, true, _≡_, refl, sym, _∙_, eqb, arith, eqb-true, eq-eqb, needs}
 use Rattle.folds.specs.Below.{allBelow}
 use Rattle.folds.proofs.Tests.{all-more, all-at}
 use Rattle.plan_reading.specs.Plan.{planOf}

@@ -1,8 +1,5 @@
 -- The invariant: the greater figures are in place at the resources below `q`.
-use Prim.Native.Nat.{_-_, max}
-use native.Mathlib.Omega.{arith}
-use borrow.Author.Needs.{needs}
-use lib.ListN.{getD}
+use Rattle.folds.proofs.Ground.{_-_, max, getD, arith, needs}
 use Rattle.analysis_hold_times.specs.Inner.{cell}
 use Rattle.analysis_hold_times.proofs.Rows.{Made, row-none, row-next, row-done}
 use Rattle.analysis_hold_times.proofs.longer_row.Statement.{statement}

@@ -1,9 +1,5 @@
 -- The invariant: `best` is the longest of the sections passed that count.
-use Prim.Native.Nat.{_≤_, _-_}
-use mathlib.Core.Bool.{cond}
-use mathlib.Core.Path.{_≡_, refl}
-use borrow.Author.Needs.{needs}
-use native.Mathlib.Omega.{arith}
+use Rattle.folds.proofs.Ground.{_≤_, _-_, cond, _≡_, refl, arith, needs}
 use Rattle.folds.specs.Below.{maxBelow}
 use Rattle.folds.proofs.Figures.{max-step, max-done}
 use Rattle.plan_reading.specs.Plan.{planOf}

@@ -1,7 +1,5 @@
 -- The invariant: the figures below `q` of the row are put down.
-use Prim.Native.Nat.{_-_, _≤_}
-use mathlib.Core.Path.{_≡_, refl}
-use native.Mathlib.Omega.{arith}
+use Rattle.folds.proofs.Ground.{_-_, _≤_, _≡_, refl, arith}
 use Rattle.folds.proofs.Arrays.{stampedBelow, stamped-length, stamped-step}
 use Rattle.analysis_hold_times.proofs.Rows.{setBelow, set-done}
 use Rattle.analysis_hold_times.proofs.set_row.Statement.{statement}

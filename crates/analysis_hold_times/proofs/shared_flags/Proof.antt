@@ -1,8 +1,5 @@
 -- The invariant: the flags are in place at the resources below `q`.
-use Prim.Native.Nat.{ℕ, _-_}
-use mathlib.Core.Bool.{cond}
-use native.Mathlib.Omega.{arith}
-use lib.ListN.{replicate, length-replicate}
+use Rattle.folds.proofs.Ground.{ℕ, _-_, cond, replicate, length-replicate, arith}
 use Rattle.plan_reading.specs.Plan.{planOf}
 use Rattle.plan_reading.proofs.Laws.{valid-plan}
 use Rattle.analysis_equations.specs.Sharing.{global}

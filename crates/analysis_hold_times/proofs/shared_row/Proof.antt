@@ -1,8 +1,5 @@
 -- The invariant: the figures are in place at the resources below `q`.
-use Prim.Native.Nat.{ℕ, _*_, _-_}
-use mathlib.Core.Path.{refl}
-use native.Mathlib.Omega.{arith}
-use lib.ListN.{getD, replicate, length-replicate}
+use Rattle.folds.proofs.Ground.{ℕ, _*_, _-_, refl, getD, replicate, length-replicate, arith}
 use Rattle.analysis_hold_times.specs.Inner.{cell}
 use Rattle.analysis_hold_times.proofs.Rows.{Made, row-none, row-next, row-done}
 use Rattle.analysis_hold_times.proofs.shared_row.Statement.{statement}

@@ -1,11 +1,5 @@
 -- The invariant: no task passed has the tag.
-use Prim.Native.Nat.{_≤_, _-_}
-use mathlib.Core.Bool.{true, not}
-use mathlib.Core.Path.{_≡_, refl, sym, _∙_}
-use borrow.Author.Needs.{needs}
-use native.Mathlib.Omega.{arith}
-use borrow.Author.Tests.{eq-eqb, ne-eqb}
-use lib.Dec.{eqb}
+use Rattle.folds.proofs.Ground.{_≤_, _-_, true, not, _≡_, refl, sym, _∙_, eqb, arith, eq-eqb, ne-eqb, needs}
 use Rattle.folds.specs.Below.{allBelow}
 use Rattle.folds.proofs.Tests.{all-more, find-at, find-none}
 use Rattle.plan_reading.specs.Plan.{planOf}

@@ -1,6 +1,5 @@
 -- Half of the tasks after the other, in a table of zeros.
-use native.Mathlib.Omega.{arith}
-use borrow.Author.Needs.{needs}
+use Rattle.folds.proofs.Ground.{arith, needs}
 use Rattle.analysis_hold_times.proofs.Tops.{tops-none}
 use Rattle.analysis_hold_times.proofs.tops_table.Statement.{statement}
 use Rattle.analysis_hold_times.proofs.tops_table.Tie as tie

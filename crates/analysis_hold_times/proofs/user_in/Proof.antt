@@ -1,8 +1,5 @@
 -- The task found and the counts decide 11 and 12; the table's figure tells whether the task shares the resource.
-use Prim.Native.Nat.{_<_}
-use mathlib.Core.Path.{_≡_, sym, _∙_}
-use native.Mathlib.Omega.{arith}
-use borrow.Author.Needs.{needs}
+use Rattle.folds.proofs.Ground.{_<_, _≡_, sym, _∙_, arith, needs}
 use Rattle.plan_reading.specs.Plan.{Valid, planOf}
 use Rattle.plan_reading.proofs.Laws.{valid-plan}
 use Rattle.analysis_equations.specs.HoldTimes.{holdAt}

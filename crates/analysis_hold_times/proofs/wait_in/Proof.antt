@@ -1,8 +1,5 @@
 -- The invariant: `sum` is that of the processors passed, each of at most 16 bits.
-use Prim.Native.Nat.{_*_, _-_, _≤_}
-use mathlib.Core.Path.{_≡_, refl}
-use native.Mathlib.Omega.{arith}
-use borrow.Author.Needs.{needs}
+use Rattle.folds.proofs.Ground.{_*_, _-_, _≤_, _≡_, refl, arith, needs}
 use Rattle.folds.specs.Below.{sumBelow}
 use Rattle.plan_reading.specs.Plan.{planOf}
 use Rattle.plan_reading.proofs.Laws.{valid-plan}

@@ -1,7 +1,5 @@
 -- The count comes from the table, the longest section from the call.
-use Prim.Native.Nat.{_+_, _*_}
-use mathlib.Core.Path.{_≡_}
-use native.Mathlib.Omega.{arith}
+use Rattle.folds.proofs.Ground.{_+_, _*_, _≡_, arith}
 use Rattle.plan_reading.specs.Plan.{planOf}
 use Rattle.plan_reading.proofs.Laws.{valid-plan}
 use Rattle.analysis_equations.specs.Blocking.{blocking1}

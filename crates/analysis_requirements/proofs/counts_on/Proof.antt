@@ -1,9 +1,5 @@
 -- The invariant: the table holds the counts of task i's sections below `s`.
-use Prim.Native.Nat.{_≤_, _-_}
-use mathlib.Core.Path.{_≡_, refl}
-use native.Mathlib.Omega.{arith}
-use borrow.Author.Needs.{needs}
-use lib.Dec.{eqb}
+use Rattle.folds.proofs.Ground.{_≤_, _-_, _≡_, refl, eqb, arith, needs}
 use Rattle.folds.proofs.Arrays.{gatheredBelow, gathered-step}
 use Rattle.plan_reading.specs.Plan.{planOf}
 use Rattle.plan_reading.proofs.Laws.{valid-plan}

@@ -1,8 +1,5 @@
 -- The invariant: `sum` is the demand of the first k tasks. Each adds less than 2^32.
-use Prim.Native.Nat.{_*_, _≤_, _-_}
-use mathlib.Core.Path.{_≡_, refl}
-use native.Mathlib.Omega.{arith}
-use lib.ListN.{getD}
+use Rattle.folds.proofs.Ground.{_*_, _≤_, _-_, _≡_, refl, getD, arith}
 use Rattle.folds.specs.Below.{sumBelow}
 use Rattle.folds.proofs.Figures.{sum-step, sum-done}
 use Rattle.analysis_equations.specs.Blocking.{ceilDiv}

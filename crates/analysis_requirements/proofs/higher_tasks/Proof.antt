@@ -1,8 +1,5 @@
 -- The invariant: the tasks below j that are above task i are counted and packed.
-use Prim.Native.Nat.{_≤_, _-_}
-use mathlib.Core.Path.{_≡_, sym, ap, _∙_}
-use mathlib.Core.Logic.{⊎-elim}
-use native.Mathlib.Omega.{arith}
+use Rattle.folds.proofs.Ground.{_≤_, _-_, _≡_, sym, ap, _∙_, ⊎-elim, arith}
 use Rattle.plan_rules.specs.declared.TaskRow.{TaskRow}
 use Rattle.plan_reading.specs.Plan.{planOf}
 use Rattle.plan_reading.proofs.Laws.{valid-plan}

@@ -1,9 +1,5 @@
 -- The invariant: `best` is the longest blocking section below `s`.
-use Prim.Native.Nat.{ℕ, _<_, _≤_, _-_}
-use mathlib.Core.List.{List}
-use mathlib.Core.Path.{_≡_, refl}
-use native.Mathlib.Omega.{arith}
-use borrow.Author.Needs.{needs}
+use Rattle.folds.proofs.Ground.{ℕ, _<_, _≤_, _-_, _≡_, refl, List, arith, needs}
 use Rattle.folds.specs.Below.{maxBelow}
 use Rattle.folds.proofs.Figures.{max-step}
 use Rattle.plan_reading.specs.Plan.{planOf}

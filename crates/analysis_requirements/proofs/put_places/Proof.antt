@@ -1,9 +1,5 @@
 -- The invariant: the places of the tasks below `j` are there.
-use Prim.Native.Nat.{ℕ, _≤_, _-_}
-use mathlib.Core.List.{List}
-use mathlib.Core.Path.{_≡_, sym, _∙_}
-use native.Mathlib.Omega.{arith}
-use borrow.Author.Needs.{needs}
+use Rattle.folds.proofs.Ground.{ℕ, _≤_, _-_, _≡_, sym, _∙_, List, arith, needs}
 use Rattle.plan_reading.specs.Plan.{planOf, Checked}
 use Rattle.plan_reading.proofs.Laws.{valid-plan}
 use Rattle.analysis_requirements.specs.Inner.{TermsBelow}

@@ -1,10 +1,5 @@
 -- The invariant: the table tells of the sections below `s`.
-use Prim.Native.Nat.{ℕ, _<_, _≤_, _-_}
-use mathlib.Core.List.{List}
-use mathlib.Core.Path.{_≡_, refl, sym, ap, _∙_}
-use native.Mathlib.Omega.{arith}
-use borrow.Author.Needs.{needs}
-use lib.ListN.{length-set}
+use Rattle.folds.proofs.Ground.{ℕ, _<_, _≤_, _-_, _≡_, refl, sym, ap, _∙_, List, length-set, arith, needs}
 use Rattle.plan_rules.specs.declared.SectionRow.{SectionRow}
 use Rattle.plan_reading.specs.Plan.{planOf, Checked}
 use Rattle.plan_reading.proofs.Laws.{valid-plan}

@@ -1,10 +1,5 @@
 -- The invariant: the flags of the resources below `q` are in place.
-use Prim.Native.Nat.{ℕ, _≤_, _-_}
-use mathlib.Core.Bool.{Bool, cond}
-use mathlib.Core.Path.{_≡_, sym, ap, _∙_}
-use native.Mathlib.Omega.{arith}
-use borrow.Author.Needs.{needs}
-use lib.ListN.{length-replicate}
+use Rattle.folds.proofs.Ground.{ℕ, _≤_, _-_, Bool, cond, _≡_, sym, ap, _∙_, length-replicate, arith, needs}
 use Rattle.plan_reading.specs.Plan.{planOf}
 use Rattle.analysis_hold_times.specs.Figures.{Known}
 use Rattle.analysis_requirements.specs.Inner.{TermsBelow}

@@ -1,5 +1,5 @@
 -- Each figure comes from its call; the tolerance is read back from its bits.
-use mathlib.Core.Path.{_∙_}
+use Rattle.folds.proofs.Ground.{_∙_}
 use Rattle.folds.proofs.SignedLaws.{back}
 use Rattle.plan_reading.proofs.Laws.{valid-plan}
 use Rattle.analysis_requirements.proofs.Sides.{tolerance-fits, requirement-told}

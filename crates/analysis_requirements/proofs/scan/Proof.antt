@@ -1,7 +1,5 @@
 -- The invariant: `best` is the greatest for the times up to t.
-use Prim.Native.Nat.{_≤_, _-_}
-use mathlib.Core.Path.{_≡_, _∙_}
-use native.Mathlib.Omega.{arith}
+use Rattle.folds.proofs.Ground.{_≤_, _-_, _≡_, _∙_, arith}
 use mir.Syntax.{w64}
 use mir.Val.{toZ}
 use Rattle.folds.specs.Signed.{greatestTo}

@@ -1,6 +1,5 @@
 -- The tasks above are all there, and in their ranges.
-use mathlib.Core.Path.{_∙_}
-use borrow.Author.Needs.{needs}
+use Rattle.folds.proofs.Ground.{_∙_, needs}
 use Rattle.folds.proofs.SignedLaws.{back}
 use Rattle.plan_reading.proofs.Laws.{valid-plan}
 use Rattle.analysis_requirements.proofs.Demand.{above-scanned, above-tolerance}

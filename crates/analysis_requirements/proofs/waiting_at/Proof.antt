@@ -1,6 +1,5 @@
 -- A local resource and one that the task does not use ask for no wait.
-use mathlib.Core.Path.{sym, _∙_}
-use native.Mathlib.Omega.{arith}
+use Rattle.folds.proofs.Ground.{sym, _∙_, arith}
 use Rattle.plan_reading.proofs.Laws.{valid-plan}
 use Rattle.analysis_requirements.proofs.Terms.{flag-off, flag-on}
 use Rattle.analysis_requirements.proofs.Sides.{waiting-local, waiting-unused, waiting-used, waiting-there}

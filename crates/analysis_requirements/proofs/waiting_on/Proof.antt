@@ -1,6 +1,5 @@
 -- The calls give the numbers of Equation 6, a budget of at least a tick among them.
-use native.Mathlib.Omega.{arith}
-use borrow.Author.Needs.{needs}
+use Rattle.folds.proofs.Ground.{arith, needs}
 use Rattle.plan_reading.specs.Plan.{planOf}
 use Rattle.plan_reading.proofs.Laws.{valid-plan}
 use Rattle.analysis_requirements.proofs.Sides.{Waits, processor-low, waits}

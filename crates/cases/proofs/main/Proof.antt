@@ -1,6 +1,5 @@
 -- `cases::main` is safe and ends: the turns that are left fall. Assumes nothing.
-use native.Mathlib.Omega.{arith}
-use borrow.Author.Tests.{ltb-true}
+use Rattle.folds.proofs.Ground.{arith, ltb-true}
 use Rattle.cases.proofs.main.Statement.{statement}
 use Rattle.cases.proofs.main.Tie as tie
 

@@ -1,6 +1,5 @@
 -- What came is put at the front, and nothing behind it is touched.
-use native.Mathlib.Omega.{arith}
-use borrow.Author.Needs.{needs}
+use Rattle.folds.proofs.Ground.{arith, needs}
 use Rattle.input.proofs.Laws.{came}
 use Rattle.input.proofs.read_plan.Statement.{statement}
 use Rattle.input.proofs.read_plan.Tie as tie

@@ -1,6 +1,5 @@
 -- Bytes 14-15 are among the first 16, so what is read behind these does not change them.
-use native.Mathlib.Omega.{arith}
-use borrow.Author.Needs.{needs}
+use Rattle.folds.proofs.Ground.{arith, needs}
 use Rattle.input.proofs.Laws.{told-most, told-still, all-plan}
 use Rattle.input.proofs.read_whole.Statement.{statement}
 use Rattle.input.proofs.read_whole.Tie as tie

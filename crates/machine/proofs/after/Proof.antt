@@ -1,5 +1,5 @@
 -- The call that is decoded, or none.
-use borrow.Author.Needs.{needs}
+use Rattle.folds.proofs.Ground.{needs}
 use Rattle.machine.proofs.Bytes.{after-call, after-none}
 use Rattle.machine.proofs.after.Statement.{statement}
 use Rattle.machine.proofs.after.Tie as tie

@@ -1,6 +1,5 @@
 -- A look at the file, then the call by what that gave.
-use mathlib.Core.Path.{ap, _∙_}
-use borrow.Author.Needs.{needs}
+use Rattle.folds.proofs.Ground.{ap, _∙_, needs}
 use Rattle.machine_rules.specs.Machine.{answerTold}
 use Rattle.machine.proofs.Answered.{reply-told}
 use Rattle.machine.proofs.call.Statement.{statement}

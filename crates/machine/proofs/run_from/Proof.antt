@@ -1,7 +1,5 @@
 -- The invariant: the state is what the operations return after the calls passed.
-use Prim.Native.Nat.{_≤_, _-_}
-use native.Mathlib.Omega.{arith}
-use borrow.Author.Needs.{needs}
+use Rattle.folds.proofs.Ground.{_≤_, _-_, arith, needs}
 use Rattle.machine_calls.specs.Calls.{callWidth, callsBelow}
 use Rattle.machine.specs.Promise.{Returned, started}
 use Rattle.machine.proofs.Bytes.{returned-step, all-calls}

@@ -1,6 +1,5 @@
 -- Its tag is read by `tag_at`.
-use native.Mathlib.Omega.{arith}
-use borrow.Author.Needs.{needs}
+use Rattle.folds.proofs.Ground.{arith, needs}
 use Rattle.machine_calls.proofs.bytes_at.Statement.{statement}
 use Rattle.machine_calls.proofs.bytes_at.Tie as tie
 

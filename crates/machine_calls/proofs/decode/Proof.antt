@@ -1,5 +1,5 @@
 -- Each letter has its arm.
-use borrow.Author.Needs.{needs}
+use Rattle.folds.proofs.Ground.{needs}
 use Rattle.machine_calls.proofs.Calls.{decoded-request, decoded-release, decoded-tick, decoded-none}
 use Rattle.machine_calls.proofs.decode.Statement.{statement}
 use Rattle.machine_calls.proofs.decode.Tie as tie

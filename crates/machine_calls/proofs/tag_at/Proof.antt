@@ -1,7 +1,5 @@
 -- One byte or two.
-use mathlib.Core.Path.{_∙_}
-use native.Mathlib.Omega.{arith}
-use borrow.Author.Needs.{needs}
+use Rattle.folds.proofs.Ground.{_∙_, arith, needs}
 use Rattle.machine_calls.proofs.Calls.{tag-one, tag-two}
 use Rattle.machine_calls.proofs.tag_at.Statement.{statement}
 use Rattle.machine_calls.proofs.tag_at.Tie as tie

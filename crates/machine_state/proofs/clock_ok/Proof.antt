@@ -1,9 +1,5 @@
 -- One outcome of the test at a time; a queue that is not empty has a head, and somebody has the first seat of its queue.
-use Prim.Native.Nat.{_<_}
-use borrow.Author.Needs.{needs}
-use borrow.Author.Tests.{eq-eqb, ne-eqb}
-use native.Mathlib.Nat.{add-zero}
-use native.Mathlib.Omega.{arith}
+use Rattle.folds.proofs.Ground.{_<_, add-zero, arith, eq-eqb, ne-eqb, needs}
 use Rattle.machine_state.specs.Inner.{clockTest}
 use Rattle.machine_state.proofs.Passing.{head-low}
 use Rattle.machine_state.proofs.clock_ok.Statement.{statement}

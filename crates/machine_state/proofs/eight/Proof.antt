@@ -1,8 +1,5 @@
 -- The sum of the eight bytes, each times its power.
-use borrow.Author.Needs.{needs}
-use Prim.Native.Nat.{ℕ, zero, suc, _<_}
-use native.Mathlib.Omega.{arith}
-use lib.ListN.{getD}
+use Rattle.folds.proofs.Ground.{ℕ, zero, suc, _<_, getD, arith, needs}
 use Rattle.folds.specs.Bytes.{number}
 use Rattle.machine_state.proofs.eight.Statement.{statement}
 use Rattle.machine_state.proofs.eight.Tie as tie

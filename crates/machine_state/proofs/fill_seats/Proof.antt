@@ -1,9 +1,5 @@
 -- The invariant: the tasks below `u` sit in `seats`.
-use Prim.Native.Nat.{_≤_, _-_}
-use mathlib.Core.Path.{_≡_, refl}
-use native.Mathlib.Omega.{arith}
-use borrow.Author.Needs.{needs}
-use lib.ListN.{length-replicate}
+use Rattle.folds.proofs.Ground.{_≤_, _-_, _≡_, refl, length-replicate, arith, needs}
 use Rattle.folds.proofs.Arrays.{stampedBelow, stamped-length, stamped-step}
 use Rattle.plan_reading.proofs.Laws.{valid-plan}
 use Rattle.machine_state.proofs.Tables.{seatsBelow, seat-high, seats-done}

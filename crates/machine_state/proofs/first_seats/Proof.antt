@@ -1,8 +1,5 @@
 -- The invariant: the processors below `k` have their first seat in `first`.
-use Prim.Native.Nat.{_≤_, _-_}
-use mathlib.Core.Path.{_≡_, refl}
-use native.Mathlib.Nat.{add-zero}
-use native.Mathlib.Omega.{arith}
+use Rattle.folds.proofs.Ground.{_≤_, _-_, _≡_, refl, add-zero, arith}
 use Rattle.folds.specs.Bytes.{placedBelow}
 use Rattle.folds.proofs.Arrays.{placed-step, placed-done}
 use Rattle.machine_state.specs.Inner.{firstSeat}

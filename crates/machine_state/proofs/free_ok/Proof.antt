@@ -1,7 +1,5 @@
 -- The slots by their number, then the rest as it stands.
-use borrow.Author.Needs.{needs}
-use mathlib.Core.Path.{refl}
-use native.Mathlib.Omega.{arith}
+use Rattle.folds.proofs.Ground.{refl, arith, needs}
 use Rattle.machine_state.specs.Inner.{freeTest}
 use Rattle.machine_state.proofs.Numbers.{whole-tail}
 use Rattle.machine_state.proofs.free_ok.Statement.{statement}

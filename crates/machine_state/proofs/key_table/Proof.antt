@@ -1,10 +1,5 @@
 -- The invariant: the seats of the tasks below `u` stand in `keys`.
-use Prim.Native.Nat.{_≤_, _-_}
-use mathlib.Core.Path.{_≡_, refl, sym, _∙_}
-use mathlib.Core.Logic.{⊎-elim}
-use native.Mathlib.Omega.{arith}
-use borrow.Author.Needs.{needs}
-use lib.ListN.{getD-replicate}
+use Rattle.folds.proofs.Ground.{_≤_, _-_, _≡_, refl, sym, _∙_, ⊎-elim, getD-replicate, arith, needs}
 use Rattle.folds.specs.Bytes.{placedBelow}
 use Rattle.folds.proofs.Arrays.{placed-step}
 use Rattle.plan_reading.specs.Plan.{planOf}

@@ -1,9 +1,6 @@
 -- One outcome of the tests at a time, a free line by its own; where the queue has passed, the clock's can read the head and its first
 -- task.
-use mathlib.Core.Path.{sym, _∙_}
-use borrow.Author.Needs.{needs}
-use borrow.Author.Tests.{le-leb, lt-leb}
-use native.Mathlib.Omega.{arith}
+use Rattle.folds.proofs.Ground.{sym, _∙_, arith, le-leb, lt-leb, needs}
 use Rattle.machine_state.specs.Inner.{lineTest}
 use Rattle.machine_state.proofs.Passing.{head-passed, free-line}
 use Rattle.machine_state.proofs.line_ok.Statement.{statement}

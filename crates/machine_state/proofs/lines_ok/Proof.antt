@@ -1,9 +1,5 @@
 -- The invariant: the rows passed are as they must be.
-use Prim.Native.Nat.{_≤_, _-_}
-use mathlib.Core.Bool.{true}
-use mathlib.Core.Path.{_≡_, refl, sym}
-use native.Mathlib.Omega.{arith}
-use lib.ListN.{getD}
+use Rattle.folds.proofs.Ground.{_≤_, _-_, true, _≡_, refl, sym, getD, arith}
 use Rattle.folds.specs.Below.{allBelow}
 use Rattle.folds.proofs.Tests.{held, failed, all-more, all-left, all-done}
 use Rattle.machine_state.specs.Shows.{noLine}

@@ -1,9 +1,5 @@
 -- The invariant: `ok` says whether nobody has the first seats passed.
-use Prim.Native.Nat.{_≤_, _-_}
-use mathlib.Core.Path.{_≡_, refl}
-use native.Mathlib.Nat.{add-zero}
-use native.Mathlib.Omega.{arith}
-use lib.Dec.{eqb}
+use Rattle.folds.proofs.Ground.{_≤_, _-_, _≡_, refl, eqb, add-zero, arith}
 use Rattle.folds.specs.Below.{allBelow}
 use Rattle.folds.proofs.Tests.{all-step, all-done}
 use Rattle.machine_state.specs.Inner.{firstSeat}

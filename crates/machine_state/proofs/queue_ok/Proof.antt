@@ -1,12 +1,5 @@
 -- The invariant: the slots passed are as they must be, and their processors are struck off `rest`.
-use Prim.Native.Nat.{_≤_, _-_}
-use mathlib.Core.Bool.{true}
-use mathlib.Core.Path.{_≡_, refl, ap, _∙_}
-use native.Mathlib.Omega.{arith}
-use borrow.Author.Needs.{needs}
-use borrow.Author.Tests.{le-leb}
-use lib.Dec.{leb}
-use lib.ListN.{getD}
+use Rattle.folds.proofs.Ground.{_≤_, _-_, true, _≡_, refl, ap, _∙_, leb, getD, arith, le-leb, needs}
 use Rattle.folds.specs.Below.{allBelow}
 use Rattle.folds.proofs.Tests.{all-more, all-fails}
 use Rattle.folds.proofs.Arrays.{stampedBelow, stamped-step}

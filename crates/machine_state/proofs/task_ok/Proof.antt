@@ -1,13 +1,5 @@
 -- A task in the first place has its own seat looked at twice.
-use borrow.Author.Needs.{needs}
-use Prim.Native.Nat.{ℕ, _+_, _*_, _-_, _/_, _%_, _≤_}
-use mathlib.Core.Bool.{Bool, true, false, _&&_, _||_}
-use mathlib.Core.List.{List}
-use mathlib.Core.Path.{_≡_, refl, sym, ap, _∙_}
-use native.Mathlib.Omega.{arith}
-use borrow.Author.Tests.{eq-eqb, ne-eqb, eqb-true, ltb-true, ltb-false, le-leb}
-use lib.Dec.{eqb, leb, ltb}
-use lib.ListN.{getD}
+use Rattle.folds.proofs.Ground.{ℕ, _+_, _*_, _-_, _/_, _%_, _≤_, Bool, true, false, _&&_, _||_, _≡_, refl, sym, ap, _∙_, List, eqb, leb, ltb, getD, arith, eq-eqb, ne-eqb, eqb-true, ltb-true, ltb-false, le-leb, needs}
 use mir.Val.{boolByte}
 use Rattle.analysis_hold_times.specs.Figures.{holdCell}
 use Rattle.machine_state.specs.Inner.{noSeat, taskTest}

@@ -1,8 +1,5 @@
 -- The invariant: `ok` says whether the rows passed are as they must be.
-use Prim.Native.Nat.{_≤_, _-_, _*_}
-use mathlib.Core.Path.{_≡_, refl}
-use native.Mathlib.Omega.{arith}
-use lib.ListN.{getD}
+use Rattle.folds.proofs.Ground.{_≤_, _-_, _*_, _≡_, refl, getD, arith}
 use Rattle.folds.specs.Below.{allBelow}
 use Rattle.folds.proofs.Tests.{all-step, all-done}
 use Rattle.machine_state.specs.Shows.{standing}

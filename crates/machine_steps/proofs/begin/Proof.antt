@@ -1,9 +1,5 @@
 -- With somebody queued, the head's seat is taken.
-use native.Mathlib.Omega.{arith}
-use borrow.Author.Needs.{needs}
-use borrow.Author.Tests.{eq-eqb, ne-eqb}
-use lib.Dec.{eqb}
-use lib.ListN.{getD}
+use Rattle.folds.proofs.Ground.{eqb, getD, arith, eq-eqb, ne-eqb, needs}
 use Rattle.machine_steps.specs.Inner.{begun}
 use Rattle.machine_steps.proofs.Passing.{flag, flag-low}
 use Rattle.machine_steps.proofs.begin.Statement.{statement}

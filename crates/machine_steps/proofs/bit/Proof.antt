@@ -1,9 +1,5 @@
-use mathlib.Core.Bool.{Bool}
-use mathlib.Core.Path.{sym, ap, _∙_}
-use native.Mathlib.Omega.{arith}
-use lib.Dec.{lit<}
+use Rattle.folds.proofs.Ground.{Bool, sym, ap, _∙_, lit<, arith, needs}
 use lib.Pow.{shl-exact}
-use borrow.Author.Needs.{needs}
 use Rattle.folds.specs.Words.{bitOf}
 use Rattle.machine_steps.proofs.bit.Statement.{statement}
 use Rattle.machine_steps.proofs.bit.Tie as tie

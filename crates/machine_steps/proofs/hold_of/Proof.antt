@@ -1,8 +1,5 @@
 -- The seat is taken, and its number says where the hold time stands.
-use native.Mathlib.Omega.{arith}
-use borrow.Author.Needs.{needs}
-use mathlib.Core.Path.{_≡_}
-use lib.ListN.{getD}
+use Rattle.folds.proofs.Ground.{_≡_, getD, arith, needs}
 use Rattle.machine_state.specs.Inner.{seat}
 use Rattle.machine_steps.proofs.Passing.{seat-read, seat-within}
 use Rattle.machine_steps.proofs.hold_of.Statement.{statement}

@@ -1,9 +1,5 @@
 -- The invariant: the rows passed have fallen where their queue lost its first.
-use Prim.Native.Nat.{_/_, _-_, _≤_}
-use mathlib.Core.Path.{_≡_, refl}
-use native.Mathlib.Omega.{arith}
-use lib.Dec.{eqb}
-use lib.ListN.{getD}
+use Rattle.folds.proofs.Ground.{_/_, _-_, _≤_, _≡_, refl, eqb, getD, arith}
 use Rattle.folds.specs.Each.{eachBelow}
 use Rattle.folds.proofs.EachLaws.{each-step, each-done}
 use Rattle.machine_state.specs.Shows.{noStanding}

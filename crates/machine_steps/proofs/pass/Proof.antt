@@ -1,10 +1,5 @@
 -- Who begins next has the seat that the tables name, and its task a hold time.
-use native.Mathlib.Omega.{arith}
-use borrow.Author.Needs.{needs}
-use borrow.Author.Tests.{eq-eqb, ne-eqb, le-leb, lt-leb}
-use Prim.Native.Nat.{_≤_}
-use mathlib.Core.Path.{refl, sym}
-use lib.ListN.{getD}
+use Rattle.folds.proofs.Ground.{_≤_, refl, sym, getD, arith, eq-eqb, ne-eqb, le-leb, lt-leb, needs}
 use Rattle.machine_state.specs.Shows.{slot}
 use Rattle.machine_state.specs.Inner.{seat}
 use Rattle.machine_steps.specs.Inner.{passed}

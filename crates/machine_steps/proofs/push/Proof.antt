@@ -1,5 +1,4 @@
-use borrow.Author.Tests.{eq-eqb, ne-eqb}
-use borrow.Author.Needs.{needs}
+use Rattle.folds.proofs.Ground.{eq-eqb, ne-eqb, needs}
 use Rattle.machine_steps.specs.Inner.{pushed}
 use Rattle.machine_steps.proofs.push.Statement.{statement}
 use Rattle.machine_steps.proofs.push.Tie as tie

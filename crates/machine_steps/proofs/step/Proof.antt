@@ -1,6 +1,5 @@
 -- A held line has a hold and a budget left to count down; at its last tick the next task takes over.
-use native.Mathlib.Omega.{arith}
-use borrow.Author.Tests.{eq-eqb, ne-eqb}
+use Rattle.folds.proofs.Ground.{arith, eq-eqb, ne-eqb}
 use Rattle.machine_steps.specs.Inner.{stepped}
 use Rattle.machine_steps.proofs.Passing.{ready-again}
 use Rattle.machine_steps.proofs.step.Statement.{statement}

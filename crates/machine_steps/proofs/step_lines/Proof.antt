@@ -1,12 +1,5 @@
 -- The invariant: the lines below `q` have made their tick, the others are as they were; marks and words tell of those below.
-use Prim.Native.Nat.{ℕ, _≤_, _-_}
-use mathlib.Core.Bool.{Bool, _&&_}
-use mathlib.Core.List.{List}
-use mathlib.Core.Logic.{⊎-elim}
-use mathlib.Core.Path.{_≡_, refl, sym, ap, _∙_}
-use native.Mathlib.Omega.{arith}
-use lib.Dec.{ltb}
-use lib.ListN.{getD}
+use Rattle.folds.proofs.Ground.{ℕ, _≤_, _-_, Bool, _&&_, _≡_, refl, sym, ap, _∙_, ⊎-elim, List, ltb, getD, arith}
 use Rattle.folds.specs.Each.{eachBelow}
 use Rattle.folds.specs.Words.{bitOf, wordBelow}
 use Rattle.folds.proofs.Arrays.{stampedBelow}

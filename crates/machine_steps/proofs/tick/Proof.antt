@@ -1,6 +1,5 @@
 -- Where no resource is cut, the rows of the tasks are already as the marks would make them.
-use borrow.Author.Needs.{needs}
-use mathlib.Core.Path.{_≡_, sym, ap, _∙_}
+use Rattle.folds.proofs.Ground.{_≡_, sym, ap, _∙_, needs}
 use Rattle.machine_steps.specs.Inner.{grantWord}
 use Rattle.machine_steps.proofs.Marks.{rows-kept}
 use Rattle.machine_steps.proofs.tick.Statement.{statement}

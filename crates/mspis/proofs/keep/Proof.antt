@@ -1,8 +1,5 @@
 -- Every place read lies before the end, and every place written before it.
-use Prim.Native.Nat.{_-_, _≤_}
-use mathlib.Core.Path.{_≡_, refl}
-use native.Mathlib.Omega.{arith}
-use lib.ListN.{length, length-set}
+use Rattle.folds.proofs.Ground.{_-_, _≤_, _≡_, refl, length, length-set, arith}
 use Rattle.mspis.proofs.keep.Statement.{statement}
 use Rattle.mspis.proofs.keep.Tie as tie
 

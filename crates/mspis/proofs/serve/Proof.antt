@@ -1,12 +1,5 @@
 -- Each turn makes a call at least, since there is one; or it is refused, and the last.
-use Prim.Native.Nat.{ℕ, _+_, _-_, _<_, _≤_}
-use mathlib.Core.Bool.{Bool, true, false, cond, _&&_}
-use mathlib.Core.Path.{_≡_, refl, ap, _∙_}
-use native.Mathlib.Omega.{arith}
-use borrow.Author.Needs.{needs}
-use borrow.Author.Tests.{leb-true}
-use lib.Dec.{eqb, leb}
-use lib.ListN.{length, length-drop}
+use Rattle.folds.proofs.Ground.{ℕ, _+_, _-_, _<_, _≤_, Bool, true, false, cond, _&&_, _≡_, refl, ap, _∙_, eqb, leb, length, length-drop, arith, leb-true, needs}
 use Rattle.folds.proofs.Arrays.{by-eq}
 use Rattle.folds.proofs.Parts.{part-rest}
 use Rattle.folds.proofs.Tests.{and-parts}

@@ -1,11 +1,5 @@
 -- The invariant: both buffers keep their length, and the bytes kept fit. The measure is the number of turns left.
-use Prim.Native.Nat.{_≤_}
-use mathlib.Core.Path.{_≡_}
-use native.Mathlib.Omega.{arith}
-use borrow.Author.Needs.{needs}
-use borrow.Author.Tests.{ltb-true}
-use lib.Dec.{ltb}
-use lib.ListN.{length}
+use Rattle.folds.proofs.Ground.{_≤_, _≡_, ltb, length, arith, ltb-true, needs}
 use Rattle.folds.proofs.Tests.{and-parts}
 use Rattle.mspis.proofs.serve_all.Statement.{statement}
 use Rattle.mspis.proofs.serve_all.Tie as tie

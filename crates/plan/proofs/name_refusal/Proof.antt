@@ -1,9 +1,5 @@
 -- A plan that is read has the resource or has it not; one that is refused gives its number.
-use Prim.Native.Nat.{_<_, _≤_}
-use mathlib.Core.Path.{sym, ap, _∙_}
-use native.Mathlib.Omega.{arith}
-use borrow.Author.Needs.{needs}
-use borrow.Author.Tests.{lt-ltb, le-ltb, eq-eqb, ne-eqb}
+use Rattle.folds.proofs.Ground.{_<_, _≤_, sym, ap, _∙_, arith, lt-ltb, le-ltb, eq-eqb, ne-eqb, needs}
 use Rattle.plan_rules.specs.declared.Counts.{Counts}
 use Rattle.plan_layout.specs.Layout.{countsOf}
 use Rattle.plan.specs.Reading.{nameRefusal}

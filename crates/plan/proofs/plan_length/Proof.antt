@@ -1,8 +1,6 @@
 -- Each return is the branch of the definition.
-use native.Mathlib.Omega.{arith}
-use borrow.Author.Tests.{lt-ltb, le-ltb}
+use Rattle.folds.proofs.Ground.{arith, lt-ltb, le-ltb, needs}
 use Rattle.plan.specs.Reading.{planLength}
-use borrow.Author.Needs.{needs}
 use Rattle.plan.proofs.plan_length.Statement.{statement}
 use Rattle.plan.proofs.plan_length.Tie as tie
 

@@ -1,6 +1,5 @@
 -- Each return is the branch of the definition.
-use mathlib.Core.Path.{_≡_, sym, ap, _∙_}
-use borrow.Author.Needs.{needs}
+use Rattle.folds.proofs.Ground.{_≡_, sym, ap, _∙_, needs}
 use Rattle.plan.specs.declared.Reading.{Reading}
 use Rattle.plan.specs.declared.ReadAnswer.the-variants.{Accepted}
 use Rattle.plan.specs.Reading.{told, reading}

@@ -1,9 +1,5 @@
 -- The lengths passed are loaded, the test is that of all of them, and the last name passed ends at their sum.
-use Prim.Native.Nat.{ℕ, _≤_, _-_, _*_}
-use mathlib.Core.Bool.{Bool}
-use mathlib.Core.List.{List}
-use mathlib.Core.Path.{_≡_, refl, _∙_}
-use native.Mathlib.Omega.{arith}
+use Rattle.folds.proofs.Ground.{ℕ, _≤_, _-_, _*_, Bool, _≡_, refl, _∙_, List, arith}
 use Rattle.folds.specs.Below.{allBelow, sumBelow}
 use Rattle.folds.specs.Bytes.{placedBelow}
 use Rattle.folds.proofs.Tests.{all-step, all-done}

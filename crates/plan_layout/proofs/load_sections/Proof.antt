@@ -1,8 +1,5 @@
 -- The invariant: the rows passed are loaded.
-use Prim.Native.Nat.{_≤_, _-_}
-use mathlib.Core.Path.{_≡_}
-use borrow.Author.Needs.{needs}
-use native.Mathlib.Omega.{arith}
+use Rattle.folds.proofs.Ground.{_≤_, _-_, _≡_, arith, needs}
 use Rattle.folds.specs.Bytes.{placedBelow}
 use Rattle.folds.proofs.Arrays.{placed-step, placed-done}
 use Rattle.plan_layout.specs.Editions.{edition1}

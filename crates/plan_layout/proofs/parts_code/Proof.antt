@@ -1,8 +1,5 @@
 -- Each return is the branch of the definition; what a callee requires is what the counts give.
-use Prim.Native.Nat.{ℕ}
-use mathlib.Core.Path.{_≡_, sym, ap, _∙_}
-use native.Mathlib.Omega.{arith}
-use borrow.Author.Needs.{needs}
+use Rattle.folds.proofs.Ground.{ℕ, _≡_, sym, ap, _∙_, arith, needs}
 use Rattle.plan_rules.proofs.Laws.{counts-facts}
 use Rattle.plan_layout.specs.Editions.{edition1}
 use Rattle.plan_layout.specs.Inner.{taskCode}

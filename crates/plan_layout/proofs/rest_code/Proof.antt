@@ -1,9 +1,5 @@
 -- Each return is the branch of the definition; what a callee requires is what the counts give.
-use Prim.Native.Nat.{ℕ}
-use mathlib.Core.List.{List}
-use mathlib.Core.Path.{_≡_, sym, ap, ap₂, _∙_}
-use native.Mathlib.Omega.{arith}
-use borrow.Author.Needs.{needs}
+use Rattle.folds.proofs.Ground.{ℕ, _≡_, sym, ap, ap₂, _∙_, List, arith, needs}
 use Rattle.folds.proofs.Tests.{held, failed}
 use Rattle.plan_rules.specs.Rules.{namesOk}
 use Rattle.plan_rules.proofs.Laws.{InRange, counts-facts}

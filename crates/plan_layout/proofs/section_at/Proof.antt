@@ -1,7 +1,6 @@
 -- The fields stand where the layout says.
-use mathlib.Core.Path.{sym}
+use Rattle.folds.proofs.Ground.{sym, needs}
 use Rattle.plan_layout.proofs.Laws.{section-fields}
-use borrow.Author.Needs.{needs}
 use Rattle.plan_layout.proofs.section_at.Statement.{statement}
 use Rattle.plan_layout.proofs.section_at.Tie as tie
 

@@ -1,9 +1,5 @@
 -- The invariant: `sums` holds the sums of the lengths of the sections below `i`, by task.
-use Prim.Native.Nat.{_≤_, _-_}
-use mathlib.Core.Bool.{true, false}
-use mathlib.Core.Path.{_≡_, refl}
-use native.Mathlib.Omega.{arith}
-use borrow.Author.Tests.{not-true, not-false}
+use Rattle.folds.proofs.Ground.{_≤_, _-_, true, false, _≡_, refl, arith, not-true, not-false}
 use Rattle.folds.proofs.Arrays.{gatheredBelow, gathered-step}
 use Rattle.plan_layout.proofs.Sums.{sumsBelow, sums-small, code-rows, code-sums}
 use Rattle.plan_layout.proofs.section_code.Statement.{statement}

@@ -1,7 +1,5 @@
 -- The invariant: `ok` says whether the sums of the tasks below `i` fit their execution times.
-use Prim.Native.Nat.{_≤_, _-_}
-use mathlib.Core.Path.{_≡_, refl}
-use native.Mathlib.Omega.{arith}
+use Rattle.folds.proofs.Ground.{_≤_, _-_, _≡_, refl, arith}
 use Rattle.folds.specs.Below.{allBelow}
 use Rattle.folds.proofs.Tests.{all-step, all-done}
 use Rattle.plan_layout.specs.Editions.{edition1}

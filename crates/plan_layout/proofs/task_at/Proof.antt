@@ -1,9 +1,6 @@
 -- The fields stand where the layout says.
-use Prim.Native.Nat.{_+_, _*_}
-use mathlib.Core.Path.{sym}
-use native.Mathlib.Omega.{arith}
+use Rattle.folds.proofs.Ground.{_+_, _*_, sym, arith, needs}
 use Rattle.plan_layout.proofs.Laws.{task-fields}
-use borrow.Author.Needs.{needs}
 use Rattle.plan_layout.proofs.task_at.Statement.{statement}
 use Rattle.plan_layout.proofs.task_at.Tie as tie
 

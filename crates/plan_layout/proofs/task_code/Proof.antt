@@ -1,10 +1,5 @@
 -- The invariant: the tables mark the tags and places of the rows passed, and the two tests are those of all of them.
-use Prim.Native.Nat.{ℕ, _+_, _*_, _%_, _<_, _-_}
-use mathlib.Core.Bool.{_&&_}
-use mathlib.Core.List.{List}
-use mathlib.Core.Path.{_≡_, refl, ap, ap₂, _∙_}
-use native.Mathlib.Omega.{arith}
-use borrow.Author.Needs.{needs}
+use Rattle.folds.proofs.Ground.{ℕ, _+_, _*_, _%_, _<_, _-_, _&&_, _≡_, refl, ap, ap₂, _∙_, List, arith, needs}
 use Rattle.folds.specs.Below.{allBelow}
 use Rattle.folds.proofs.Tests.{all-step, held, failed}
 use Rattle.folds.proofs.Arrays.{markedBelow, marked-step, marked-new}

@@ -1,6 +1,5 @@
 -- It stands where the layout says.
-use mathlib.Core.Path.{sym}
-use borrow.Author.Needs.{needs}
+use Rattle.folds.proofs.Ground.{sym, needs}
 use Rattle.plan_layout.proofs.Laws.{task-spare}
 use Rattle.plan_layout.proofs.task_spare.Statement.{statement}
 use Rattle.plan_layout.proofs.task_spare.Tie as tie

@@ -1,6 +1,5 @@
-use native.Mathlib.Omega.{arith}
+use Rattle.folds.proofs.Ground.{arith, needs}
 use Rattle.folds.specs.Bytes.{number}
-use borrow.Author.Needs.{needs}
 use Rattle.plan_layout.proofs.word_at.Statement.{statement}
 use Rattle.plan_layout.proofs.word_at.Tie as tie
 use Rattle.plan_layout.proofs.word_at.Reads as reads

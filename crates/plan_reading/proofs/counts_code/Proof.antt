@@ -1,6 +1,5 @@
 -- Each return is the branch of the definition.
-use mathlib.Core.Path.{_≡_, ap, _∙_}
-use borrow.Author.Needs.{needs}
+use Rattle.folds.proofs.Ground.{_≡_, ap, _∙_, needs}
 use Rattle.folds.proofs.Tests.{held, failed}
 use Rattle.plan_rules.specs.Rules.{countsOk}
 use Rattle.plan_rules.specs.declared.Counts.{Counts}

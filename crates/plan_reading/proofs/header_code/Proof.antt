@@ -1,6 +1,5 @@
 -- Each return is the branch of the definition.
-use borrow.Author.Needs.{needs}
-use borrow.Author.Tests.{lt-ltb, le-ltb, eq-eqb, ne-eqb}
+use Rattle.folds.proofs.Ground.{lt-ltb, le-ltb, eq-eqb, ne-eqb, needs}
 use Rattle.plan_reading.specs.Checks.{headerCode}
 use Rattle.plan_reading.proofs.header_code.Statement.{statement}
 use Rattle.plan_reading.proofs.header_code.Tie as tie

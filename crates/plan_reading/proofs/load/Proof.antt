@@ -1,9 +1,5 @@
 -- Each group is loaded from the part that begins at its offset.
-use Prim.Native.Nat.{ℕ}
-use mathlib.Core.Path.{_≡_, ap, ap₂, _∙_}
-use native.Mathlib.Omega.{arith}
-use borrow.Author.Needs.{needs}
-use lib.ListN.{drop, length-drop}
+use Rattle.folds.proofs.Ground.{ℕ, _≡_, ap, ap₂, _∙_, drop, length-drop, arith, needs}
 use Rattle.folds.proofs.Parts.{part-rest}
 use Rattle.plan_rules.specs.declared.Counts.{Counts}
 use Rattle.plan_layout.specs.Editions.{edition1, headerLength}

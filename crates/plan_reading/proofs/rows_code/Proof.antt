@@ -1,9 +1,5 @@
 -- The names begin where the counts say, and the header's checks gave that this lies in the file.
-use Prim.Native.Nat.{_≤_}
-use mathlib.Core.Path.{ap, _∙_}
-use native.Mathlib.Omega.{arith}
-use borrow.Author.Needs.{needs}
-use lib.ListN.{length}
+use Rattle.folds.proofs.Ground.{_≤_, ap, _∙_, length, arith, needs}
 use Rattle.folds.proofs.Parts.{part-rest}
 use Rattle.plan_layout.specs.Layout.{namesAt}
 use Rattle.plan_reading.proofs.Laws.{header-facts}

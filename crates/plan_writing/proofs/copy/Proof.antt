@@ -1,10 +1,5 @@
 -- The values that are written are those of the file that was read, so what is written is that file.
-use Prim.Native.Nat.{ℕ, _-_, _<_}
-use mathlib.Core.List.{List}
-use mathlib.Core.Path.{_≡_, sym, ap, _∙_}
-use native.Mathlib.Omega.{arith}
-use borrow.Author.Needs.{needs}
-use lib.ListN.{length, getD, take, drop}
+use Rattle.folds.proofs.Ground.{ℕ, _-_, _<_, _≡_, sym, ap, _∙_, List, length, getD, take, drop, arith, needs}
 use Rattle.folds.proofs.Parts.{part-rest}
 use Rattle.plan_layout.specs.Layout.{countsOf, rowsOf, namesOf, namesAt}
 use Rattle.plan.specs.declared.Reading.{Reading}

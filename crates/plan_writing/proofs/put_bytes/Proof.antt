@@ -1,12 +1,5 @@
 -- The invariant: the first `k` of the bytes stand at the front of the buffer, and what lies behind is as it was.
-use Prim.Native.Nat.{ℕ, _≤_, _<_, _+_, _-_}
-use mathlib.Core.List.{List, _++_}
-use mathlib.Core.Path.{_≡_, refl}
-use native.Mathlib.Nat.{zero-add}
-use native.Mathlib.Numerals.{add-one}
-use native.Mathlib.Omega.{arith}
-use lib.ListN.{length, getD, set, take, drop, length-set}
-use lib.Seq.{paste-suc, take-length}
+use Rattle.folds.proofs.Ground.{ℕ, _≤_, _<_, _+_, _-_, _≡_, refl, List, _++_, length, getD, set, take, drop, length-set, paste-suc, take-length, zero-add, add-one, arith}
 use Rattle.plan_writing.proofs.put_bytes.Statement.{statement}
 use Rattle.plan_writing.proofs.put_bytes.Tie as tie
 

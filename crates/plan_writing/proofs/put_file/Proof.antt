@@ -1,9 +1,5 @@
 -- Each part is put behind those before it: `rows-part` and `part-more`.
-use Prim.Native.Nat.{ℕ, _+_}
-use mathlib.Core.Path.{refl, ap, _∙_}
-use native.Mathlib.Omega.{arith}
-use borrow.Author.Needs.{needs}
-use lib.ListN.{length, length-take, length-drop}
+use Rattle.folds.proofs.Ground.{ℕ, _+_, refl, ap, _∙_, length, length-take, length-drop, arith, needs}
 use Rattle.plan_rules.proofs.Laws.{InRange, counts-facts}
 use Rattle.plan_layout.specs.Layout.{tasksAt}
 use Rattle.plan_layout.specs.Inner.{taskRow, resourceRow, sectionRow}

@@ -1,6 +1,5 @@
 -- The row is the bytes of the header's numbers.
-use native.Mathlib.Omega.{arith}
-use borrow.Author.Needs.{needs}
+use Rattle.folds.proofs.Ground.{arith, needs}
 use Rattle.folds.specs.Bytes.{rowBytes, digits}
 use Rattle.plan_rules.proofs.Laws.{counts-facts}
 use Rattle.plan_writing.specs.Encode.{headerBytes}

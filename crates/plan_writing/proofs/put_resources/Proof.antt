@@ -1,9 +1,5 @@
 -- The invariant: the first `i` resource rows stand at the front of the buffer, what lies behind is as it was, and `start` is the sum of their lengths.
-use Prim.Native.Nat.{ℕ, _≤_, _-_, _*_}
-use mathlib.Core.List.{List}
-use mathlib.Core.Path.{_≡_, refl}
-use native.Mathlib.Omega.{arith}
-use lib.ListN.{length-take, length-drop}
+use Rattle.folds.proofs.Ground.{ℕ, _≤_, _-_, _*_, _≡_, refl, List, length-take, length-drop, arith}
 use Rattle.folds.specs.Below.{sumBelow}
 use Rattle.folds.specs.Bytes.{bytesBelow}
 use Rattle.folds.proofs.Figures.{sum-step}

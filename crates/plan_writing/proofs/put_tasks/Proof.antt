@@ -1,8 +1,5 @@
 -- The invariant: the first `i` task rows stand at the front of the buffer, and what lies behind is as it was.
-use Prim.Native.Nat.{_≤_, _-_, _*_}
-use mathlib.Core.Path.{refl}
-use native.Mathlib.Omega.{arith}
-use lib.ListN.{length-take, length-drop}
+use Rattle.folds.proofs.Ground.{_≤_, _-_, _*_, refl, length-take, length-drop, arith}
 use Rattle.folds.specs.Bytes.{bytesBelow}
 use Rattle.plan_layout.specs.Editions.{edition1}
 use Rattle.plan_layout.specs.Inner.{taskRow}

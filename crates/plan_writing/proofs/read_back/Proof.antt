@@ -1,10 +1,5 @@
 -- The front of the buffer is the file that was written, and reading it gives the same plan.
-use Prim.Native.Nat.{_-_}
-use mathlib.Core.Path.{_≡_, sym, ap, _∙_}
-use native.Mathlib.Nat.{sub-zero}
-use native.Mathlib.Omega.{arith}
-use borrow.Author.Needs.{needs}
-use lib.ListN.{take}
+use Rattle.folds.proofs.Ground.{_-_, _≡_, sym, ap, _∙_, take, sub-zero, arith, needs}
 use Rattle.plan.specs.declared.Reading.{Reading}
 use Rattle.plan.specs.Reading.{told as readSaid}
 use Rattle.plan_writing.specs.Encode.{fileOf}

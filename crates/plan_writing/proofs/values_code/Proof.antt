@@ -1,8 +1,5 @@
 -- The rows stand in a file of their own, where the checks of a file say what the rules of values say: `parts-values`.
-use mathlib.Core.Bool.{true}
-use mathlib.Core.Path.{_≡_, sym, _∙_}
-use native.Mathlib.Omega.{arith}
-use borrow.Author.Needs.{needs}
+use Rattle.folds.proofs.Ground.{true, _≡_, sym, _∙_, arith, needs}
 use Rattle.folds.proofs.Tests.{held, failed}
 use Rattle.plan_rules.specs.Rules.{countsOk, tagsOk}
 use Rattle.plan_rules.proofs.Laws.{InRange, counts-facts}

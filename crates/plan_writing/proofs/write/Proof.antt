@@ -1,9 +1,5 @@
 -- Each return is the case of the definition; the length fits 16 bits, since the counts and the names do.
-use Prim.Native.Nat.{ℕ, _+_, _<_, _≤_}
-use mathlib.Core.Path.{sym, ap, _∙_}
-use native.Mathlib.Omega.{arith}
-use borrow.Author.Needs.{needs}
-use lib.ListN.{length}
+use Rattle.folds.proofs.Ground.{ℕ, _+_, _<_, _≤_, sym, ap, _∙_, length, arith, needs}
 use Rattle.plan_rules.proofs.Laws.{tags-kept}
 use Rattle.plan_writing.specs.declared.WriteAnswer.the-variants.{Written}
 use Rattle.plan_writing.specs.Encode.{fileLength, told}

@@ -1,9 +1,6 @@
 -- The number of the plan or of the state comes first. The line is put at the front of a buffer of its own, and handed over from there;
 -- the refusal tells whether it was.
-use Prim.Native.Nat.{ℕ}
-use mathlib.Core.List.{List}
-use mathlib.Core.Path.{refl}
-use borrow.Author.Needs.{needs}
+use Rattle.folds.proofs.Ground.{ℕ, refl, List, needs}
 use Rattle.print_text.proofs.Lines.{front-part, refused-before, none-before}
 use Rattle.print_calls.specs.Calls.{callLine}
 use Rattle.print_calls.proofs.call_line.Statement.{statement}

@@ -1,8 +1,5 @@
 -- The number told comes first. The invariant: the lines of the calls so far stand at the front of the buffer.
-use Prim.Native.Nat.{_+_, _-_, _^_, _≤_, _<_}
-use native.Mathlib.Omega.{arith}
-use borrow.Author.Needs.{needs}
-use lib.ListN.{length}
+use Rattle.folds.proofs.Ground.{_+_, _-_, _^_, _≤_, _<_, length, arith, needs}
 use Rattle.machine_calls.specs.Calls.{callWidth}
 use Rattle.machine.specs.Inner.{Surveyed}
 use Rattle.print_calls.specs.Buffers.{Written}

@@ -1,5 +1,5 @@
 -- Each return is a case of the definition.
-use borrow.Author.Tests.{eq-eqb, ne-eqb}
+use Rattle.folds.proofs.Ground.{eq-eqb, ne-eqb}
 use Rattle.print_calls.specs.Buffers.{linesCode}
 use Rattle.print_calls.proofs.lines_code.Statement.{statement}
 use Rattle.print_calls.proofs.lines_code.Tie as tie

@@ -1,6 +1,5 @@
 -- Each answer has its line; those that name a resource have one to name.
-use native.Mathlib.Omega.{arith}
-use borrow.Author.Needs.{needs}
+use Rattle.folds.proofs.Ground.{arith, needs}
 use Rattle.print_text.proofs.TextLaws.{put-wider}
 use Rattle.print_lines.proofs.put_answer.Statement.{statement}
 use Rattle.print_lines.proofs.put_answer.Tie as tie

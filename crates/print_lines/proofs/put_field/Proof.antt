@@ -1,8 +1,5 @@
 -- Each field in its way.
-use mathlib.Core.List.{[]}
-use mathlib.Core.Path.{_≡_}
-use native.Mathlib.Omega.{arith}
-use borrow.Author.Needs.{needs}
+use Rattle.folds.proofs.Ground.{_≡_, [], arith, needs}
 use Rattle.print_text.proofs.TextLaws.{put-in, put-none, put-held}
 use Rattle.print_lines.specs.declared.Field.the-variants.{Signed}
 use Rattle.print_lines.specs.Inner.{fieldText}

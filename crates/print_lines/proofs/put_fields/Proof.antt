@@ -1,12 +1,5 @@
 -- The invariant: the fields from `i` on are left, and those before stand in the buffer.
-use Prim.Native.Nat.{ℕ, suc, _+_, _-_, _<_, _≤_}
-use mathlib.Core.List.{List, [], _∷_}
-use mathlib.Core.Path.{_≡_, ap, _∙_}
-use native.Mathlib.Numerals.{add-one}
-use native.Mathlib.Omega.{arith}
-use borrow.Author.Needs.{needs}
-use lib.ListN.{length, getD, drop, drop-of-length-le}
-use lib.Seq.{drop-cons}
+use Rattle.folds.proofs.Ground.{ℕ, suc, _+_, _-_, _<_, _≤_, _≡_, ap, _∙_, List, [], _∷_, length, getD, drop, drop-of-length-le, drop-cons, add-one, arith, needs}
 use Rattle.print_lines.specs.declared.Field.{Field}
 use Rattle.print_lines.specs.declared.Field.the-variants.{Number}
 use Rattle.print_lines.proofs.Fields.{Left, left-all, left-first, left-less, left-none}

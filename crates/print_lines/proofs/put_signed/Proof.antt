@@ -1,6 +1,5 @@
 -- The space, then the number.
-use native.Mathlib.Omega.{arith}
-use borrow.Author.Needs.{needs}
+use Rattle.folds.proofs.Ground.{arith, needs}
 use Rattle.print_text.specs.Text.{signed}
 use Rattle.print_text.proofs.TextLaws.{put-in, put-in-then, put-held}
 use Rattle.print_lines.proofs.put_signed.Statement.{statement}

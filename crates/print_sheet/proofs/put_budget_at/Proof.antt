@@ -1,6 +1,5 @@
 -- The table has 0 exactly where there is no line.
-use native.Mathlib.Omega.{arith}
-use borrow.Author.Needs.{needs}
+use Rattle.folds.proofs.Ground.{arith, needs}
 use Rattle.print_text.proofs.TextLaws.{put-wider}
 use Rattle.print_sheet.specs.Rooms.{budgetRoom}
 use Rattle.print_sheet.proofs.Laws.{budget-place, budget-out, budget-in}

@@ -1,6 +1,5 @@
 -- The budgets, and the hold times behind them.
-use native.Mathlib.Omega.{arith}
-use borrow.Author.Needs.{needs}
+use Rattle.folds.proofs.Ground.{arith, needs}
 use Rattle.print_text.proofs.TextLaws.{put-in-then}
 use Rattle.print_sheet.specs.Sheet.{figureLines}
 use Rattle.print_sheet.proofs.put_figures.Statement.{statement}

@@ -1,6 +1,5 @@
 -- The table has 0 exactly where there is no line.
-use native.Mathlib.Omega.{arith}
-use borrow.Author.Needs.{needs}
+use Rattle.folds.proofs.Ground.{arith, needs}
 use Rattle.print_text.proofs.TextLaws.{put-wider}
 use Rattle.print_sheet.specs.Rooms.{holdRoom}
 use Rattle.print_sheet.proofs.Laws.{sharer, hold-place, hold-global, hold-out, hold-in}

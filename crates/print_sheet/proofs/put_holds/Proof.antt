@@ -1,8 +1,5 @@
 -- The invariant: the lines of the tasks below `i`, one behind the other.
-use Prim.Native.Nat.{_-_}
-use mathlib.Core.Path.{_∙_}
-use native.Mathlib.Omega.{arith}
-use borrow.Author.Needs.{needs}
+use Rattle.folds.proofs.Ground.{_-_, _∙_, arith, needs}
 use Rattle.print_text.proofs.Turns.{PutBelow, turns-none, turns-more, turns-room, turns-done}
 use Rattle.plan_reading.proofs.Laws.{valid-plan}
 use Rattle.print_sheet.specs.Sheet.{holdLinesOf, holdLines}

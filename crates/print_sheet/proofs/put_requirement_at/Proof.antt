@@ -1,8 +1,5 @@
 -- The table of terms tells whether the task asks.
-use Prim.Native.Nat.{_<_}
-use mathlib.Core.Path.{_∙_}
-use native.Mathlib.Omega.{arith}
-use borrow.Author.Needs.{needs}
+use Rattle.folds.proofs.Ground.{_<_, _∙_, arith, needs}
 use Rattle.plan_reading.proofs.Laws.{valid-plan}
 use Rattle.print_sheet.proofs.Laws.{requirement-out, requirement-in}
 use Rattle.print_sheet.proofs.put_requirement_at.Statement.{statement}

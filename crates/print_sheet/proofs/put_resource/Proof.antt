@@ -1,6 +1,5 @@
 -- The second field is one of two words.
-use native.Mathlib.Omega.{arith}
-use borrow.Author.Needs.{needs}
+use Rattle.folds.proofs.Ground.{arith, needs}
 use Rattle.print_text.proofs.TextLaws.{put-wider}
 use Rattle.plan_reading.proofs.Laws.{valid-plan}
 use Rattle.print_lines.specs.declared.Word.the-variants.{Global, Local}

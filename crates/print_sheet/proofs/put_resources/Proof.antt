@@ -1,7 +1,5 @@
 -- The invariant: the lines of the resources below `q`, one behind the other.
-use Prim.Native.Nat.{_-_}
-use native.Mathlib.Omega.{arith}
-use borrow.Author.Needs.{needs}
+use Rattle.folds.proofs.Ground.{_-_, arith, needs}
 use Rattle.print_text.proofs.Turns.{PutBelow, turns-none, turns-more, turns-room, turns-done}
 use Rattle.plan_reading.proofs.Laws.{valid-plan}
 use Rattle.print_sheet.specs.Sheet.{resourceAt, resourceLines}

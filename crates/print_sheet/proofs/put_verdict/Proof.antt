@@ -1,5 +1,5 @@
 -- The requirements, and behind them whether all are met.
-use borrow.Author.Needs.{needs}
+use Rattle.folds.proofs.Ground.{needs}
 use Rattle.print_text.proofs.TextLaws.{put-in-then}
 use Rattle.print_sheet.specs.Sheet.{verdictLines}
 use Rattle.print_sheet.proofs.put_verdict.Statement.{statement}

@@ -1,8 +1,6 @@
 -- The plan's own number comes first. A buffer in which every sheet has room takes it as it is put together; another one by way of a
 -- buffer of its own.
-use mathlib.Core.Path.{sym, _∙_}
-use native.Mathlib.Omega.{arith}
-use borrow.Author.Needs.{needs}
+use Rattle.folds.proofs.Ground.{sym, _∙_, arith, needs}
 use Rattle.print_text.proofs.Lines.{long-line, refused-before, none-before}
 use Rattle.plan.proofs.Laws.{accepted-checked}
 use Rattle.print_sheet.specs.Sheet.{planSheet, sheetLine, sheetIn}

@@ -1,12 +1,5 @@
 -- z is -(a + 1), so z + 1 is -a, of which the machine has both the negation and one more.
-use Prim.Native.Nat.{ℕ, zero, suc, _+_, _<_}
-use mathlib.Core.Bool.{true}
-use mathlib.Core.Path.{_≡_, refl, ap, _∙_}
-use native.Mathlib.Omega.{arith}
-use native.Mathlib.Nat.{not-suc-le-zero}
-use native.Mathlib.Numerals.{add-one}
-use borrow.Author.Tests.{ltb-true}
-use lib.Dec.{T}
+use Rattle.folds.proofs.Ground.{ℕ, zero, suc, _+_, _<_, true, _≡_, refl, ap, _∙_, T, not-suc-le-zero, add-one, arith, ltb-true}
 use lib.IntN.{ℤ, pos, negsuc, sucℤ, negℤ, natAbs, _+ℤ_, _-ℤ_, +ℤ-one, +ℤ-idl}
 use lib.Signed.{ltZ, nonNeg, mag}
 use mir.Syntax.{w64}

@@ -1,6 +1,5 @@
 -- The buffer is too short, or takes the whole line.
-use native.Mathlib.Omega.{arith}
-use borrow.Author.Needs.{needs}
+use Rattle.folds.proofs.Ground.{arith, needs}
 use Rattle.print_text.proofs.Lines.{short-line, long-line}
 use Rattle.print_text.proofs.hand_over.Statement.{statement}
 use Rattle.print_text.proofs.hand_over.Tie as tie

@@ -1,11 +1,5 @@
 -- The invariant: the first `k` bytes of the text stand in the buffer at `at`, and the rest of it is as it was.
-use Prim.Native.Nat.{ℕ, _≤_, _<_, _+_, _-_}
-use mathlib.Core.List.{List, append-assoc}
-use mathlib.Core.Path.{_≡_, refl, _∙_}
-use native.Mathlib.Numerals.{add-one}
-use native.Mathlib.Omega.{arith}
-use lib.ListN.{length, getD, set, take, drop, length-set}
-use lib.Seq.{paste, paste-zero, paste-suc, take-length}
+use Rattle.folds.proofs.Ground.{ℕ, _≤_, _<_, _+_, _-_, _≡_, refl, _∙_, List, append-assoc, length, getD, set, take, drop, length-set, paste, paste-zero, paste-suc, take-length, add-one, arith}
 use Rattle.print_text.specs.Text.{Put}
 use Rattle.print_text.proofs.put.Statement.{statement}
 use Rattle.print_text.proofs.put.Tie as tie

@@ -1,12 +1,5 @@
 -- The invariant: the buffer with the digits that are left put at `at` is the first buffer with all digits put there.
-use Prim.Native.Nat.{ℕ, suc, _+_, _-_, _/_, _%_, _≤_, _<_}
-use mathlib.Core.List.{List, _∷_, _++_}
-use mathlib.Core.Path.{_≡_, refl, sym, ap, _∙_}
-use native.Mathlib.Nat.{add-suc, add-zero}
-use native.Mathlib.Omega.{arith}
-use borrow.Author.Needs.{needs}
-use lib.ListN.{length, set, take, drop, length-set, take-append-drop}
-use lib.Seq.{take-set-le, drop-cons, drop-set-lt, getD-set-same, lt-length-set, append-snoc}
+use Rattle.folds.proofs.Ground.{ℕ, suc, _+_, _-_, _/_, _%_, _≤_, _<_, _≡_, refl, sym, ap, _∙_, List, _∷_, _++_, length, set, take, drop, length-set, take-append-drop, take-set-le, drop-cons, drop-set-lt, getD-set-same, lt-length-set, append-snoc, add-suc, add-zero, arith, needs}
 use Rattle.print_text.specs.Text.{placesTo, digits, decimal, Put}
 use Rattle.print_text.proofs.TextLaws.{digits-length}
 use Rattle.print_text.proofs.put_decimal.Statement.{statement}

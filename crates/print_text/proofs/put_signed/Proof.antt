@@ -1,13 +1,5 @@
 -- A minus and how far below zero it is, or the digits of what the cast holds.
-use Prim.Native.Nat.{ℕ}
-use mathlib.Core.Bool.{true, false, true≢false}
-use mathlib.Core.List.{List}
-use mathlib.Core.Path.{_≡_}
-use native.Mathlib.Nat.{not-suc-le-zero}
-use native.Mathlib.Omega.{arith}
-use borrow.Author.Needs.{needs}
-use borrow.Author.Tests.{ltb-true}
-use lib.Dec.{T}
+use Rattle.folds.proofs.Ground.{ℕ, true, false, true≢false, _≡_, List, T, not-suc-le-zero, arith, ltb-true, needs}
 use lib.IntN.{ℤ, pos, negsuc, natAbs}
 use lib.Signed.{ltZ, nonNeg}
 use mir.Syntax.{w64}

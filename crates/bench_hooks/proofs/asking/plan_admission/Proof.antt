@@ -1,7 +1,6 @@
 -- The cases of the answer are those of the number.
-use mathlib.Core.Path.{_∙_}
+use Rattle.folds.proofs.Ground.{_∙_, needs}
 use Rattle.bench_hooks.proofs.Numbers.{decided-number, refused-number}
-use borrow.Author.Needs.{needs}
 use Rattle.bench_hooks.proofs.asking.plan_admission.Statement.{statement}
 use Rattle.bench_hooks.proofs.asking.plan_admission.Tie as tie
 

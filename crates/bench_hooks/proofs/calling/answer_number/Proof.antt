@@ -1,6 +1,5 @@
 -- Each answer has its number.
-use mathlib.Core.Path.{sym, ap}
-use borrow.Author.Needs.{needs}
+use Rattle.folds.proofs.Ground.{sym, ap, needs}
 use Rattle.bench_hooks.specs.Calling.{answerNumber}
 use Rattle.bench_hooks.proofs.calling.answer_number.Statement.{statement}
 use Rattle.bench_hooks.proofs.calling.answer_number.Tie as tie

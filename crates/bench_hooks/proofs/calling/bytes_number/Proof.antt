@@ -1,6 +1,5 @@
 -- The bytes are no call, or the number is that of its answer.
-use mathlib.Core.Path.{refl, ap, _∙_}
-use borrow.Author.Needs.{needs}
+use Rattle.folds.proofs.Ground.{refl, ap, _∙_, needs}
 use Rattle.machine_calls.proofs.Calls.{decoded-call, decoded-no-call}
 use Rattle.bench_hooks.specs.Calling.{answerNumber}
 use Rattle.bench_hooks.proofs.calling.bytes_number.Statement.{statement}

@@ -1,6 +1,5 @@
 -- The state that the list of calls returned is answered as the rules say.
-use mathlib.Core.Path.{_∙_}
-use borrow.Author.Needs.{needs}
+use Rattle.folds.proofs.Ground.{_∙_, needs}
 use Rattle.machine_calls.specs.Calls.{callOf}
 use Rattle.bench_hooks.proofs.After.{number-after}
 use Rattle.bench_hooks.proofs.calling.machine_answer.Statement.{statement}

@@ -1,7 +1,6 @@
 -- Three returns, one for each case of `lastOf`.
-use borrow.Author.Tests.{eq-eqb, ne-eqb, lt-ltb, le-ltb}
+use Rattle.folds.proofs.Ground.{eq-eqb, ne-eqb, lt-ltb, le-ltb, needs}
 use Rattle.bench_hooks.specs.Reading.{lastOf}
-use borrow.Author.Needs.{needs}
 use Rattle.bench_hooks.proofs.reading.last.Statement.{statement}
 use Rattle.bench_hooks.proofs.reading.last.Tie as tie
 

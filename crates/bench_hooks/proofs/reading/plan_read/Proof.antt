@@ -1,11 +1,8 @@
 -- The cases of the answer are those of the number.
-use mathlib.Core.Path.{sym, ap, _∙_}
-use native.Mathlib.Omega.{arith}
-use borrow.Author.Tests.{eq-eqb, ne-eqb}
+use Rattle.folds.proofs.Ground.{sym, ap, _∙_, arith, eq-eqb, ne-eqb, needs}
 use Rattle.plan.specs.declared.Reading.{Reading}
 use Rattle.plan.proofs.Laws.{got-plan, got-refusal}
 use Rattle.bench_hooks.specs.Reading.{readNumber}
-use borrow.Author.Needs.{needs}
 use Rattle.bench_hooks.proofs.reading.plan_read.Statement.{statement}
 use Rattle.bench_hooks.proofs.reading.plan_read.Tie as tie
 

@@ -1,7 +1,5 @@
 -- The two parts of the answer, as one number.
-use Prim.Native.Nat.{_+_, _*_}
-use mathlib.Core.Path.{_≡_, ap, _∙_}
-use borrow.Author.Needs.{needs}
+use Rattle.folds.proofs.Ground.{_+_, _*_, _≡_, ap, _∙_, needs}
 use Rattle.print_text.specs.declared.Line.{Line}
 use Rattle.bench_hooks.specs.Sheets.{sheetNumber}
 use Rattle.bench_hooks.proofs.sheets.plan_sheet.Statement.{statement}

@@ -1,8 +1,5 @@
 -- The state is not sound, the call is refused, or it is made.
-use mathlib.Core.Bool.{true}
-use mathlib.Core.Path.{_≡_, refl, sym, _∙_}
-use borrow.Author.Needs.{needs}
-use borrow.Author.Tests.{not-true, not-false}
+use Rattle.folds.proofs.Ground.{true, _≡_, refl, sym, _∙_, not-true, not-false, needs}
 use Rattle.plan_reading.specs.Plan.{planOf}
 use Rattle.machine_state.specs.Sound.{sound}
 use Rattle.machine.proofs.Replied.{unsound-reply, refused-reply, acted-reply}

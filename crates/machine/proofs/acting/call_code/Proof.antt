@@ -1,6 +1,5 @@
 -- Each call has its own.
-use mathlib.Core.Path.{refl}
-use borrow.Author.Needs.{needs}
+use Rattle.folds.proofs.Ground.{refl, needs}
 use Rattle.machine.proofs.acting.call_code.Statement.{statement}
 use Rattle.machine.proofs.acting.call_code.Tie as tie
 

@@ -1,8 +1,5 @@
 -- With somebody queued, the seat of the new head is taken by a task.
-use native.Mathlib.Omega.{arith}
-use borrow.Author.Needs.{needs}
-use borrow.Author.Tests.{eq-eqb}
-use lib.Dec.{eqb}
+use Rattle.folds.proofs.Ground.{eqb, arith, eq-eqb, needs}
 use Rattle.machine_steps.proofs.Passing.{flag-low}
 use Rattle.machine_state.specs.Shows.{slot}
 use Rattle.machine.specs.Inner.{grantedTold}

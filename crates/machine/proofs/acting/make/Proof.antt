@@ -1,6 +1,5 @@
 -- Each call does its own.
-use mathlib.Core.Path.{refl}
-use borrow.Author.Needs.{needs}
+use Rattle.folds.proofs.Ground.{refl, needs}
 use Rattle.plan_reading.proofs.Laws.{valid-plan}
 use Rattle.machine.proofs.Freed.{release-held}
 use Rattle.machine.proofs.acting.make.Statement.{statement}

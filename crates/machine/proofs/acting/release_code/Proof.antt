@@ -1,7 +1,5 @@
 -- The tests in their order; who holds is who sits first in the head's queue.
-use Prim.Native.Nat.{_<_, _≤_}
-use native.Mathlib.Omega.{arith}
-use borrow.Author.Needs.{needs}
+use Rattle.folds.proofs.Ground.{_<_, _≤_, arith, needs}
 use Rattle.plan_reading.specs.Plan.{planOf}
 use Rattle.plan_reading.proofs.Laws.{valid-plan}
 use Rattle.analysis_equations.specs.Questions.{taskNumber}

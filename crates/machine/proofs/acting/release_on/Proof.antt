@@ -1,5 +1,5 @@
 -- The resource is held, so its holder leaves.
-use borrow.Author.Needs.{needs}
+use Rattle.folds.proofs.Ground.{needs}
 use Rattle.plan_reading.specs.Plan.{planOf}
 use Rattle.plan_reading.proofs.Laws.{valid-plan}
 use Rattle.machine.proofs.Lengths.{length-mapped}

@@ -1,9 +1,6 @@
 -- A request that is not refused finds its task in line for nothing, with a hold time for the resource: it joins, and the tables tell
 -- its place and its limit.
-use Prim.Native.Nat.{_<_}
-use mathlib.Core.Path.{ap}
-use native.Mathlib.Omega.{arith}
-use borrow.Author.Needs.{needs}
+use Rattle.folds.proofs.Ground.{_<_, ap, arith, needs}
 use Rattle.plan_rules.specs.declared.TaskRow.{TaskRow}
 use Rattle.plan_reading.specs.Plan.{Plan, planOf}
 use Rattle.plan_reading.proofs.Laws.{valid-plan}

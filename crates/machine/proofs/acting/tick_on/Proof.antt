@@ -1,5 +1,5 @@
 -- The tables of the state are at hand, so the tick does what the rules say.
-use borrow.Author.Needs.{needs}
+use Rattle.folds.proofs.Ground.{needs}
 use Rattle.plan_reading.specs.Plan.{planOf}
 use Rattle.plan_reading.proofs.Laws.{valid-plan}
 use Rattle.machine_steps.proofs.Ready.{Tabled}

@@ -1,6 +1,5 @@
 -- The refusal of the plan, then what the accepted plan says.
-use mathlib.Core.Path.{sym, _∙_}
-use borrow.Author.Needs.{needs}
+use Rattle.folds.proofs.Ground.{sym, _∙_, needs}
 use Rattle.machine.proofs.Answered.{plan-refused, reply-refused, next-refused}
 use Rattle.machine.proofs.surveyed.call.Statement.{statement}
 use Rattle.machine.proofs.surveyed.call.Tie as tie

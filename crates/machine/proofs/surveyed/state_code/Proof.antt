@@ -1,7 +1,5 @@
 -- The number of the plan; else the tables of the state tell whether it is sound.
-use mathlib.Core.Path.{refl, sym, _∙_}
-use borrow.Author.Needs.{needs}
-use borrow.Author.Tests.{eq-eqb, ne-eqb}
+use Rattle.folds.proofs.Ground.{refl, sym, _∙_, eq-eqb, ne-eqb, needs}
 use Rattle.machine.proofs.surveyed.state_code.Statement.{statement}
 use Rattle.machine.proofs.surveyed.state_code.Tie as tie
 

@@ -1,5 +1,5 @@
 -- The header of a checked file is whole, and the plan has its counts.
-use mathlib.Core.Path.{ap}
+use Rattle.folds.proofs.Ground.{ap}
 use Rattle.plan_rules.specs.declared.Counts.{Counts}
 use Rattle.plan_reading.specs.Plan.{planOf}
 use Rattle.plan_reading.proofs.Laws.{whole-facts}

@@ -1,10 +1,5 @@
 -- The part from the name's start to its end lies in the file, as the checks of the resource rows gave.
-use Prim.Native.Nat.{ℕ, _+_, _≤_}
-use mathlib.Core.List.{List}
-use mathlib.Core.Path.{_≡_, ap, ap₂, _∙_}
-use native.Mathlib.Omega.{arith}
-use borrow.Author.Needs.{needs}
-use lib.ListN.{length, take, drop, length-drop}
+use Rattle.folds.proofs.Ground.{ℕ, _+_, _≤_, _≡_, ap, ap₂, _∙_, List, length, take, drop, length-drop, arith, needs}
 use Rattle.folds.proofs.Parts.{part-rest, part-span}
 use Rattle.plan_layout.specs.Editions.{edition1}
 use Rattle.plan_layout.specs.Layout.{countsOf, resourcesAt, namesAt, startAt, lengthAt}

@@ -1,9 +1,5 @@
 -- A row of the plan lies in the part of a checked file that begins at the section rows.
-use Prim.Native.Nat.{_≤_}
-use mathlib.Core.Path.{_≡_, ap, _∙_}
-use native.Mathlib.Omega.{arith}
-use borrow.Author.Needs.{needs}
-use lib.ListN.{length, length-drop}
+use Rattle.folds.proofs.Ground.{_≤_, _≡_, ap, _∙_, length, length-drop, arith, needs}
 use Rattle.folds.proofs.Parts.{part-rest}
 use Rattle.plan_layout.specs.Layout.{countsOf, sectionsAt}
 use Rattle.plan_reading.specs.Plan.{planOf}

@@ -1,7 +1,5 @@
 -- A row of the plan lies in the part of a checked file that begins at the task rows.
-use native.Mathlib.Omega.{arith}
-use borrow.Author.Needs.{needs}
-use lib.ListN.{length-drop}
+use Rattle.folds.proofs.Ground.{length-drop, arith, needs}
 use Rattle.folds.proofs.Parts.{part-rest}
 use Rattle.plan_reading.specs.Plan.{planOf}
 use Rattle.plan_reading.proofs.Laws.{whole-facts, plan-tasks}

@@ -1,10 +1,5 @@
 -- The loop's invariant: `ok` says whether the bytes below `k` are in their range.
-use Prim.Native.Nat.{_≤_, _-_}
-use mathlib.Core.Bool.{_&&_}
-use mathlib.Core.Path.{_≡_, refl}
-use native.Mathlib.Omega.{arith}
-use lib.Dec.{leb}
-use lib.ListN.{length, getD}
+use Rattle.folds.proofs.Ground.{_≤_, _-_, _&&_, _≡_, refl, leb, length, getD, arith}
 use Rattle.folds.specs.Below.{allBelow}
 use Rattle.folds.proofs.Tests.{all-step, all-done}
 use Rattle.plan_rules.specs.Rules.{firstByte, lastByte, bytesOk}

@@ -1,7 +1,6 @@
 -- Names of different lengths differ; else their bytes decide.
-use borrow.Author.Tests.{eq-eqb, ne-eqb}
+use Rattle.folds.proofs.Ground.{eq-eqb, ne-eqb, needs}
 use Rattle.plan_rules.specs.Rules.{differ}
-use borrow.Author.Needs.{needs}
 use Rattle.plan_rules.proofs.names.differs.Statement.{statement}
 use Rattle.plan_rules.proofs.names.differs.Tie as tie
 

@@ -1,10 +1,5 @@
 -- The loop's invariant: `ok` says whether the number differs from those below `j`.
-use Prim.Native.Nat.{_-_, _≤_}
-use mathlib.Core.Bool.{not}
-use mathlib.Core.Path.{_≡_, refl}
-use native.Mathlib.Omega.{arith}
-use lib.Dec.{eqb}
-use lib.ListN.{getD}
+use Rattle.folds.proofs.Ground.{_-_, _≤_, not, _≡_, refl, eqb, getD, arith}
 use Rattle.folds.specs.Below.{allBelow}
 use Rattle.folds.proofs.Tests.{all-step, all-done}
 use Rattle.plan_rules.specs.Inner.{numberNew}

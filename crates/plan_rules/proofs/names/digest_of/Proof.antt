@@ -1,7 +1,6 @@
 -- Each return is the branch of the definition.
-use borrow.Author.Tests.{lt-ltb, le-ltb}
+use Rattle.folds.proofs.Ground.{lt-ltb, le-ltb, needs}
 use Rattle.plan_rules.specs.Inner.{digestOf}
-use borrow.Author.Needs.{needs}
 use Rattle.plan_rules.proofs.names.digest_of.Statement.{statement}
 use Rattle.plan_rules.proofs.names.digest_of.Tie as tie
 

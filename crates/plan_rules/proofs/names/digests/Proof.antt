@@ -1,8 +1,5 @@
 -- The loop's invariant: `at` is where the name of resource `i` begins, and `found` holds the numbers of the names below `i`.
-use Prim.Native.Nat.{_-_}
-use mathlib.Core.Path.{_≡_, refl}
-use native.Mathlib.Omega.{arith}
-use lib.ListN.{replicate}
+use Rattle.folds.proofs.Ground.{_-_, _≡_, refl, replicate, arith}
 use Rattle.sizes.specs.Sizes.{mostResources}
 use Rattle.folds.specs.Below.{sumBelow}
 use Rattle.folds.specs.Bytes.{placedBelow}

@@ -1,7 +1,5 @@
 -- The loop's invariant: `ok` says whether each number below `i` is new.
-use Prim.Native.Nat.{_-_, _≤_}
-use mathlib.Core.Path.{_≡_, refl}
-use native.Mathlib.Omega.{arith}
+use Rattle.folds.proofs.Ground.{_-_, _≤_, _≡_, refl, arith}
 use Rattle.folds.specs.Below.{allBelow}
 use Rattle.folds.proofs.Tests.{all-step, all-done}
 use Rattle.plan_rules.specs.Inner.{numberNew, numbersDiffer}

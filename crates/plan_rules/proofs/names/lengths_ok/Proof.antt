@@ -1,9 +1,5 @@
 -- The loop's invariant: `ok` says whether the lengths below `i` are in their range.
-use Prim.Native.Nat.{_≤_, _-_}
-use mathlib.Core.Bool.{_&&_}
-use mathlib.Core.Path.{_≡_, refl}
-use native.Mathlib.Omega.{arith}
-use lib.Dec.{leb}
+use Rattle.folds.proofs.Ground.{_≤_, _-_, _&&_, _≡_, refl, leb, arith}
 use Rattle.sizes.specs.Sizes.{mostNameBytes}
 use Rattle.folds.specs.Below.{allBelow}
 use Rattle.folds.proofs.Tests.{all-step, all-done}

@@ -1,9 +1,7 @@
 -- Lengths that do not add up or are out of range break the rule; else the other tests decide.
-use mathlib.Core.Path.{sym, _∙_}
-use borrow.Author.Tests.{eq-eqb, ne-eqb}
+use Rattle.folds.proofs.Ground.{sym, _∙_, eq-eqb, ne-eqb, needs}
 use Rattle.folds.proofs.Tests.{held, failed}
 use Rattle.plan_rules.specs.Rules.{namesOk}
-use borrow.Author.Needs.{needs}
 use Rattle.plan_rules.proofs.names.names_ok.Statement.{statement}
 use Rattle.plan_rules.proofs.names.names_ok.Tie as tie
 

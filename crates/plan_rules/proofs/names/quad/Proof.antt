@@ -1,10 +1,6 @@
 -- The sum of the four bytes, each times its power.
-use Prim.Native.Nat.{ℕ, _+_}
-use mathlib.Core.Path.{_≡_, ap}
-use native.Mathlib.Omega.{arith}
-use lib.ListN.{getD}
+use Rattle.folds.proofs.Ground.{ℕ, _+_, _≡_, ap, getD, arith, needs}
 use Rattle.folds.specs.Bytes.{number}
-use borrow.Author.Needs.{needs}
 use Rattle.plan_rules.proofs.names.quad.Statement.{statement}
 use Rattle.plan_rules.proofs.names.quad.Tie as tie
 

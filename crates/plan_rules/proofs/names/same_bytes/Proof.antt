@@ -1,11 +1,5 @@
 -- The loop's invariant: the bytes below `k` are the same.
-use Prim.Native.Nat.{_+_, _≤_, _-_}
-use mathlib.Core.Bool.{true}
-use mathlib.Core.Path.{_≡_, refl, sym}
-use native.Mathlib.Omega.{arith}
-use borrow.Author.Tests.{eq-eqb, ne-eqb}
-use lib.Dec.{eqb}
-use lib.ListN.{getD}
+use Rattle.folds.proofs.Ground.{_+_, _≤_, _-_, true, _≡_, refl, sym, eqb, getD, arith, eq-eqb, ne-eqb}
 use Rattle.folds.specs.Below.{allBelow}
 use Rattle.folds.proofs.Tests.{all-more, all-left, all-done}
 use Rattle.plan_rules.specs.Rules.{sameBytes}

@@ -1,8 +1,5 @@
 -- The loop's invariant: `sum` is the sum of the lengths below `i`, and at most 255 for each.
-use Prim.Native.Nat.{ℕ, _≤_, _-_, _*_}
-use mathlib.Core.List.{List}
-use mathlib.Core.Path.{_≡_, refl}
-use native.Mathlib.Omega.{arith}
+use Rattle.folds.proofs.Ground.{ℕ, _≤_, _-_, _*_, _≡_, refl, List, arith}
 use Rattle.folds.specs.Below.{sumBelow}
 use Rattle.folds.proofs.Figures.{sum-step, sum-done}
 use Rattle.plan_rules.specs.Rules.{lengthOf}
