@@ -22,7 +22,7 @@ use Rattle.analysis.specs.declared.RequirementAnswer.the-variants as req
 use Rattle.analysis.specs.declared.AdmissionAnswer.{AdmissionAnswer}
 use Rattle.analysis.specs.declared.AdmissionAnswer.the-variants as admissions
 use Rattle.analysis.specs.Inner.{Share}
-use Rattle.analysis.specs.Answers.{afterReading, figure, figureTold, shareRefusal, requirementGiven, requirementValues, requirementTold, signedAnswered, admissionAnswer, admissionTold, holdTimes}
+use Rattle.analysis.specs.Answers.{afterReading, figure, figureOutcome, shareRefusal, requirementGiven, requirementValues, requirementOutcome, signedAnswered, admissionAnswer, admissionOutcome, holdTimes}
 
 -- a file of bytes whose plan is not refused
 pub checked-file : (f : List ℕ) → refusal f ≡ 0 → ((i : ℕ) → getD f i 0 < 256) → Checked f
@@ -58,14 +58,14 @@ pub reading-figure : (f : List ℕ) (n v : ℕ) {k : ℕ} {r : Figure} → k ≡
 reading-figure f n v e z h = rw (reading-holds f n e z) h
 
 -- both things that a contract says of an answer
-pub figure-told : (k v : ℕ) {r : Figure} → r ≡ figure k v → (r ≡ figure k v) × (figureTold r ≡ outcome k (v ∷ []))
+pub figure-told : (k v : ℕ) {r : Figure} → r ≡ figure k v → (r ≡ figure k v) × (figureOutcome r ≡ outcome k (v ∷ []))
 unfolding figure
-figure-told k v e = (e, ap figureTold e ∙ go)
+figure-told k v e = (e, ap figureOutcome e ∙ go)
   where
-    go : figureTold (figure k v) ≡ outcome k (v ∷ [])
+    go : figureOutcome (figure k v) ≡ outcome k (v ∷ [])
     go =
         by-eq
-        (λ (b : Bool). figureTold (cond b (Given v) (Refused k)) ≡ record { number = k; values = cond b (v ∷ []) [] })
+        (λ (b : Bool). figureOutcome (cond b (Given v) (Refused k)) ≡ record { number = k; values = cond b (v ∷ []) [] })
         k 0 (λ q. rw q) (λ d. refl)
 
 -- 18 and 12, or neither
@@ -129,14 +129,14 @@ pub reading-requirement : (f : List ℕ) (n : ℕ) (r : Requirement) {k : ℕ} {
 reading-requirement f n r e z h = rw (reading-holds f n e z) h
 
 -- both things that a contract says of an answer
-pub requirement-told : (k : ℕ) (r : Requirement) {a : RequirementAnswer} → a ≡ requirementGiven k r → (a ≡ requirementGiven k r) × (requirementTold a ≡ signedAnswered k (requirementValues r))
+pub requirement-told : (k : ℕ) (r : Requirement) {a : RequirementAnswer} → a ≡ requirementGiven k r → (a ≡ requirementGiven k r) × (requirementOutcome a ≡ signedAnswered k (requirementValues r))
 unfolding requirementGiven
-requirement-told k r e = (e, ap requirementTold e ∙ go)
+requirement-told k r e = (e, ap requirementOutcome e ∙ go)
   where
-    go : requirementTold (requirementGiven k r) ≡ signedAnswered k (requirementValues r)
+    go : requirementOutcome (requirementGiven k r) ≡ signedAnswered k (requirementValues r)
     go =
         by-eq
-        (λ (b : Bool). requirementTold (cond b (requirements.Found r) (requirements.Refused k)) ≡ record { number = k; values = cond b (requirementValues r) [] })
+        (λ (b : Bool). requirementOutcome (cond b (requirements.Found r) (requirements.Refused k)) ≡ record { number = k; values = cond b (requirementValues r) [] })
         k 0 (λ q. rw q) (λ d. refl)
 
 module _ (p : Plan) where
@@ -171,12 +171,12 @@ module _ (f : List ℕ) where
   unfolding admissionAnswer
   admission-decided z e = rw (z, e)
 
-  pub admission-told : {a : AdmissionAnswer} → a ≡ admissionAnswer f → (a ≡ admissionAnswer f) × (admissionTold a ≡ outcome (refusal f) (cond (admitted (planOf f)) 1 0 ∷ []))
+  pub admission-told : {a : AdmissionAnswer} → a ≡ admissionAnswer f → (a ≡ admissionAnswer f) × (admissionOutcome a ≡ outcome (refusal f) (cond (admitted (planOf f)) 1 0 ∷ []))
   unfolding admissionAnswer
-  admission-told e = (e, ap admissionTold e ∙ go)
+  admission-told e = (e, ap admissionOutcome e ∙ go)
     where
-      go : admissionTold (admissionAnswer f) ≡ outcome (refusal f) (cond (admitted (planOf f)) 1 0 ∷ [])
+      go : admissionOutcome (admissionAnswer f) ≡ outcome (refusal f) (cond (admitted (planOf f)) 1 0 ∷ [])
       go =
           by-eq
-          (λ (b : Bool). admissionTold (cond b (admissions.Decided (admitted (planOf f))) (admissions.Refused (refusal f))) ≡ record { number = refusal f; values = cond b (cond (admitted (planOf f)) 1 0 ∷ []) [] })
+          (λ (b : Bool). admissionOutcome (cond b (admissions.Decided (admitted (planOf f))) (admissions.Refused (refusal f))) ≡ record { number = refusal f; values = cond b (cond (admitted (planOf f)) 1 0 ∷ []) [] })
           (refusal f) 0 (λ q. rw q) (λ d. refl)

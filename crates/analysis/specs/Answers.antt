@@ -32,9 +32,9 @@ unfoldable pub figure : ℕ → ℕ → Figure
 figure code v = cond (eqb code 0) (figures.Given v) (figures.Refused code)
 
 -- what a figure's answer tells
-abbrev pub figureTold : Figure → Outcome
-figureTold (figures.Given v) = record { number = 0; values = v ∷ [] }
-figureTold (figures.Refused code) = record { number = code; values = [] }
+abbrev pub figureOutcome : Figure → Outcome
+figureOutcome (figures.Given v) = record { number = 0; values = v ∷ [] }
+figureOutcome (figures.Refused code) = record { number = code; values = [] }
 
 -- the hold time of a resource by the task with a tag
 unfoldable pub holdRefusal : List ℕ → ℕ → ℕ → ℕ
@@ -72,7 +72,7 @@ unfoldable pub requirementGiven : ℕ → Requirement → RequirementAnswer
 requirementGiven code r = cond (eqb code 0) (requirements.Found r) (requirements.Refused code)
 
 -- a number and values, some of which may be negative
-pub record SignedTold : Type 0 where
+pub record SignedOutcome : Type 0 where
   pub number : ℕ
   pub values : List ℤ
 
@@ -82,16 +82,16 @@ requirementValues r =
     pos (r .blocking1) ∷ pos (r .blocking2) ∷ r .tolerance ∷ r .slack ∷ pos (r .side) ∷ pos (cond (r .met) 1 0) ∷ []
 
 -- what a requirement's answer tells
-abbrev pub requirementTold : RequirementAnswer → SignedTold
-requirementTold (requirements.Found r) = record { number = 0; values = requirementValues r }
-requirementTold (requirements.Refused code) = record { number = code; values = [] }
+abbrev pub requirementOutcome : RequirementAnswer → SignedOutcome
+requirementOutcome (requirements.Found r) = record { number = 0; values = requirementValues r }
+requirementOutcome (requirements.Refused code) = record { number = code; values = [] }
 
 -- the refusal with no values, or the values where it is 0
-abbrev pub signedAnswered : ℕ → List ℤ → SignedTold
+abbrev pub signedAnswered : ℕ → List ℤ → SignedOutcome
 signedAnswered code values = record { number = code; values = cond (eqb code 0) values [] }
 
 -- what the question for a requirement tells
-abbrev pub requirementSays : List ℕ → ℕ → SignedTold
+abbrev pub requirementSays : List ℕ → ℕ → SignedOutcome
 requirementSays f tag = signedAnswered (requirementRefusal f tag) (requirementValues (requirementFigures f tag))
 
 -- "the question of admission refuse[s] nothing further"
@@ -99,9 +99,9 @@ unfoldable pub admissionAnswer : List ℕ → AdmissionAnswer
 admissionAnswer f = cond (eqb (refusal f) 0) (admissions.Decided (admitted (planOf f))) (admissions.Refused (refusal f))
 
 -- 1 for admitted
-abbrev pub admissionTold : AdmissionAnswer → Outcome
-admissionTold (admissions.Decided b) = record { number = 0; values = cond b 1 0 ∷ [] }
-admissionTold (admissions.Refused code) = record { number = code; values = [] }
+abbrev pub admissionOutcome : AdmissionAnswer → Outcome
+admissionOutcome (admissions.Decided b) = record { number = 0; values = cond b 1 0 ∷ [] }
+admissionOutcome (admissions.Refused code) = record { number = code; values = [] }
 
 -- all hold times of a plan at once: that of resource q by task i stands at i × 16 + q, 0 where the question for it would be
 -- refused, or there is no such task; all are 0 where the plan is refused

@@ -17,9 +17,9 @@ ghost use Rattle.analysis_equations.specs.Questions.{processorCode, requirement
 ghost use Rattle.analysis_hold_times.specs.Figures.{figureCount};
 ghost use Rattle.analysis_requirements.specs.Terms.{Prepared};
 ghost use Rattle.analysis.specs.Inner.{Share, Found};
-ghost use Rattle.analysis.specs.Answers.{figure, figureTold, holdRefusal, holdFigure, longestFigure, shareRefusal, budgetOf, waitOf};
-ghost use Rattle.analysis.specs.Answers.{requirementRefusal, requirementFigures, requirementGiven, requirementTold, requirementSays};
-ghost use Rattle.analysis.specs.Answers.{admissionAnswer, admissionTold, holdTimes};
+ghost use Rattle.analysis.specs.Answers.{figure, figureOutcome, holdRefusal, holdFigure, longestFigure, shareRefusal, budgetOf, waitOf};
+ghost use Rattle.analysis.specs.Answers.{requirementRefusal, requirementFigures, requirementGiven, requirementOutcome, requirementSays};
+ghost use Rattle.analysis.specs.Answers.{admissionAnswer, admissionOutcome, holdTimes};
 
 // The hold times of a plan.
 const HOLDS: usize = sizes::TASKS * sizes::RESOURCES;
@@ -70,7 +70,7 @@ fn user_of(file: &[u8], tag: u16, q: u8, figures: &mut [u16]) -> User
 // The hold time of a resource by the task with this tag.
 pub fn hold_time(file: &[u8], tag: u16, resource: u8) -> Figure
     ensures { λ r. ⌜ r ≡ figure (holdRefusal (now (file .entry)) tag resource) (holdFigure (now (file .entry)) tag resource) ⌝ }
-    ensures { λ r. ⌜ figureTold r ≡ outcome (holdRefusal (now (file .entry)) tag resource) (holdFigure (now (file .entry)) tag resource ∷ []) ⌝ }
+    ensures { λ r. ⌜ figureOutcome r ≡ outcome (holdRefusal (now (file .entry)) tag resource) (holdFigure (now (file .entry)) tag resource ∷ []) ⌝ }
 {
     let mut figures = [0u16; analysis_hold_times::FIGURES];
     let user = user_of(file, tag, resource, &mut figures);
@@ -84,7 +84,7 @@ pub fn hold_time(file: &[u8], tag: u16, resource: u8) -> Figure
 // The longest wait of the task with this tag for a resource: how long it can be kept waiting, whatever is called.
 pub fn longest_wait(file: &[u8], tag: u16, resource: u8) -> Figure
     ensures { λ r. ⌜ r ≡ figure (holdRefusal (now (file .entry)) tag resource) (longestFigure (now (file .entry)) tag resource) ⌝ }
-    ensures { λ r. ⌜ figureTold r ≡ outcome (holdRefusal (now (file .entry)) tag resource) (longestFigure (now (file .entry)) tag resource ∷ []) ⌝ }
+    ensures { λ r. ⌜ figureOutcome r ≡ outcome (holdRefusal (now (file .entry)) tag resource) (longestFigure (now (file .entry)) tag resource ∷ []) ⌝ }
 {
     let mut figures = [0u16; analysis_hold_times::FIGURES];
     let user = user_of(file, tag, resource, &mut figures);
@@ -137,7 +137,7 @@ fn share_refusal(file: &[u8], k: u8, q: u8) -> u8
 // The budget of a processor on a resource; 0 where none of its tasks uses it, or it is local.
 pub fn budget(file: &[u8], processor: u8, resource: u8) -> Figure
     ensures { λ r. ⌜ r ≡ figure (shareRefusal (now (file .entry)) processor resource) (budgetOf (now (file .entry)) processor resource) ⌝ }
-    ensures { λ r. ⌜ figureTold r ≡ outcome (shareRefusal (now (file .entry)) processor resource) (budgetOf (now (file .entry)) processor resource ∷ []) ⌝ }
+    ensures { λ r. ⌜ figureOutcome r ≡ outcome (shareRefusal (now (file .entry)) processor resource) (budgetOf (now (file .entry)) processor resource ∷ []) ⌝ }
 {
     let code = share_refusal(file, processor, resource);
     if code != 0 {
@@ -150,7 +150,7 @@ pub fn budget(file: &[u8], processor: u8, resource: u8) -> Figure
 // The wait time of a processor on a resource: the sum of the budgets of all others.
 pub fn wait_time(file: &[u8], processor: u8, resource: u8) -> Figure
     ensures { λ r. ⌜ r ≡ figure (shareRefusal (now (file .entry)) processor resource) (waitOf (now (file .entry)) processor resource) ⌝ }
-    ensures { λ r. ⌜ figureTold r ≡ outcome (shareRefusal (now (file .entry)) processor resource) (waitOf (now (file .entry)) processor resource ∷ []) ⌝ }
+    ensures { λ r. ⌜ figureOutcome r ≡ outcome (shareRefusal (now (file .entry)) processor resource) (waitOf (now (file .entry)) processor resource ∷ []) ⌝ }
 {
     let code = share_refusal(file, processor, resource);
     if code != 0 {
@@ -183,7 +183,7 @@ fn requirement_question(file: &[u8], tag: u16) -> RequirementAnswer
 // The requirement of the task with this tag.
 pub fn requirement(file: &[u8], tag: u16) -> RequirementAnswer
     ensures { λ r. ⌜ r ≡ requirementGiven (requirementRefusal (now (file .entry)) tag) (requirementFigures (now (file .entry)) tag) ⌝ }
-    ensures { λ r. ⌜ requirementTold r ≡ requirementSays (now (file .entry)) tag ⌝ }
+    ensures { λ r. ⌜ requirementOutcome r ≡ requirementSays (now (file .entry)) tag ⌝ }
 {
     let code = plan::check(file);
     if code != 0 {
@@ -236,7 +236,7 @@ fn decided(file: &[u8]) -> bool
 // Whether the plan is admitted: every task with a global section has its requirement met.
 pub fn admission(file: &[u8]) -> AdmissionAnswer
     ensures { λ r. ⌜ r ≡ admissionAnswer (now (file .entry)) ⌝ }
-    ensures { λ r. ⌜ admissionTold r ≡ outcome (refusal (now (file .entry))) (cond (admitted (planOf (now (file .entry)))) 1 0 ∷ []) ⌝ }
+    ensures { λ r. ⌜ admissionOutcome r ≡ outcome (refusal (now (file .entry))) (cond (admitted (planOf (now (file .entry)))) 1 0 ∷ []) ⌝ }
 {
     let code = plan::check(file);
     if code != 0 {

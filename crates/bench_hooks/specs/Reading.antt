@@ -21,15 +21,15 @@ abbrev pub taskSum : TaskRow → ℕ
 taskSum t = t .processor + t .tag + t .priority + t .period + t .execution
 
 -- the sum of a section row's numbers
-abbrev pub sectionSum : SectionRow → ℕ
-sectionSum s = s .task + s .resource + s .length
+abbrev pub sectionTotal : SectionRow → ℕ
+sectionTotal s = s .task + s .resource + s .length
 
 -- the sum of the numbers in the last task row, the last name's length and the last section row
 unfoldable pub lastRows : Counts → Rows → ℕ
 lastRows c rows =
     taskSum (taskOf (rows .tasks) (lastOf (c .tasks) mostTasks))
     + lengthOf (rows .lengths) (lastOf (c .resources) mostResources)
-    + sectionSum (sectionOf (rows .sections) (lastOf (c .sections) mostSections))
+    + sectionTotal (sectionOf (rows .sections) (lastOf (c .sections) mostSections))
 
 -- the refusal in the low byte; above it, for a plan that is read, the sum of its last rows
 unfoldable pub readNumber : List ℕ → ℕ

@@ -7,7 +7,7 @@ use plan_rules::TaskRow;
 ghost use mathlib.Core.Path.{_≡_};
 ghost use Prim.Native.Nat.{_<_, _%_};
 ghost use Rattle.plan.specs.Acceptance.{refusal};
-ghost use Rattle.bench_hooks.specs.Reading.{lastOf, taskSum, sectionSum, lastRows, readNumber};
+ghost use Rattle.bench_hooks.specs.Reading.{lastOf, taskSum, sectionTotal, lastRows, readNumber};
 
 // The index of the last of n rows in an array of so many; 0 where there is none.
 fn last(n: usize, room: usize) -> usize
@@ -35,7 +35,7 @@ fn task_sum(t: TaskRow) -> u64
 }
 
 fn section_sum(s: SectionRow) -> u64
-    ensures { λ r. ⌜ (r ≡ sectionSum s) × (r < 70000) ⌝ }
+    ensures { λ r. ⌜ (r ≡ sectionTotal s) × (r < 70000) ⌝ }
 {
     folds::byte(s.task) + folds::byte(s.resource) + folds::word(s.length)
 }

@@ -6,7 +6,7 @@ use analysis::AdmissionAnswer;
 use analysis::Figure;
 use analysis::RequirementAnswer;
 use analysis_requirements::Requirement;
-use print_text::Line;
+use print_text::Handed;
 
 // The entries of the table of all hold times.
 const HOLDS: usize = sizes::TASKS * sizes::RESOURCES;
@@ -113,7 +113,7 @@ pub fn holds(case: &[u8]) {
 }
 
 // Makes a sheet in the front of the buffer, of which the case says in four bytes how much is lent.
-fn make(case: &[u8], buf: &mut [u8]) -> Line {
+fn make(case: &[u8], buf: &mut [u8]) -> Handed {
     let room = given::at_most(given::length(case), buf.len());
     print_sheet::sheet(file(case, 4), &mut buf[0..room])
 }

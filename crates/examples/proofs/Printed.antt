@@ -13,11 +13,11 @@ use Rattle.machine_rules.specs.Machine.{busy, requestCode, releaseCode, step, a
 use Rattle.folds.specs.Below.{allBelow, anyBelow, sumBelow, maxBelow, countBelow, findBelow}
 use Rattle.folds.specs.Bytes.{number, fields, rowAt, placedBelow}
 use Rattle.folds.specs.Words.{wordBelow}
-use Rattle.print_text.specs.Text.{placesTo, digits}
+use Rattle.print_text.specs.Text.{placesTo, decimals}
 use Rattle.machine_calls.specs.Calls.{callOf, tagAt, callsBelow}
 use Rattle.print_calls.specs.Output.{linesBelow, endLine, callsOutput, fileOutput, output}
 use Rattle.examples.specs.Listing.{listingPlan, listingCalls, listingText}
 
 pub listing-printed : output (listingPlan ++ listingCalls) ≡ listingText
-unfolding listingPlan listingCalls listingText tagNew priorityNew uniqueOk lengthsOk bytesOk sameBytes differ nameNew namesDiffer namesOk sectionSum sumsOk headerIn countsOf lengthSaid offsetsOk taskAt taskSpare startAt lengthAt resourceSpare sectionAt taskRows lengthRows sectionRows taskRowsOk lengthRowsOk sectionRowsOk partsCode planOf countsCode headerCode checkCode refusal namePart planLength longestOn longestOff interference holdTime holdAt budget waitTime taskNumber sharingCode useCode processorCode requirementCode uses usedOn global busy requestCode releaseCode step answer allBelow anyBelow sumBelow maxBelow countBelow findBelow number fields rowAt placedBelow wordBelow placesTo digits callOf tagAt callsBelow linesBelow endLine callsOutput fileOutput
+unfolding listingPlan listingCalls listingText tagNew priorityNew uniqueOk lengthsOk bytesOk sameBytes differ nameNew namesDiffer namesOk sectionSum sumsOk headerIn countsOf lengthSaid offsetsOk taskAt taskSpare startAt lengthAt resourceSpare sectionAt taskRows lengthRows sectionRows taskRowsOk lengthRowsOk sectionRowsOk partsCode planOf countsCode headerCode checkCode refusal namePart planLength longestOn longestOff interference holdTime holdAt budget waitTime taskNumber sharingCode useCode processorCode requirementCode uses usedOn global busy requestCode releaseCode step answer allBelow anyBelow sumBelow maxBelow countBelow findBelow number fields rowAt placedBelow wordBelow placesTo decimals callOf tagAt callsBelow linesBelow endLine callsOutput fileOutput
 listing-printed = refl

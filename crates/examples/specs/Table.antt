@@ -14,7 +14,7 @@ use Rattle.machine_rules.specs.declared.Call.{Call}
 use Rattle.machine_rules.specs.declared.Call.the-variants.{Request, Release, Tick}
 use Rattle.machine_rules.specs.declared.Answer.{Answer}
 use Rattle.machine_rules.specs.declared.Answer.the-variants.{Granted, Waits, Next, Free, Ticked, Refused}
-use Rattle.machine_rules.specs.Machine.{View, fresh, step, answer, answerTold, run}
+use Rattle.machine_rules.specs.Machine.{View, fresh, step, answer, answerOutcome, run}
 use Rattle.machine_rules.specs.Longest.{longestWait}
 use Rattle.plan_reading.specs.Plan.{Plan}
 use Rattle.examples.specs.Paper.{paper, toThree, toEleven, equal, toLast, bus, seven}
@@ -43,7 +43,7 @@ integers (n ∷ ns) = pos n ∷ integers ns
 
 -- an answer in numbers: what it tells
 abbrev pub spelled : Answer → List ℤ
-spelled a = pos (answerTold a .number) ∷ integers (answerTold a .values)
+spelled a = pos (answerOutcome a .number) ∷ integers (answerOutcome a .values)
 
 -- and several, one after the other
 abbrev pub spelledAll : List Answer → List ℤ

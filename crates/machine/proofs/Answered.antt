@@ -13,39 +13,39 @@ use Rattle.machine_rules.specs.declared.Call.{Call}
 use Rattle.machine_rules.specs.declared.Call.the-variants.{Request, Release, Tick}
 use Rattle.machine_rules.specs.declared.Answer.{Answer}
 use Rattle.machine_rules.specs.declared.Answer.the-variants.{Refused}
-use Rattle.machine_rules.specs.Machine.{View, terms, callCode, requestTold, releaseTold, acceptedAnswer, answerTold}
+use Rattle.machine_rules.specs.Machine.{View, terms, callCode, requestAnswer, releaseAnswer, acceptedAnswer, answerOutcome}
 use Rattle.machine_state.specs.declared.State.{State}
 use Rattle.machine_state.specs.Shows.{shows}
 use Rattle.machine_state.specs.Sound.{sound}
-use Rattle.machine.specs.Replies.{stateRefusal, callRefusal, reply, replyTold, Next, cutCount}
+use Rattle.machine.specs.Replies.{stateRefusal, callRefusal, reply, replyOutcome, Next, cutCount}
 use Rattle.machine.specs.Inner.{cutsIn}
 
 abbrev IsZero : ℕ → Type 0
 IsZero n = n ≡ 0
 
 -- an answer by the rules has number 0
-request-number : (p : Plan) (i q : ℕ) (l : Rules.Line) → answerTold (requestTold p i q l) .number ≡ 0
+request-number : (p : Plan) (i q : ℕ) (l : Rules.Line) → answerOutcome (requestAnswer p i q l) .number ≡ 0
 request-number p i q (line h b []) = refl
 request-number p i q (line h b (x ∷ rest)) = refl
 
-release-number : (p : Plan) (l : Rules.Line) → answerTold (releaseTold p l) .number ≡ 0
+release-number : (p : Plan) (l : Rules.Line) → answerOutcome (releaseAnswer p l) .number ≡ 0
 release-number p (line h b []) = refl
 release-number p (line h b (turn k u us ∷ rest)) = refl
 
-told-number : (p : Plan) (s : View) (c : Call) → answerTold (acceptedAnswer p s c) .number ≡ 0
+told-number : (p : Plan) (s : View) (c : Call) → answerOutcome (acceptedAnswer p s c) .number ≡ 0
 told-number p s (Request tag q) = request-number p (taskNumber p tag) q (s .lines q)
 told-number p s (Release tag q) = release-number p (released (terms p q) (s .lines q))
 told-number p s Tick = refl
 
 module _ (f : List ℕ) (s : State) where
   -- a reply tells why the call is refused, or 0 and the values
-  pub reply-told : (c : Call) → answerTold (reply f s c) ≡ replyTold f s c
-  unfolding reply replyTold
+  pub reply-told : (c : Call) → answerOutcome (reply f s c) ≡ replyOutcome f s c
+  unfolding reply replyOutcome
   reply-told c =
       let x : Answer = acceptedAnswer (planOf f) (shows (planOf f) s) c in
       let k : ℕ = callRefusal f s c in
-      by-eq (λ (b : Bool). answerTold (cond b x (Refused k)) ≡ record { number = k; values = cond b (answerTold x .values) [] }) k 0
-      (λ e. ap (λ (n : ℕ). record { number = n; values = answerTold x .values }) (told-number (planOf f) (shows (planOf f) s) c ∙ sym e))
+      by-eq (λ (b : Bool). answerOutcome (cond b x (Refused k)) ≡ record { number = k; values = cond b (answerOutcome x .values) [] }) k 0
+      (λ e. ap (λ (n : ℕ). record { number = n; values = answerOutcome x .values }) (told-number (planOf f) (shows (planOf f) s) c ∙ sym e))
       (λ d. refl)
 
   -- the ones in the first word of a tick's reply

@@ -10,7 +10,7 @@ use Rattle.analysis_equations.proofs.Laws.{hold-low}
 use Rattle.machine_rules.specs.declared.Answer.{Answer}
 use Rattle.machine_rules.specs.declared.Answer.the-variants.{Granted, Waits}
 use Rattle.machine_rules.specs.declared.Call.the-variants.{Request}
-use Rattle.machine_rules.specs.Machine.{View, busy, requestCode, requestTold}
+use Rattle.machine_rules.specs.Machine.{View, busy, requestCode, requestAnswer}
 use Rattle.analysis_hold_times.specs.Figures.{Figures}
 use Rattle.machine_state.specs.declared.State.{State}
 use Rattle.machine_state.specs.Shows.{standing, lineAt, shows, noneInLine}
@@ -136,7 +136,7 @@ module _ {p : Plan} {s : State} {tag q : ℕ} {figures seats : List ℕ} (h : Ac
   low-core = low-processor p v i (may .task)
 
   -- it joins the line, whatever the answer
-  done : {a : Answer} → a ≡ requestTold p i q (shows p s .lines q) → Acted p s (Request tag q) (record { answer = a; state = entering p s i q })
+  done : {a : Answer} → a ≡ requestAnswer p i q (shows p s .lines q) → Acted p s (Request tag q) (record { answer = a; state = entering p s i q })
   done e =
       record {
         answer = e;

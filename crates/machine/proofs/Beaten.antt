@@ -8,7 +8,7 @@ use Rattle.machine_state.specs.Sound.{sound}
 use Rattle.machine_state.proofs.Wholes.{whole-of, sound-of}
 use Rattle.machine_state.specs.Inner.{Sized}
 use Rattle.machine_steps.specs.declared.Ticked.{Ticked as Beat}
-use Rattle.machine_steps.specs.Inner.{AllRunning, ticked, TickedOf}
+use Rattle.machine_steps.specs.Inner.{AllRunning, tickedBy, TickedOf}
 use Rattle.machine_steps.proofs.Ready.{Tabled, sized, running}
 use Rattle.machine_steps.proofs.Ticks.{ticked-whole, ticked-shows, cut-word, grant-word}
 use Rattle.machine.specs.Inner.{Acted}
@@ -23,6 +23,6 @@ module _ (p : Plan) (v : Valid p) (s : State) (h : sound p s ≡ true) {figures 
       let w = whole-of p v s h in
       record {
         answer = ap₂ Ticked (m .cuts ∙ cut-word p v s w t) (rw (m .state) at (m .grants) ∙ grant-word p v s w t);
-        sound = rw (m .state) (sound-of p v (ticked figures keys seats s) (ticked-whole p v s w t));
+        sound = rw (m .state) (sound-of p v (tickedBy figures keys seats s) (ticked-whole p v s w t));
         shows = rw (m .state) (ticked-shows p v s w t);
       }

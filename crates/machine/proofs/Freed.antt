@@ -18,11 +18,11 @@ use Rattle.machine_state.specs.Sound.{sound}
 use Rattle.machine_state.specs.Inner.{seat, seatCount, Seats}
 use Rattle.machine_state.proofs.Good.{Whole}
 use Rattle.machine_state.proofs.Wholes.{whole-of, sound-of}
-use Rattle.machine_steps.specs.Inner.{Leaving, left}
+use Rattle.machine_steps.specs.Inner.{Leaving, leftBy}
 use Rattle.machine_steps.proofs.Passing.{flag, seat-read}
 use Rattle.machine_steps.proofs.Ready.{Tabled, sized, ready}
 use Rattle.machine_steps.proofs.Leaving.{head-low, holder-none, holder-seat, left-whole, left-shows, next-seat, next-told}
-use Rattle.machine.specs.Inner.{firstSeat, NewHead, grantedTold, Acted}
+use Rattle.machine.specs.Inner.{headSeat, NewHead, grantedAnswer, Acted}
 
 -- ── the number, test by test ──
 module _ (p : Plan) (m : View) (tag q : ℕ) where
@@ -83,14 +83,14 @@ module _ {p : Plan} {s : State} {tag q : ℕ} {seats : List ℕ} (a : Releases p
 -- r is the head's first task, as its number plus 1, read by a copy w of the head's number
 module _ {p : Plan} {seats : List ℕ} {q gone : ℕ} {l : LineRow} (h : NewHead p seats q gone l) {w r : ℕ} (ew : w ≡ slot l 0)
     (er : r ≡ getD seats ((q * 8 + w) * 64 + boolByte (eqb (slot l 0) gone)) 0) where
-  first-read : r ≡ getD seats (firstSeat q gone l) 0
+  first-read : r ≡ getD seats (headSeat q gone l) 0
   first-read = rw flag at (seat-read seats q (slot l 0) (boolByte (eqb (slot l 0) gone)) ew er)
 
   pub first-task : (1 ≤ r) × (r ≤ p .tasks)
   first-task = (omega (arith, first-read, h .some), omega (arith, first-read, h .task))
 
-  pub granted-next : {row : TaskRow} → l .queued ≢ 0 → row ≡ p .task (r - 1) → Next (row .tag) ≡ grantedTold p seats q gone l
-  unfolding grantedTold
+  pub granted-next : {row : TaskRow} → l .queued ≢ 0 → row ≡ p .task (r - 1) → Next (row .tag) ≡ grantedAnswer p seats q gone l
+  unfolding grantedAnswer
   granted-next n e = rw (e, first-read, ne-eqb _ _ n)
 
 -- ── what a release does that is not refused ──
@@ -130,14 +130,14 @@ module _ {p : Plan} {s : State} {q r : ℕ} {figures keys seats : List ℕ} (f :
         ready = ready p (f .valid) s w (f .tables) r free-low held;
       }
 
-  module _ {n : State} (e : n ≡ left figures keys seats r s) where
+  module _ {n : State} (e : n ≡ leftBy figures keys seats r s) where
     pub free-next : 1 ≤ lineAt n r .queued → NewHead p seats r (slot (lineAt s r) 0) (lineAt n r)
     free-next =
         rw e (λ a. let g = next-seat p (f .valid) s w (f .tables) r free-low held a in record { placed = g .0; some = g .1; task = g .2 })
 
-    pub free-done : {a : Answer} → a ≡ grantedTold p seats r (slot (lineAt s r) 0) (lineAt n r)
+    pub free-done : {a : Answer} → a ≡ grantedAnswer p seats r (slot (lineAt s r) 0) (lineAt n r)
         → (tag : ℕ) → Acted p s (Release tag q) (record { answer = a; state = n })
-    unfolding grantedTold
+    unfolding grantedAnswer
     free-done j tag =
         record {
           answer = rw (← f .copy, j, e) (sym (next-told p (f .valid) s w (f .tables) r free-low held));

@@ -72,14 +72,14 @@ pub record Acted (p : Plan) (s : State) (c : Call) (r : Reply) : Type 0 where
   pub shows : shows p (r .state) ≡ effect p (shows p s) c
 
 -- the seat of the first task of the head, once the first task of processor `gone` left
-abbrev pub firstSeat : ℕ → ℕ → LineRow → ℕ
-firstSeat q gone l = seat q (slot l 0) (cond (eqb (slot l 0) gone) 1 0)
+abbrev pub headSeat : ℕ → ℕ → LineRow → ℕ
+headSeat q gone l = seat q (slot l 0) (cond (eqb (slot l 0) gone) 1 0)
 
 -- somebody sits there
 pub record NewHead (p : Plan) (seats : List ℕ) (q gone : ℕ) (l : LineRow) : Type 0 where
   pub placed : slot l 0 < 8
-  pub some : 1 ≤ getD seats (firstSeat q gone l) 0
-  pub task : getD seats (firstSeat q gone l) 0 ≤ p .tasks
+  pub some : 1 ≤ getD seats (headSeat q gone l) 0
+  pub task : getD seats (headSeat q gone l) 0 ≤ p .tasks
 
 -- a line of q once its holder left, with the tables
 pub record Grants (f seats : List ℕ) (q gone : ℕ) (l : LineRow) : Type 0 where
@@ -89,8 +89,8 @@ pub record Grants (f seats : List ℕ) (q gone : ℕ) (l : LineRow) : Type 0 whe
   pub head : 1 ≤ l .queued → NewHead (planOf f) seats q gone l
 
 -- what a release is answered: the tag of that task, or free
-unfoldable pub grantedTold : Plan → List ℕ → ℕ → ℕ → LineRow → Answer
-grantedTold p seats q gone l = cond (eqb (l .queued) 0) Free (Next (p .task (getD seats (firstSeat q gone l) 0 - 1) .tag))
+unfoldable pub grantedAnswer : Plan → List ℕ → ℕ → ℕ → LineRow → Answer
+grantedAnswer p seats q gone l = cond (eqb (l .queued) 0) Free (Next (p .task (getD seats (headSeat q gone l) 0 - 1) .tag))
 
 -- the ones in the first word of a tick's answer
 abbrev pub cutsIn : Answer → ℕ

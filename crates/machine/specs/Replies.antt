@@ -15,7 +15,7 @@ use Rattle.machine_rules.specs.declared.Call.{Call}
 use Rattle.machine_rules.specs.declared.Call.the-variants.{Tick}
 use Rattle.machine_rules.specs.declared.Answer.{Answer}
 use Rattle.machine_rules.specs.declared.Answer.the-variants.{Refused}
-use Rattle.machine_rules.specs.Machine.{callCode, step, acceptedAnswer, answerTold}
+use Rattle.machine_rules.specs.Machine.{callCode, step, acceptedAnswer, answerOutcome}
 use Rattle.machine_state.specs.declared.State.{State}
 use Rattle.machine_state.specs.Shows.{shows}
 use Rattle.machine_state.specs.Sound.{sound}
@@ -41,8 +41,8 @@ pub record Next (f : List ℕ) (s : State) (c : Call) (next : State) : Type 0 wh
   pub shows : callRefusal f s c ≡ 0 → shows (planOf f) next ≡ step (planOf f) (shows (planOf f) s) c
 
 -- what the answer tells: the refusal, or 0 and the values of the rules' answer
-unfoldable pub replyTold : List ℕ → State → Call → Outcome
-replyTold f s c = outcome (callRefusal f s c) (answerTold (acceptedAnswer (planOf f) (shows (planOf f) s) c) .values)
+unfoldable pub replyOutcome : List ℕ → State → Call → Outcome
+replyOutcome f s c = outcome (callRefusal f s c) (answerOutcome (acceptedAnswer (planOf f) (shows (planOf f) s) c) .values)
 
 -- the number of resources whose holds end in a tick; 0 where it is refused
 unfoldable pub cutCount : List ℕ → State → ℕ

@@ -16,7 +16,7 @@ ghost use Rattle.machine_rules.specs.Machine.{requestCode, releaseCode, callCod
 ghost use Rattle.machine_state.specs.Shows.{shows};
 ghost use Rattle.machine_state.specs.Sound.{sound};
 ghost use Rattle.machine.specs.Replies.{reply, Next};
-ghost use Rattle.machine.specs.Inner.{refusedAt, OnSeats, OnSound, Asks, Frees, Makes, Grants, Acted, grantedTold};
+ghost use Rattle.machine.specs.Inner.{refusedAt, OnSeats, OnSound, Asks, Frees, Makes, Grants, Acted, grantedAnswer};
 
 // The refusal `code` of a call on a state.
 pub fn refuse(unchanged: State, code: u8) -> Reply
@@ -110,7 +110,7 @@ fn request_on(file: &[u8], figures: &[u16], seats: &[u8], state: State, tag: u16
 // Who is granted q, once the first task of processor `gone` left and the line is as given.
 fn granted(file: &[u8], line: LineRow, seats: &[u8], q: usize, gone: u8) -> Answer
     requires { ⌜ Grants (now file) (now seats) q gone line ⌝ }
-    ensures { λ r. ⌜ r ≡ grantedTold (planOf (now (file .entry))) (now (seats .entry)) q gone line ⌝ }
+    ensures { λ r. ⌜ r ≡ grantedAnswer (planOf (now (file .entry))) (now (seats .entry)) q gone line ⌝ }
 {
     if line.queued == 0 {
         return Answer::Free;

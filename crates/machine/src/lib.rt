@@ -10,11 +10,11 @@ ghost use mathlib.Core.Bool.{true};
 ghost use Rattle.plan.specs.Acceptance.{refusal};
 ghost use Rattle.plan_reading.specs.Plan.{planOf};
 ghost use Rattle.machine_rules.specs.declared.Call.the-variants.{Request, Release, Tick};
-ghost use Rattle.machine_rules.specs.Machine.{answerTold, fresh};
+ghost use Rattle.machine_rules.specs.Machine.{answerOutcome, fresh};
 ghost use Rattle.machine_calls.specs.Calls.{callWidth, callIn, callsOf};
 ghost use Rattle.machine_state.specs.Shows.{freshState, shows};
 ghost use Rattle.machine_state.specs.Sound.{sound};
-ghost use Rattle.machine.specs.Replies.{reply, replyTold, Next, cutCount};
+ghost use Rattle.machine.specs.Replies.{reply, replyOutcome, Next, cutCount};
 ghost use Rattle.machine.specs.Inner.{cutsIn, AfterBytes};
 ghost use Rattle.machine.specs.Promise.{Ran, FreshRan};
 
@@ -55,7 +55,7 @@ pub fn start(file: &[u8]) -> Started
 pub fn call(file: &[u8], state: State, call: Call) -> Reply
     ensures { λ r. ⌜ r .answer ≡ reply (now (file .entry)) state call ⌝ }
     ensures { λ r. ⌜ Next (now (file .entry)) state call (r .state) ⌝ }
-    ensures { λ r. ⌜ answerTold (r .answer) ≡ replyTold (now (file .entry)) state call ⌝ }
+    ensures { λ r. ⌜ answerOutcome (r .answer) ≡ replyOutcome (now (file .entry)) state call ⌝ }
 {
     let mut figures = [0u16; analysis_hold_times::FIGURES];
     let code = surveyed::look(file, &mut figures);
@@ -66,7 +66,7 @@ pub fn call(file: &[u8], state: State, call: Call) -> Reply
 pub fn request(file: &[u8], state: State, tag: u16, resource: u8) -> Reply
     ensures { λ r. ⌜ r .answer ≡ reply (now (file .entry)) state (Request tag resource) ⌝ }
     ensures { λ r. ⌜ Next (now (file .entry)) state (Request tag resource) (r .state) ⌝ }
-    ensures { λ r. ⌜ answerTold (r .answer) ≡ replyTold (now (file .entry)) state (Request tag resource) ⌝ }
+    ensures { λ r. ⌜ answerOutcome (r .answer) ≡ replyOutcome (now (file .entry)) state (Request tag resource) ⌝ }
 {
     call(file, state, Call::Request(tag, resource))
 }
@@ -75,7 +75,7 @@ pub fn request(file: &[u8], state: State, tag: u16, resource: u8) -> Reply
 pub fn release(file: &[u8], state: State, tag: u16, resource: u8) -> Reply
     ensures { λ r. ⌜ r .answer ≡ reply (now (file .entry)) state (Release tag resource) ⌝ }
     ensures { λ r. ⌜ Next (now (file .entry)) state (Release tag resource) (r .state) ⌝ }
-    ensures { λ r. ⌜ answerTold (r .answer) ≡ replyTold (now (file .entry)) state (Release tag resource) ⌝ }
+    ensures { λ r. ⌜ answerOutcome (r .answer) ≡ replyOutcome (now (file .entry)) state (Release tag resource) ⌝ }
 {
     call(file, state, Call::Release(tag, resource))
 }
@@ -99,7 +99,7 @@ pub fn tick(file: &[u8], state: State) -> TickReply
     ensures { λ r. ⌜ r .answer ≡ reply (now (file .entry)) state Tick ⌝ }
     ensures { λ r. ⌜ Next (now (file .entry)) state Tick (r .state) ⌝ }
     ensures { λ r. ⌜ r .«cut_count» ≡ cutCount (now (file .entry)) state ⌝ }
-    ensures { λ r. ⌜ answerTold (r .answer) ≡ replyTold (now (file .entry)) state Tick ⌝ }
+    ensures { λ r. ⌜ answerOutcome (r .answer) ≡ replyOutcome (now (file .entry)) state Tick ⌝ }
 {
     let reply = call(file, state, Call::Tick);
     let answer = reply.answer;

@@ -18,7 +18,7 @@ use Rattle.queue_rules.proofs.Once.{Once, EachOnce, once-tasks, ahead-among, ah
 use Rattle.machine_rules.specs.declared.Answer.the-variants.{Waits, Refused}
 use Rattle.machine_rules.specs.declared.Call.{Call}
 use Rattle.machine_rules.specs.declared.Call.the-variants.{Request}
-use Rattle.machine_rules.specs.Machine.{View, terms, requestCode, callCode, requestTold, acceptedAnswer, answer, after}
+use Rattle.machine_rules.specs.Machine.{View, terms, requestCode, callCode, requestAnswer, acceptedAnswer, answer, after}
 use Rattle.machine_rules.specs.Waiting.{Event, Bounded, Asked}
 use Rattle.machine_rules.specs.Longest.{fellows, longestWait, NeverLonger}
 use Rattle.machine_rules.proofs.SoundLines.{known, SoundAt, accepted}
@@ -76,7 +76,7 @@ module _ (p : Plan) (v : Valid p) where
       record { few = few; short = limit-more (terms p q) i us all sums few }
 
   -- so it is for a task that asks, and for one that waits
-  told-most : (i q a m : ℕ) (l : Line) → SoundAt p q l → EachOnce (queueOf l) → inLine i l ≡ false → requestTold p i q l ≡ Waits a m → AtMost i q a m
+  told-most : (i q a m : ℕ) (l : Line) → SoundAt p q l → EachOnce (queueOf l) → inLine i l ≡ false → requestAnswer p i q l ≡ Waits a m → AtMost i q a m
   told-most i q a m (line h b []) w o new e = absurd (true≢false cc)
   told-most i q a m (line h b (x ∷ rest)) w o new e =
       let us : List ℕ = tasksOf (processorOf p i) (x ∷ rest) in

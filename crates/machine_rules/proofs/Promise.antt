@@ -8,7 +8,7 @@ use Rattle.queue_rules.proofs.Waiting.{entered-stands, entered-waits, entered-a
 use Rattle.machine_rules.specs.declared.Answer.the-variants.{Waits, Refused}
 use Rattle.machine_rules.specs.declared.Call.{Call}
 use Rattle.machine_rules.specs.declared.Call.the-variants.{Request}
-use Rattle.machine_rules.specs.Machine.{View, terms, callCode, requestTold, acceptedAnswer, effect, step, answer, after}
+use Rattle.machine_rules.specs.Machine.{View, terms, callCode, requestAnswer, acceptedAnswer, effect, step, answer, after}
 use Rattle.machine_rules.specs.Waiting.{TaskKept, afterCall, Asked, Served}
 use Rattle.machine_rules.proofs.SoundLines.{SoundLines, accepted}
 use Rattle.machine_rules.proofs.OnceLines.{Orderly, orderly-after}
@@ -21,7 +21,7 @@ module _ (p : Plan) where
     waits : waiting i l ≡ true
     bound : limit (terms p q) i (aheadIn (terms p q) i l) ≡ most
 
-  told-waits : (i q : ℕ) (l : Line) (a m : ℕ) → inLine i l ≡ false → requestTold p i q l ≡ Waits a m → WaitsIn i q (entered (terms p q) i l) m
+  told-waits : (i q : ℕ) (l : Line) (a m : ℕ) → inLine i l ≡ false → requestAnswer p i q l ≡ Waits a m → WaitsIn i q (entered (terms p q) i l) m
   told-waits i q (line h b []) a m new e = absurd (true≢false cc)
   told-waits i q (line h b (x ∷ rest)) a m new e =
       record {

@@ -17,7 +17,7 @@ use Rattle.queue_rules.proofs.Held.{heldBy, held-without, held-tasks, held-ente
 use Rattle.machine_rules.specs.declared.Call.{Call}
 use Rattle.machine_rules.specs.declared.Call.the-variants.{Request}
 use Rattle.machine_rules.specs.declared.Answer.the-variants.{Waits}
-use Rattle.machine_rules.specs.Machine.{View, fresh, terms, busy, requestCode, requestTold, step, answer, run}
+use Rattle.machine_rules.specs.Machine.{View, fresh, terms, busy, requestCode, requestAnswer, step, answer, run}
 use Rattle.machine_rules.specs.Longest.{fellows, longestWait, Reached, EachReached}
 use Rattle.machine_rules.proofs.Since.{after-last}
 
@@ -84,7 +84,7 @@ module _ (p : Plan) (q : ℕ) where
       (record { here = rw (eq-eqb q q refl, o .here); elsewhere = λ r d. rw (ne-eqb r q d) (o .elsewhere r d) })
 
   only-told : (l : Line) (s : View) (tag : ℕ) → Only l s → useCode p tag q ≡ 0 → inLine (taskNumber p tag) l ≡ false
-      → answer p s (Request tag q) ≡ requestTold p (taskNumber p tag) q l
+      → answer p s (Request tag q) ≡ requestAnswer p (taskNumber p tag) q l
   unfolding answer
   only-told l s tag o u new = rw (only-code l s tag o u new, o .here)
 

@@ -8,7 +8,7 @@ use Rattle.queue_rules.proofs.Stays.{entered-waiting, released-waiting, ticked-
 use Rattle.machine_rules.specs.declared.Answer.the-variants.{Waits}
 use Rattle.machine_rules.specs.declared.Call.{Call}
 use Rattle.machine_rules.specs.declared.Call.the-variants.{Request}
-use Rattle.machine_rules.specs.Machine.{View, fresh, terms, callCode, requestTold, step, answer, after, run}
+use Rattle.machine_rules.specs.Machine.{View, fresh, terms, callCode, requestAnswer, step, answer, after, run}
 use Rattle.machine_rules.specs.Waiting.{Event, grants, ends, occurs, Asked, Sent, StillWaits, StillWithout, TaskSince, asked-since, task-since-start, CoreSince, sent-since, core-since-start, EachSince}
 use Rattle.machine_rules.proofs.Moves.{Move, stays, enters, leaves, ticks, moved}
 use Rattle.machine_rules.proofs.SoundLines.{known, fits}
@@ -69,7 +69,7 @@ module _ (p : Plan) (v : Valid p) where
   unfolding answer
   told-wait s tag q e w = go (s .lines q) refl w
     where
-      told : answer p s (Request tag q) ≡ requestTold p (taskNumber p tag) q (s .lines q)
+      told : answer p s (Request tag q) ≡ requestAnswer p (taskNumber p tag) q (s .lines q)
       told = rw e
 
       i : ℕ
@@ -79,7 +79,7 @@ module _ (p : Plan) (v : Valid p) where
       go (line h b []) f x =
           let l : Line = entered (terms p q) i (line h b []) in
           absurd (true≢false (sym (and-parts (inLine i l) (not (holds i l)) x .1) ∙ rw (eq-eqb i i refl)))
-      go (line h b (x ∷ rest)) f _ = requests refl (told ∙ ap (requestTold p i q) f)
+      go (line h b (x ∷ rest)) f _ = requests refl (told ∙ ap (requestAnswer p i q) f)
 
   task-begins : (i q : ℕ) (s : View) (c : Call) → Orderly p s → waiting i (step p s c .lines q) ≡ true → (waiting i (s .lines q) ≡ true) ⊎ Requests s i q c
   task-begins i q s c o = go (moved p s q c)

@@ -75,15 +75,15 @@ module _ (p : Plan) where
 
   -- "A request is answered "granted", or "waits" with the number of tasks ahead (of the same processor, holder included) and the
   -- limit"
-  abbrev pub requestTold : ℕ → ℕ → Line → Answer
-  requestTold i q (line h b []) = Granted
-  requestTold i q (line h b (x ∷ rest)) =
+  abbrev pub requestAnswer : ℕ → ℕ → Line → Answer
+  requestAnswer i q (line h b []) = Granted
+  requestAnswer i q (line h b (x ∷ rest)) =
       Waits (length (tasksOf (processorOf p i) (x ∷ rest))) (limit (terms q) i (tasksOf (processorOf p i) (x ∷ rest)))
 
   -- "A release is answered with the tag granted next, or "free"": the holder, once the task has left
-  abbrev pub releaseTold : Line → Answer
-  releaseTold (line h b []) = Free
-  releaseTold (line h b (turn k u us ∷ rest)) = Next (p .task u .tag)
+  abbrev pub releaseAnswer : Line → Answer
+  releaseAnswer (line h b []) = Free
+  releaseAnswer (line h b (turn k u us ∷ rest)) = Next (p .task u .tag)
 
   -- the tick gives resource q a new grant: its holder is cut, and somebody holds it then
   abbrev pub regranted : View → ℕ → Bool
@@ -92,8 +92,8 @@ module _ (p : Plan) where
   -- what a call is answered that is not refused. "The tick's answer is two 16-bit words, bit q for resource q: those cut, and those with
   -- a new grant."
   abbrev pub acceptedAnswer : View → Call → Answer
-  acceptedAnswer s (Request tag q) = requestTold (taskNumber p tag) q (s .lines q)
-  acceptedAnswer s (Release tag q) = releaseTold (released (terms q) (s .lines q))
+  acceptedAnswer s (Request tag q) = requestAnswer (taskNumber p tag) q (s .lines q)
+  acceptedAnswer s (Release tag q) = releaseAnswer (released (terms q) (s .lines q))
   acceptedAnswer s Tick = Ticked (wordBelow 16 (λ q. cut (s .lines q))) (wordBelow 16 (regranted s))
 
   -- what a call is answered
@@ -110,10 +110,10 @@ module _ (p : Plan) where
   run cs = after fresh cs
 
 -- document 01's number and values for each answer: the number of the refusal, 0 for none; then which answer it is, and its values
-abbrev pub answerTold : Answer → Outcome
-answerTold Granted = record { number = 0; values = 0 ∷ [] }
-answerTold (Waits ahead most) = record { number = 0; values = 1 ∷ ahead ∷ most ∷ [] }
-answerTold (Next tag) = record { number = 0; values = 2 ∷ tag ∷ [] }
-answerTold Free = record { number = 0; values = 3 ∷ [] }
-answerTold (Ticked cuts grants) = record { number = 0; values = 4 ∷ cuts ∷ grants ∷ [] }
-answerTold (Refused k) = record { number = k; values = [] }
+abbrev pub answerOutcome : Answer → Outcome
+answerOutcome Granted = record { number = 0; values = 0 ∷ [] }
+answerOutcome (Waits ahead most) = record { number = 0; values = 1 ∷ ahead ∷ most ∷ [] }
+answerOutcome (Next tag) = record { number = 0; values = 2 ∷ tag ∷ [] }
+answerOutcome Free = record { number = 0; values = 3 ∷ [] }
+answerOutcome (Ticked cuts grants) = record { number = 0; values = 4 ∷ cuts ∷ grants ∷ [] }
+answerOutcome (Refused k) = record { number = k; values = [] }

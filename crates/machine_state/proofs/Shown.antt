@@ -9,7 +9,7 @@ use Rattle.queue_rules.proofs.Sound.{Owns, Proper, nobody, stands, Sound, is-fr
 use Rattle.queue_rules.proofs.Once.{Once, none, more, EachOnce, empty, next}
 use Rattle.machine_rules.proofs.SoundLines.{known, SoundAt}
 use Rattle.machine_rules.proofs.OnceLines.{Orderly}
-use Rattle.queue_ranks.specs.Ranks.{listFrom, taskAt, othersOf, turnOf, queueFrom}
+use Rattle.queue_ranks.specs.Ranks.{listFrom, taskRanked, othersOf, turnOf, queueFrom}
 use Rattle.folds.proofs.Searches.{on-le}
 use Rattle.queue_ranks.proofs.Reading.{all-tasks}
 use Rattle.queue_ranks.proofs.Ranked.{Ranked, Queued, Timed, task-rank, owner, full}
@@ -38,10 +38,10 @@ once-from f (suc c) a h =
 
 -- nobody stands in a line over ranks twice
 module _ {n : ℕ} {t : Terms} {R : ℕ → ℕ → ℕ} (r : Ranked n t R) where
-  turn-once : (k : ℕ) → 1 ≤ maxBelow n (R k) → Once (taskAt n (R k) 1 ∷ othersOf n (R k))
-  turn-once k a = rw (all-tasks n (R k) a) (once-from (taskAt n (R k)) (maxBelow n (R k)) 1 (λ i j l b h e. differ i j l b (omega arith) e))
+  turn-once : (k : ℕ) → 1 ≤ maxBelow n (R k) → Once (taskRanked n (R k) 1 ∷ othersOf n (R k))
+  turn-once k a = rw (all-tasks n (R k) a) (once-from (taskRanked n (R k)) (maxBelow n (R k)) 1 (λ i j l b h e. differ i j l b (omega arith) e))
     where
-      differ : (i j : ℕ) → 1 ≤ i → i < j → j ≤ maxBelow n (R k) → taskAt n (R k) i ≡ taskAt n (R k) j → ⊥
+      differ : (i j : ℕ) → 1 ≤ i → i < j → j ≤ maxBelow n (R k) → taskRanked n (R k) i ≡ taskRanked n (R k) j → ⊥
       differ i j l b h e =
           omega (arith, task-rank n i (R k) (full r k i l (omega arith)), task-rank n j (R k) (full r k j (omega arith) h), ap (R k) e)
 
@@ -53,9 +53,9 @@ module _ {n : ℕ} {t : Terms} {R : ℕ → ℕ → ℕ} (r : Ranked n t R) wher
 -- a line over ranks, for whose tasks a hold time makes them known
 module _ {n m : ℕ} {t : Terms} {R : ℕ → ℕ → ℕ} (known : ℕ → Bool) (user : (u : ℕ) → 1 ≤ t .hold u → known u ≡ true) (r : Ranked n t R) where
   -- the tasks of a turn
-  turn-owns : (k : ℕ) → 1 ≤ maxBelow n (R k) → Owns t known m k (taskAt n (R k) 1 ∷ othersOf n (R k))
+  turn-owns : (k : ℕ) → 1 ≤ maxBelow n (R k) → Owns t known m k (taskRanked n (R k) 1 ∷ othersOf n (R k))
   turn-owns k a = record {
-    each = λ i e. among-out i (taskAt n (R k)) (maxBelow n (R k)) 1 _ (ap (among i) (sym (all-tasks n (R k) a)) ∙ e)
+    each = λ i e. among-out i (taskRanked n (R k)) (maxBelow n (R k)) 1 _ (ap (among i) (sym (all-tasks n (R k) a)) ∙ e)
         (λ j p l f. let b = full r k j p (omega arith) in
         task i j p (rw f at b) (rw f at (task-rank n j (R k) b)));
   }

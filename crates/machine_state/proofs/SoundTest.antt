@@ -9,7 +9,7 @@ use Rattle.analysis_equations.specs.Sharing.{processorOf}
 use Rattle.analysis_equations.specs.HoldTimes.{holdAt, budget}
 use Rattle.machine_rules.specs.Machine.{terms}
 use Rattle.analysis_hold_times.specs.Figures.{holdCell, Figures}
-use Rattle.queue_ranks.specs.Ranks.{taskAt}
+use Rattle.queue_ranks.specs.Ranks.{taskRanked}
 use Rattle.folds.proofs.Searches.{on-eq, on-le, find-is}
 use Rattle.queue_ranks.proofs.Ranked.{Ranked, task-rank, task-first, sole, ranks-few, full}
 use Rattle.machine_state.specs.declared.Standing.{Standing}
@@ -91,13 +91,13 @@ module _ (p : Plan) (ts : List Standing) where
     seat-is k j u l e =
         last-is (p .tasks) u (λ u. eqb (rank p ts q k u) (j + 1)) l (eq-eqb _ _ e)
         (λ w b t. let f = eqb-true (rank p ts q k w) (j + 1) t in
-        sym (sole r k w b (omega arith)) ∙ ap (taskAt (p .tasks) (rank p ts q k)) (f ∙ sym e) ∙ sole r k u l (omega arith))
+        sym (sole r k w b (omega arith)) ∙ ap (taskRanked (p .tasks) (rank p ts q k)) (f ∙ sym e) ∙ sole r k u l (omega arith))
 
     -- the first of a queue sits first
-    seat-first : (k : ℕ) → 1 ≤ maxBelow (p .tasks) (rank p ts q k) → seatedAt p ts q k 0 ≡ taskAt (p .tasks) (rank p ts q k) 1 + 1
+    seat-first : (k : ℕ) → 1 ≤ maxBelow (p .tasks) (rank p ts q k) → seatedAt p ts q k 0 ≡ taskRanked (p .tasks) (rank p ts q k) 1 + 1
     seat-first k a =
         let l = full r k 1 (omega arith) a in
-        seat-is k 0 (taskAt (p .tasks) (rank p ts q k) 1) l (task-rank (p .tasks) 1 (rank p ts q k) l)
+        seat-is k 0 (taskRanked (p .tasks) (rank p ts q k) 1) l (task-rank (p .tasks) 1 (rank p ts q k) l)
 
 module _ (p : Plan) (v : Valid p) (ts : List Standing) (figures keys seats : List ℕ)
     (fs : Figures p figures) (ks : Keys p ts keys) (ss : Seats p ts seats) where
@@ -275,12 +275,12 @@ module _ (p : Plan) (v : Valid p) (ts : List Standing) (figures keys seats : Lis
 
     -- the hold time of the head's first task, by its seat
     head-is : slot l 0 < 8 → 1 ≤ firstSeat seats q (slot l 0)
-        → getD figures (holdCell (firstSeat seats q (slot l 0) - 1) q) 0 ≡ holdAt p (taskAt (p .tasks) (rank p ts q (slot l 0)) 1) q
+        → getD figures (holdCell (firstSeat seats q (slot l 0) - 1) q) 0 ≡ holdAt p (taskRanked (p .tasks) (rank p ts q (slot l 0)) 1) q
     head-is lk some =
         let a = first-served (slot l 0) lk some in
-        let f : firstSeat seats q (slot l 0) - 1 ≡ taskAt (p .tasks) (rank p ts q (slot l 0)) 1 =
+        let f : firstSeat seats q (slot l 0) - 1 ≡ taskRanked (p .tasks) (rank p ts q (slot l 0)) 1 =
         omega (arith, first-at (slot l 0) lk, seat-first p ts q r (slot l 0) a) in
-        rw f (fs .hold (taskAt (p .tasks) (rank p ts q (slot l 0)) 1) q (omega (arith, v .tasks, full r (slot l 0) 1 (omega arith) a)) b)
+        rw f (fs .hold (taskRanked (p .tasks) (rank p ts q (slot l 0)) 1) q (omega (arith, v .tasks, full r (slot l 0) 1 (omega arith) a)) b)
 
     clock-same : queueTest seats q (l .queue) (l .queued) ≡ true → clockTest figures seats q l ≡ clockFits p ts q l
     unfolding clockTest clockFits
@@ -341,7 +341,7 @@ module _ (p : Plan) (v : Valid p) (ts : List Standing) (figures keys seats : Lis
             let a : 2 ≤ rank p ts q k u = omega (arith, own) in
             let y = r .backed u lu a in
             let f = task-rank (p .tasks) (rank p ts q k u - 1) (rank p ts q k) y in
-            seat-taken p ts q k (j - 1) (taskAt (p .tasks) (rank p ts q k) (rank p ts q k u - 1)) y (omega (arith, own, f));
+            seat-taken p ts q k (j - 1) (taskRanked (p .tasks) (rank p ts q k) (rank p ts q k u - 1)) y (omega (arith, own, f));
       })
     where
       q : ℕ

@@ -9,7 +9,7 @@ use Rattle.analysis_equations.specs.Sharing.{processorOf}
 use Rattle.analysis_equations.specs.HoldTimes.{holdAt}
 use Rattle.queue_rules.specs.Rules.{Turn, queueOf, inLine, tasksOf, aheadOf}
 use Rattle.machine_rules.specs.Machine.{View}
-use Rattle.queue_ranks.specs.Ranks.{listFrom, taskAt, turnOf, queueFrom}
+use Rattle.queue_ranks.specs.Ranks.{listFrom, taskRanked, turnOf, queueFrom}
 use Rattle.queue_ranks.proofs.Lists.{list-length, list-get}
 use Rattle.queue_ranks.proofs.Ranked.{task-rank, full, sole}
 use Rattle.queue_ranks.proofs.Reading.{tasks-in, in-line, out-line}
@@ -83,7 +83,7 @@ module _ (p : Plan) (v : Valid p) (s : State) (w : Whole p s) where
   -- ── the row of a task ──
   -- the tasks of processor k in line for q
   pub ahead-list : (q k : ℕ) → q < 16
-      → tasksOf k (queueOf (shows p s .lines q)) ≡ listFrom (maxBelow (p .tasks) (rank p (s .tasks) q k)) 1 (taskAt (p .tasks) (rank p (s .tasks) q k))
+      → tasksOf k (queueOf (shows p s .lines q)) ≡ listFrom (maxBelow (p .tasks) (rank p (s .tasks) q k)) 1 (taskRanked (p .tasks) (rank p (s .tasks) q k))
   unfolding shows
   ahead-list q k l = tasks-in (w .lines q l .queued) k
 
@@ -123,16 +123,16 @@ module _ (p : Plan) (v : Valid p) (s : State) (w : Whole p s) where
         most : row .place + 1 ≤ maxBelow (p .tasks) ranks
         most = omega (arith, own, max-at (p .tasks) i ranks lt)
 
-        at : taskAt (p .tasks) ranks (row .place + 1) ≡ i
+        at : taskRanked (p .tasks) ranks (row .place + 1) ≡ i
         at = rw (← own) (sole (w .lines (row .resource) l .ranked) (processorOf p i) i lt (omega (arith, own)))
 
-        before : (k : ℕ) → k < row .place + 1 → 1 ≤ k → taskAt (p .tasks) ranks k ≢ i
+        before : (k : ℕ) → k < row .place + 1 → 1 ≤ k → taskRanked (p .tasks) ranks k ≢ i
         before k b a e =
             let there = full (w .lines (row .resource) l .ranked) (processorOf p i) k a (omega (arith, most)) in
             omega (arith, own, ap ranks e, task-rank (p .tasks) k ranks there)
 
-        count : length (aheadOf i (listFrom (maxBelow (p .tasks) ranks) 1 (taskAt (p .tasks) ranks))) + 1 ≡ row .place + 1
-        count = ahead-from i (taskAt (p .tasks) ranks) (maxBelow (p .tasks) ranks) 1 (row .place + 1) (omega arith) (omega (arith, most)) at before
+        count : length (aheadOf i (listFrom (maxBelow (p .tasks) ranks) 1 (taskRanked (p .tasks) ranks))) + 1 ≡ row .place + 1
+        count = ahead-from i (taskRanked (p .tasks) ranks) (maxBelow (p .tasks) ranks) 1 (row .place + 1) (omega arith) (omega (arith, most)) at before
 
     row-in : 1 ≤ holdAt p i (row .resource) → i < p .tasks → row ≡ standingOf p (shows p s) i
     unfolding standingOf resourceOf

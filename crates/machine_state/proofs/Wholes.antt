@@ -9,7 +9,7 @@ use Rattle.analysis_equations.specs.Sharing.{processorOf, uses, global}
 use Rattle.analysis_equations.specs.HoldTimes.{holdTime, holdAt}
 use Rattle.analysis_equations.proofs.Laws.{uses-out, hold-low, past-global}
 use Rattle.machine_rules.specs.Machine.{terms}
-use Rattle.queue_ranks.specs.Ranks.{taskAt}
+use Rattle.queue_ranks.specs.Ranks.{taskRanked}
 use Rattle.folds.proofs.Searches.{on-eq, on-le, find-is}
 use Rattle.queue_ranks.proofs.Ranked.{At, Ranked, task-rank, task-first, max-there, sole}
 use Rattle.machine_state.specs.declared.Standing.{Standing}
@@ -25,7 +25,7 @@ pub both : {a b : Bool} → a ≡ true → b ≡ true → (a && b) ≡ true
 both p q = rw (p, q)
 
 -- u is alone at its rank f u
-alone-at : (n u : ℕ) (f : ℕ → ℕ) → u < n → allBelow n (λ v. eqb v u || not (eqb (f v) (f u))) ≡ true → taskAt n f (f u) ≡ u
+alone-at : (n u : ℕ) (f : ℕ → ℕ) → u < n → allBelow n (λ v. eqb v u || not (eqb (f v) (f u))) ≡ true → taskRanked n f (f u) ≡ u
 alone-at n u f l h = find-is n u (λ v. eqb (f v) (f u)) l (eq-eqb (f u) _ refl) other
   where
     other : (v : ℕ) → v < u → eqb (f v) (f u) ≡ false
@@ -34,12 +34,12 @@ alone-at n u f l h = find-is n u (λ v. eqb (f v) (f u)) l (eq-eqb (f u) _ refl)
         (λ e. let s = eqb-true v u e in let bad : ⊥ = omega arith in absurd bad)
         (λ e. not-true _ e)
 
-alone-from : (n u : ℕ) (f : ℕ → ℕ) → ((w : ℕ) → w < n → 1 ≤ f w → taskAt n f (f w) ≡ w) → u < n → 1 ≤ f u
+alone-from : (n u : ℕ) (f : ℕ → ℕ) → ((w : ℕ) → w < n → 1 ≤ f w → taskRanked n f (f w) ≡ w) → u < n → 1 ≤ f u
     → allBelow n (λ v. eqb v u || not (eqb (f v) (f u))) ≡ true
 alone-from n u f h l a =
     all-from n (λ v. eqb v u || not (eqb (f v) (f u)))
     (λ v b. by-eq (λ (d : Bool). (d || not (eqb (f v) (f u))) ≡ true) v u (λ e. refl)
-    (λ ne. rw (ne-eqb (f v) (f u) (λ e. ne (sym (h v b (omega arith)) ∙ ap (taskAt n f) e ∙ h u l a)))))
+    (λ ne. rw (ne-eqb (f v) (f u) (λ e. ne (sym (h v b (omega arith)) ∙ ap (taskRanked n f) e ∙ h u l a)))))
 
 -- some f u is 1 or more
 pub serves-max : (n : ℕ) (f : ℕ → ℕ) → anyBelow n (λ u. leb 1 (f u)) ≡ true → 1 ≤ maxBelow n f
@@ -48,8 +48,8 @@ serves-max n f h = any-out n (λ u. leb 1 (f u)) (1 ≤ maxBelow n f) h (λ u l 
 pub max-serves : (n : ℕ) (f : ℕ → ℕ) → 1 ≤ maxBelow n f → anyBelow n (λ u. leb 1 (f u)) ≡ true
 max-serves n f a =
     let l = max-there n f a in
-    let b : 1 ≤ f (taskAt n f (maxBelow n f)) = omega (arith, task-rank n (maxBelow n f) f l) in
-    any-at n (taskAt n f (maxBelow n f)) (λ u. leb 1 (f u)) l (le-leb 1 _ b)
+    let b : 1 ≤ f (taskRanked n f (maxBelow n f)) = omega (arith, task-rank n (maxBelow n f) f l) in
+    any-at n (taskRanked n f (maxBelow n f)) (λ u. leb 1 (f u)) l (le-leb 1 _ b)
 
 -- ── rows and ranks ──
 pub row-same : (a b : Standing) → a .resource ≡ b .resource → a .place ≡ b .place → a ≡ b
@@ -147,7 +147,7 @@ module _ (p : Plan) (v : Valid p) where
       }
         where
           before : (u : ℕ) → u < p .tasks → 2 ≤ rank p ts q (processorOf p u) u
-              → taskAt (p .tasks) (rank p ts q (processorOf p u)) (rank p ts q (processorOf p u) u - 1) < p .tasks
+              → taskRanked (p .tasks) (rank p ts q (processorOf p u)) (rank p ts q (processorOf p u) u - 1) < p .tasks
           before u l a =
               let h = rank-of p ts q (processorOf p u) u (omega arith) in
               let j : rank p ts q (processorOf p u) u - 1 ≡ standing ts u .place = omega (arith, h .2) in
@@ -264,7 +264,7 @@ module _ (p : Plan) (v : Valid p) where
         behind =
             by-eq (λ (d : Bool). (d || anyBelow (p .tasks) (λ w. eqb (beside p ts u w) j)) ≡ true) j 0 (λ e. refl)
             (λ ne. let e : beside p ts u u - 1 ≡ j = omega (arith, rank-own p ts u) in
-            let m : taskAt (p .tasks) (beside p ts u) j < p .tasks = rw e at (r .backed u l (omega (arith, rank-own p ts u))) in
+            let m : taskRanked (p .tasks) (beside p ts u) j < p .tasks = rw e at (r .backed u l (omega (arith, rank-own p ts u))) in
             any-at (p .tasks) _ (λ w. eqb (beside p ts u w) j) m (eq-eqb _ _ (task-rank (p .tasks) j (beside p ts u) m)))
 
 pub whole-of : (p : Plan) → Valid p → (s : State) → sound p s ≡ true → Whole p s

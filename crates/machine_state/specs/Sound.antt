@@ -11,7 +11,7 @@ use Rattle.folds.specs.Below.{allBelow, anyBelow}
 use Rattle.plan_reading.specs.Plan.{Plan}
 use Rattle.analysis_equations.specs.Sharing.{processorOf, uses, global}
 use Rattle.analysis_equations.specs.HoldTimes.{holdAt, budget}
-use Rattle.queue_ranks.specs.Ranks.{taskAt}
+use Rattle.queue_ranks.specs.Ranks.{taskRanked}
 use Rattle.machine_state.specs.declared.Standing.{Standing}
 use Rattle.machine_state.specs.declared.LineRow.{LineRow}
 use Rattle.machine_state.specs.declared.State.{State}
@@ -53,7 +53,7 @@ module _ (p : Plan) (ts : List Standing) where
 
   -- the head's first task
   abbrev pub holderOf : ℕ → LineRow → ℕ
-  holderOf q l = taskAt (p .tasks) (rank p ts q (slot l 0)) 1
+  holderOf q l = taskRanked (p .tasks) (rank p ts q (slot l 0)) 1
 
   -- "the head's first task holds, and 1 ≤ hold left ≤ its hold time, hold left ≤ budget left ≤ the budget"
   unfoldable pub clockFits : ℕ → LineRow → Bool

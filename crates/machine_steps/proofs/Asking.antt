@@ -8,8 +8,8 @@ use Rattle.analysis_equations.specs.Sharing.{processorOf}
 use Rattle.analysis_equations.specs.HoldTimes.{holdAt, waitTime}
 use Rattle.queue_rules.specs.Rules.{line, queueOf, inLine, tasksOf, sumOf, limit}
 use Rattle.machine_rules.specs.declared.Answer.the-variants.{Granted, Waits}
-use Rattle.machine_rules.specs.Machine.{terms, busy, requestTold}
-use Rattle.queue_ranks.specs.Ranks.{listFrom, taskAt, queueFrom}
+use Rattle.machine_rules.specs.Machine.{terms, busy, requestAnswer}
+use Rattle.queue_ranks.specs.Ranks.{listFrom, taskRanked, queueFrom}
 use Rattle.folds.proofs.Searches.{on-le, find-is}
 use Rattle.machine_steps.proofs.Ready.{seat-task}
 use Rattle.queue_ranks.proofs.Lists.{list-snoc, list-length}
@@ -51,22 +51,22 @@ module _ (p : Plan) (v : Valid p) (s : State) (w : Whole p s) (q k : ℕ) (lq : 
     few = omega (arith, v .tasks, ranks-few (w .lines q lq .ranked) k)
 
     sits : (j : ℕ) → j < 64
-        → getD seats (seat q k j) 0 ≡ cond (ltb (taskAt (p .tasks) ranks (j + 1)) (p .tasks)) (taskAt (p .tasks) ranks (j + 1) + 1) 0
+        → getD seats (seat q k j) 0 ≡ cond (ltb (taskRanked (p .tasks) ranks (j + 1)) (p .tasks)) (taskRanked (p .tasks) ranks (j + 1) + 1) 0
     sits j l = seat-task p s w t q k j lq lk l
 
     -- the seats are taken from the first on, as many as there are tasks
-    pub seat-taken : (j : ℕ) → j < most → getD seats (seat q k j) 0 ≡ taskAt (p .tasks) ranks (suc j) + 1
+    pub seat-taken : (j : ℕ) → j < most → getD seats (seat q k j) 0 ≡ taskRanked (p .tasks) ranks (suc j) + 1
     seat-taken j l =
-        let a : taskAt (p .tasks) ranks (j + 1) < p .tasks = full (w .lines q lq .ranked) k (j + 1) (omega arith) (omega arith) in
+        let a : taskRanked (p .tasks) ranks (j + 1) < p .tasks = full (w .lines q lq .ranked) k (j + 1) (omega arith) (omega arith) in
         sits j (omega (arith, few)) ∙ rw (lt-ltb _ _ a, add-one j)
 
     pub seat-empty : (j : ℕ) → most ≤ j → j < 64 → getD seats (seat q k j) 0 ≡ 0
     seat-empty j m l = sits j l ∙ rw (le-ltb _ _ past)
       where
-        past : p .tasks ≤ taskAt (p .tasks) ranks (j + 1)
+        past : p .tasks ≤ taskRanked (p .tasks) ranks (j + 1)
         past =
-            on-le (p .tasks ≤ taskAt (p .tasks) ranks (j + 1)) (p .tasks) (taskAt (p .tasks) ranks (j + 1)) (λ a. a)
-            (λ a. omega (arith, task-rank (p .tasks) (j + 1) ranks a, max-at (p .tasks) (taskAt (p .tasks) ranks (j + 1)) ranks a))
+            on-le (p .tasks ≤ taskRanked (p .tasks) ranks (j + 1)) (p .tasks) (taskRanked (p .tasks) ranks (j + 1)) (λ a. a)
+            (λ a. omega (arith, task-rank (p .tasks) (j + 1) ranks a, max-at (p .tasks) (taskRanked (p .tasks) ranks (j + 1)) ranks a))
 
     pub taken-is : taken seats q k ≡ most
     unfolding taken
@@ -82,17 +82,17 @@ module _ (p : Plan) (v : Valid p) (s : State) (w : Whole p s) (q k : ℕ) (lq : 
         full-at j l = ne-eqb (getD seats (seat q k j) 0) 0 (λ e. omega (arith, seat-taken j l))
 
     pub ahead-count : length (tasksOf k (queueOf (shows p s .lines q))) ≡ taken seats q k
-    ahead-count = ap length (ahead-list p v s w q k lq) ∙ list-length most 1 (taskAt (p .tasks) ranks) ∙ sym taken-is
+    ahead-count = ap length (ahead-list p v s w q k lq) ∙ list-length most 1 (taskRanked (p .tasks) ranks) ∙ sym taken-is
 
     module _ {figures : List ℕ} (c : Figures p figures) where
-      pub taken-holds : takenHolds figures seats q k ≡ sumOf (terms p q .hold) (listFrom most 1 (taskAt (p .tasks) ranks))
+      pub taken-holds : takenHolds figures seats q k ≡ sumOf (terms p q .hold) (listFrom most 1 (taskRanked (p .tasks) ranks))
       unfolding takenHolds
       taken-holds =
-          rw taken-is (sum-same most _ _ hold ∙ sum-list most (λ u. holdAt p u q) (taskAt (p .tasks) ranks))
+          rw taken-is (sum-same most _ _ hold ∙ sum-list most (λ u. holdAt p u q) (taskRanked (p .tasks) ranks))
         where
-          hold : (j : ℕ) → j < most → getD figures (holdCell (getD seats (seat q k j) 0 - 1) q) 0 ≡ holdAt p (taskAt (p .tasks) ranks (suc j)) q
+          hold : (j : ℕ) → j < most → getD figures (holdCell (getD seats (seat q k j) 0 - 1) q) 0 ≡ holdAt p (taskRanked (p .tasks) ranks (suc j)) q
           hold j l =
-              let u : ℕ = taskAt (p .tasks) ranks (suc j) in
+              let u : ℕ = taskRanked (p .tasks) ranks (suc j) in
               let a : u < p .tasks = full (w .lines q lq .ranked) k (suc j) (omega arith) l in
               let e : getD seats (seat q k j) 0 - 1 ≡ u = omega (arith, seat-taken j l) in
               rw e (c .hold u q (omega (arith, v .tasks)) lq)
@@ -103,19 +103,19 @@ module _ (p : Plan) (v : Valid p) (s : State) (w : Whole p s) (q k : ℕ) (lq : 
 -- ── the answer ──
 -- of a held line
 told-held : (p : Plan) (i q n : ℕ) (R : ℕ → ℕ → ℕ) (c : ℕ) (g : ℕ → ℕ) (h b : ℕ) → 1 ≤ c
-    → requestTold p i q (line h b (queueFrom n R c g))
+    → requestAnswer p i q (line h b (queueFrom n R c g))
     ≡ Waits (length (tasksOf (processorOf p i) (queueFrom n R c g))) (limit (terms p q) i (tasksOf (processorOf p i) (queueFrom n R c g)))
 unfolding listFrom
 told-held p i q n R zero g h b a = let bad : ⊥ = omega arith in absurd bad
 told-held p i q n R (suc c) g h b a = refl
 
 module _ (p : Plan) (v : Valid p) (s : State) (w : Whole p s) (i q : ℕ) where
-  pub request-granted : lineAt s q .queued ≡ 0 → requestTold p i q (shows p s .lines q) ≡ Granted
+  pub request-granted : lineAt s q .queued ≡ 0 → requestAnswer p i q (shows p s .lines q) ≡ Granted
   unfolding shows listFrom
   request-granted e = rw e
 
   pub request-waits : {seats figures : List ℕ} → 1 ≤ lineAt s q .queued → q < 16 → i < p .tasks → Seats p (s .tasks) seats → Figures p figures
-      → requestTold p i q (shows p s .lines q)
+      → requestAnswer p i q (shows p s .lines q)
       ≡ Waits (taken seats q (processorOf p i))
       (takenHolds figures seats q (processorOf p i) + (taken seats q (processorOf p i) + 1) * waitTime p (processorOf p i) q)
   unfolding shows

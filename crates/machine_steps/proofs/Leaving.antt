@@ -4,8 +4,8 @@ use Rattle.folds.proofs.Arrays.{by-eq, cell-eqb}
 use Rattle.plan_reading.specs.Plan.{Plan, Valid}
 use Rattle.queue_rules.specs.Rules as Rules
 use Rattle.machine_rules.specs.declared.Answer.the-variants.{Next, Free}
-use Rattle.machine_rules.specs.Machine.{change, terms, releaseTold}
-use Rattle.queue_ranks.specs.Ranks.{listFrom, taskAt, queueFrom}
+use Rattle.machine_rules.specs.Machine.{change, terms, releaseAnswer}
+use Rattle.queue_ranks.specs.Ranks.{listFrom, taskRanked, queueFrom}
 use Rattle.folds.proofs.Searches.{same-eqb}
 use Rattle.queue_ranks.proofs.Ranked.{full}
 use Rattle.queue_ranks.proofs.Reading.{holds-none, holds-first}
@@ -15,7 +15,7 @@ use Rattle.machine_state.specs.declared.State.{State}
 use Rattle.machine_state.specs.Shows.{noLine, lineAt, slot, rank, shownLine, shows}
 use Rattle.machine_state.specs.Inner.{queueAt, seat, Seats}
 use Rattle.machine_state.proofs.Good.{Whole}
-use Rattle.machine_steps.specs.Inner.{passed, left}
+use Rattle.machine_steps.specs.Inner.{passed, leftBy}
 use Rattle.machine_steps.proofs.Ready.{Tabled, seat-some, first-task}
 use Rattle.machine_steps.proofs.Falling.{Ended, ranks-leave, ranks-stay, rows-after}
 use Rattle.machine_steps.proofs.Passed.{Shown, stays-shown, past-shows, all-shown, Held, good-held, first-after, passed-shown}
@@ -46,10 +46,10 @@ module _ (p : Plan) (v : Valid p) (s : State) (w : Whole p s) (q : ℕ) (lq : q 
   unfolding shows
   holder-seat {seats} t i =
       let g : LineRow = lineAt s q in
-      let seated : getD seats (seat q (slot g 0) 0) 0 ≡ taskAt (p .tasks) (rank p (s .tasks) q (slot g 0)) 1 + 1 =
+      let seated : getD seats (seat q (slot g 0) 0) 0 ≡ taskRanked (p .tasks) (rank p (s .tasks) q (slot g 0)) 1 + 1 =
       seat-some p s w t q (slot g 0) 0 lq head-low (omega arith) (first-task p s w q 0 lq held) in
       holds-first (p .tasks) (rank p (s .tasks) q) i (g .queued) (slot g) (g .«hold_left») (g .«budget_left») held
-      ∙ same-eqb (taskAt (p .tasks) (rank p (s .tasks) q (slot g 0)) 1) i _ (i + 1) (λ e. omega arith) (λ e. omega arith)
+      ∙ same-eqb (taskRanked (p .tasks) (rank p (s .tasks) q (slot g 0)) 1) i _ (i + 1) (λ e. omega arith) (λ e. omega arith)
 
 module _ (p : Plan) (v : Valid p) (s : State) (w : Whole p s) {figures keys seats : List ℕ} (t : Tabled p s figures keys seats) where
   module _ (q : ℕ) (lq : q < 16) (held : 1 ≤ lineAt s q .queued) where
@@ -58,7 +58,7 @@ module _ (p : Plan) (v : Valid p) (s : State) (w : Whole p s) {figures keys seat
 
     -- ── the state after it ──
     abbrev L : State
-    L = left figures keys seats q s
+    L = leftBy figures keys seats q s
 
     ended : Ended s (λ r. eqb r q) (set (replicate 129 0) (queueAt (slot (lineAt s q) 0) q) 1)
     ended = record {
@@ -79,7 +79,7 @@ module _ (p : Plan) (v : Valid p) (s : State) (w : Whole p s) {figures keys seat
     line-held : Held p (s .tasks) q (lineAt s q)
     line-held = good-held p (s .tasks) q (lineAt s q) (w .lines q lq) held
 
-    pub left-line : lineAt (left figures keys seats q s) q ≡ passed figures seats q (lineAt s q)
+    pub left-line : lineAt (leftBy figures keys seats q s) q ≡ passed figures seats q (lineAt s q)
     left-line = getD-set-same (s .lines) q (passed figures seats q (lineAt s q)) noLine (omega (arith, t .lines-long))
 
     left-shown : (r : ℕ) → r < 16 → Shown p (L .tasks) r (lineAt L r) (change (shows p s .lines) q (Rules.released (terms p q)) r)
@@ -90,10 +90,10 @@ module _ (p : Plan) (v : Valid p) (s : State) (w : Whole p s) {figures keys seat
         (λ n. rw (getD-set-other (s .lines) q r (passed figures seats q (lineAt s q)) noLine n)
         (stays-shown p (s .tasks) (L .tasks) r (lineAt s r) (ranks-stay p v s w t ended r lr (ne-eqb r q n)) (w .lines r lr)))
 
-    pub left-whole : Whole p (left figures keys seats q s)
+    pub left-whole : Whole p (leftBy figures keys seats q s)
     left-whole = record { rows = rows-after p v s w t ended; lines = λ r lr. left-shown r lr .good }
 
-    pub left-shows : shows p (left figures keys seats q s) ≡ record { lines = change (shows p s .lines) q (Rules.released (terms p q)) }
+    pub left-shows : shows p (leftBy figures keys seats q s) ≡ record { lines = change (shows p s .lines) q (Rules.released (terms p q)) }
     left-shows =
         all-shown p L (change (shows p s .lines) q (Rules.released (terms p q)))
         (length-set (s .lines) q (passed figures seats q (lineAt s q)) ∙ t .lines-long) left-shown
@@ -108,7 +108,7 @@ module _ (p : Plan) (v : Valid p) (s : State) (w : Whole p s) {figures keys seat
     granted = nextSeat seats q after (slot (lineAt s q) 0)
 
     abbrev first : ℕ
-    first = taskAt (p .tasks) (rank p (L .tasks) q (slot after 0)) 1
+    first = taskRanked (p .tasks) (rank p (L .tasks) q (slot after 0)) 1
 
     next-low : 1 ≤ after .queued → slot after 0 < 8
     next-low a = omega (arith, v .processors, left-whole .lines q lq .queued .placed 0 a)
@@ -123,18 +123,18 @@ module _ (p : Plan) (v : Valid p) (s : State) (w : Whole p s) {figures keys seat
         let l : first < p .tasks = full (g .ranked) (slot after 0) 1 (omega arith) (g .queued .served 0 a) in
         (next-low a, omega (arith, next-first a), omega (arith, next-first a))
 
-    pub next-told : releaseTold p (Rules.released (terms p q) (shows p s .lines q)) ≡ cond (eqb (after .queued) 0) Free (Next (p .task (granted - 1) .tag))
+    pub next-told : releaseAnswer p (Rules.released (terms p q) (shows p s .lines q)) ≡ cond (eqb (after .queued) 0) Free (Next (p .task (granted - 1) .tag))
     unfolding shows listFrom
     next-told =
         let m : Rules.released (terms p q) (shows p s .lines q) ≡ shownLine p (L .tasks) q after =
         sym (rw (eq-eqb q q refl) at (left-shown q lq .shows)) in
-        ap (releaseTold p) m
+        ap (releaseAnswer p) m
         ∙ told (p .tasks) (rank p (L .tasks) q) (after .queued) (slot after) (after .«hold_left») (after .«budget_left»)
         ∙ by-eq (λ (b : Bool). cond b Free (Next (p .task first .tag)) ≡ cond b Free (Next (p .task (granted - 1) .tag)))
         (after .queued) 0 (λ e. refl)
         (λ n. let u : first ≡ granted - 1 = omega (arith, next-first (omega arith)) in ap (λ (i : ℕ). Next (p .task i .tag)) u)
       where
         told : (n : ℕ) (S : ℕ → ℕ → ℕ) (c : ℕ) (g : ℕ → ℕ) (h b : ℕ)
-            → releaseTold p (Rules.line h b (queueFrom n S c g)) ≡ cond (eqb c 0) Free (Next (p .task (taskAt n (S (g 0)) 1) .tag))
+            → releaseAnswer p (Rules.line h b (queueFrom n S c g)) ≡ cond (eqb c 0) Free (Next (p .task (taskRanked n (S (g 0)) 1) .tag))
         told n S zero g h b = refl
         told n S (suc c) g h b = rw (ne-eqb (suc c) 0 (λ e. omega arith))

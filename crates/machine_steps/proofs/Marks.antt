@@ -13,24 +13,24 @@ use Rattle.machine_state.specs.declared.Standing.{Standing}
 use Rattle.machine_state.specs.declared.LineRow.{LineRow}
 use Rattle.machine_state.specs.Shows.{noStanding, noLine, slot}
 use Rattle.machine_state.specs.Inner.{queueAt}
-use Rattle.machine_steps.specs.Inner.{fallen, lowered, ends, endedOf, stepped, steppedLines, cutWord, grantWord}
+use Rattle.machine_steps.specs.Inner.{fallen, lowered, cutsHolder, endedOf, stepped, steppedLines, cutWord, grantWord}
 
 -- where a tick cuts the holder, somebody is queued
-pub cut-queued : (l : LineRow) → ends l ≡ true → 1 ≤ l .queued
+pub cut-queued : (l : LineRow) → cutsHolder l ≡ true → 1 ≤ l .queued
 cut-queued l e = ltb-true 0 (l .queued) (and-parts (ltb 0 (l .queued)) (eqb (l .«hold_left») 1) e .0)
 
 -- the queues of the resources below n that lose their first
 abbrev pub endedBelow : List LineRow → ℕ → List ℕ
 endedBelow ls n =
-    stampedBelow n (λ q. cond (ends (getD ls q noLine)) (queueAt (slot (getD ls q noLine) 0) q) 128)
-    (λ q. cond (ends (getD ls q noLine)) 1 0) (replicate 129 0)
+    stampedBelow n (λ q. cond (cutsHolder (getD ls q noLine)) (queueAt (slot (getD ls q noLine) 0) q) 128)
+    (λ q. cond (cutsHolder (getD ls q noLine)) 1 0) (replicate 129 0)
 
 -- a turn of the loop where the tick cuts the holder, one where it does not, and its end
 module _ (ls : List LineRow) (n : ℕ) {m : List ℕ} (p : m ≡ endedBelow ls n) where
-  ended-cut : {k : ℕ} → ends (getD ls n noLine) ≡ true → k ≡ slot (getD ls n noLine) 0 → set m (n * 8 + k) 1 ≡ endedBelow ls (n + 1)
+  ended-cut : {k : ℕ} → cutsHolder (getD ls n noLine) ≡ true → k ≡ slot (getD ls n noLine) 0 → set m (n * 8 + k) 1 ≡ endedBelow ls (n + 1)
   ended-cut e q = stamped-step n _ _ _ p (rw (e, q)) (rw e)
 
-  ended-kept : ends (getD ls n noLine) ≡ false → set m 128 0 ≡ endedBelow ls (n + 1)
+  ended-kept : cutsHolder (getD ls n noLine) ≡ false → set m 128 0 ≡ endedBelow ls (n + 1)
   ended-kept e = stamped-step n _ _ _ p (rw e) (rw e)
 
   pub ended-done : n ≡ 16 → m ≡ endedOf ls
@@ -40,23 +40,23 @@ module _ (ls : List LineRow) (n : ℕ) {m : List ℕ} (p : m ≡ endedBelow ls n
 -- a resource with a new grant, by its line before the tick
 module _ (figures seats : List ℕ) (ls : List LineRow) where
   abbrev pub newly : ℕ → Bool
-  newly q = ends (getD ls q noLine) && ltb 0 (stepped figures seats q (getD ls q noLine) .queued)
+  newly q = cutsHolder (getD ls q noLine) && ltb 0 (stepped figures seats q (getD ls q noLine) .queued)
 
   pub grants-done : (n : ℕ) {w : ℕ} → 16 ≤ length ls → n ≡ 16 → w ≡ wordBelow n newly → w ≡ grantWord ls (steppedLines figures seats ls)
   unfolding grantWord steppedLines
   grants-done n h e p =
       word-done 16 n newly e p
       ∙ word-same 16 _ _
-      (λ q l. ap (λ (x : LineRow). ends (getD ls q noLine) && ltb 0 (x .queued)) (sym (each-at noLine (λ r x. stepped figures seats r x) 16 q ls l h)))
+      (λ q l. ap (λ (x : LineRow). cutsHolder (getD ls q noLine) && ltb 0 (x .queued)) (sym (each-at noLine (λ r x. stepped figures seats r x) 16 q ls l h)))
 
   -- a turn of the loop over the lines: the line that it takes is as it was, and so are the bits that it adds
   module _ (n : ℕ) {m : List LineRow} (p : m ≡ eachBelow noLine (λ r l. stepped figures seats r l) n ls) where
     pub line-kept : getD m n noLine ≡ getD ls n noLine
     line-kept = ap (λ (x : List LineRow). getD x n noLine) p ∙ each-later _ _ n n _ (omega arith)
 
-    module _ {on : Bool} (e : on ≡ ends (getD m n noLine)) where
-      pub ends-kept : on ≡ ends (getD ls n noLine)
-      ends-kept = e ∙ ap (λ (x : LineRow). ends x) line-kept
+    module _ {on : Bool} (e : on ≡ cutsHolder (getD m n noLine)) where
+      pub ends-kept : on ≡ cutsHolder (getD ls n noLine)
+      ends-kept = e ∙ ap (λ (x : LineRow). cutsHolder x) line-kept
 
       pub kept-queued : on ≡ true → 1 ≤ getD ls n noLine .queued
       kept-queued t = cut-queued (getD ls n noLine) (sym ends-kept ∙ t)
@@ -68,7 +68,7 @@ module _ (figures seats : List ℕ) (ls : List LineRow) where
       pub mark-kept : {t : List ℕ} → t ≡ endedBelow ls n → on ≡ false → set t 128 0 ≡ endedBelow ls (n + 1)
       mark-kept f t = ended-kept ls n f (sym ends-kept ∙ t)
 
-      pub cut-bit : {b : ℕ} → b ≡ bitOf on n → b ≡ bitOf (ends (getD ls n noLine)) n
+      pub cut-bit : {b : ℕ} → b ≡ bitOf on n → b ≡ bitOf (cutsHolder (getD ls n noLine)) n
       cut-bit f = f ∙ ap (λ (x : Bool). bitOf x n) ends-kept
 
       pub grant-bit : {b : ℕ} {after : LineRow} → after ≡ stepped figures seats n (getD m n noLine) → b ≡ bitOf (on && ltb 0 (after .queued)) n → b ≡ bitOf (newly n) n
@@ -105,7 +105,7 @@ unfolding cutWord endedOf lowered fallen
 rows-kept keys ls ts low e = each-kept noStanding _ 64 ts (λ u l. rw (unmarked (getD keys u 0 / 64) (omega (arith, low u l))))
   where
     queue : ℕ → ℕ
-    queue q = cond (ends (getD ls q noLine)) (queueAt (slot (getD ls q noLine) 0) q) 128
+    queue q = cond (cutsHolder (getD ls q noLine)) (queueAt (slot (getD ls q noLine) 0) q) 128
 
     nothing : (b : Bool) → cond {A = ℕ} b 0 0 ≡ 0
     nothing true = refl
@@ -113,5 +113,5 @@ rows-kept keys ls ts low e = each-kept noStanding _ 64 ts (λ u l. rw (unmarked 
 
     unmarked : (x : ℕ) → x < 129 → getD (endedOf ls) x 0 ≡ 0
     unmarked x l =
-        stamped-at 16 129 queue (λ q. cond (ends (getD ls q noLine)) 1 0) (λ y. 0) x l (λ q b. rw (word-none 16 _ e q b))
+        stamped-at 16 129 queue (λ q. cond (cutsHolder (getD ls q noLine)) 1 0) (λ y. 0) x l (λ q b. rw (word-none 16 _ e q b))
         ∙ nothing (anyBelow 16 (λ q. eqb (queue q) x))

@@ -10,7 +10,7 @@ use Rattle.analysis_equations.specs.HoldTimes.{holdAt, budget}
 use Rattle.analysis_equations.proofs.Laws.{budget-holds}
 use Rattle.queue_rules.specs.Rules as Rules
 use Rattle.machine_rules.specs.Machine.{Lines, terms}
-use Rattle.queue_ranks.specs.Ranks.{listFrom, taskAt, queueFrom}
+use Rattle.queue_ranks.specs.Ranks.{listFrom, taskRanked, queueFrom}
 use Rattle.folds.proofs.Searches.{on-eq, on-le}
 use Rattle.queue_ranks.proofs.Ranked.{Ranked, Queued, task-rank, full}
 use Rattle.queue_ranks.proofs.Same.{same-queue, same-queued, same-timed, same-ranked}
@@ -115,23 +115,23 @@ module _ (p : Plan) (v : Valid p) (s : State) (w : Whole p s) {figures keys seat
 
   -- the first task of processor k afterwards, as the tables from before tell it
   seat-after : (k : ℕ) → k < 8
-      → getD seats (seat q k (cond (eqb k (slot l 0)) 1 0)) 0 ≡ cond (ltb (taskAt (p .tasks) (S k) 1) (p .tasks)) (taskAt (p .tasks) (S k) 1 + 1) 0
+      → getD seats (seat q k (cond (eqb k (slot l 0)) 1 0)) 0 ≡ cond (ltb (taskRanked (p .tasks) (S k) 1) (p .tasks)) (taskRanked (p .tasks) (S k) 1 + 1) 0
   seat-after k lk =
       rw (after-first x k)
-      (by-eq (λ (b : Bool). Sits b (cond b (taskAt (p .tasks) (R k) 2) (taskAt (p .tasks) (R k) 1))) k (slot l 0)
+      (by-eq (λ (b : Bool). Sits b (cond b (taskRanked (p .tasks) (R k) 2) (taskRanked (p .tasks) (R k) 1))) k (slot l 0)
       (λ e. seat-task p s w (t .seats-at) q k 1 lq lk (omega arith)) (λ n. seat-task p s w (t .seats-at) q k 0 lq lk (omega arith)))
     where
       Sits : Bool → ℕ → Type 0
       Sits b u = getD seats (seat q k (cond b 1 0)) 0 ≡ cond (ltb u (p .tasks)) (u + 1) 0
 
   pub first-after : (k : ℕ) → k < 8 → 1 ≤ maxBelow (p .tasks) (S k)
-      → getD seats (seat q k (cond (eqb k (slot l 0)) 1 0)) 0 ≡ taskAt (p .tasks) (S k) 1 + 1
+      → getD seats (seat q k (cond (eqb k (slot l 0)) 1 0)) 0 ≡ taskRanked (p .tasks) (S k) 1 + 1
   first-after k lk a = seat-after k lk ∙ rw (lt-ltb _ _ (full ranked k 1 (omega arith) a))
 
   hold-after : (k : ℕ) → k < 8 → 1 ≤ maxBelow (p .tasks) (S k)
-      → holdOf figures seats q k (cond (eqb k (slot l 0)) 1 0) ≡ holdAt p (taskAt (p .tasks) (S k) 1) q
+      → holdOf figures seats q k (cond (eqb k (slot l 0)) 1 0) ≡ holdAt p (taskRanked (p .tasks) (S k) 1) q
   hold-after k lk a =
-      let u : ℕ = taskAt (p .tasks) (S k) 1 in
+      let u : ℕ = taskRanked (p .tasks) (S k) 1 in
       let e : getD seats (seat q k (cond (eqb k (slot l 0)) 1 0)) 0 - 1 ≡ u = omega (arith, first-after k lk a) in
       rw e (t .figures-at .hold u q (omega (arith, full ranked k 1 (omega arith) a, v .tasks)) lq)
 
@@ -167,7 +167,7 @@ module _ (p : Plan) (v : Valid p) (s : State) (w : Whole p s) {figures keys seat
 
   -- the next task of the head's processor, as its second from before
   abbrev next : ℕ
-  next = taskAt (p .tasks) (S (slot l 0)) 1
+  next = taskRanked (p .tasks) (S (slot l 0)) 1
 
   head-low : slot l 0 < 8
   head-low = omega (arith, v .processors, h .queued .placed 0 (h .some))

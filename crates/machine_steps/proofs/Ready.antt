@@ -2,7 +2,7 @@
 use Rattle.folds.proofs.Ground.{ℕ, _+_, _<_, _≤_, cond, _≡_, _∙_, List, ltb, length, getD, arith, lt-ltb}
 use Rattle.plan_reading.specs.Plan.{Plan, Valid}
 use Rattle.analysis_hold_times.specs.Figures.{Figures}
-use Rattle.queue_ranks.specs.Ranks.{taskAt}
+use Rattle.queue_ranks.specs.Ranks.{taskRanked}
 use Rattle.queue_ranks.proofs.Ranked.{seated, sole, full}
 use Rattle.machine_state.specs.declared.State.{State}
 use Rattle.machine_state.specs.Shows.{lineAt, slot, rank}
@@ -21,20 +21,20 @@ pub record Tabled (p : Plan) (s : State) (figures keys seats : List ℕ) : Type 
 
 module _ (p : Plan) (s : State) (w : Whole p s) where
   -- the first task of a processor that is queued
-  pub first-task : (q i : ℕ) → q < 16 → i < lineAt s q .queued → taskAt (p .tasks) (rank p (s .tasks) q (slot (lineAt s q) i)) 1 < p .tasks
+  pub first-task : (q i : ℕ) → q < 16 → i < lineAt s q .queued → taskRanked (p .tasks) (rank p (s .tasks) q (slot (lineAt s q) i)) 1 < p .tasks
   first-task q i lq l = let g = w .lines q lq in full (g .ranked) (slot (lineAt s q) i) 1 (omega arith) (g .queued .served i l)
 
   module _ {seats : List ℕ} (t : Seats p (s .tasks) seats) where
     -- who sits where: the task of that rank
     pub seat-task : (q k j : ℕ) → q < 16 → k < 8 → j < 64
         → getD seats (seat q k j) 0
-        ≡ cond (ltb (taskAt (p .tasks) (rank p (s .tasks) q k) (j + 1)) (p .tasks)) (taskAt (p .tasks) (rank p (s .tasks) q k) (j + 1) + 1) 0
+        ≡ cond (ltb (taskRanked (p .tasks) (rank p (s .tasks) q k) (j + 1)) (p .tasks)) (taskRanked (p .tasks) (rank p (s .tasks) q k) (j + 1) + 1) 0
     seat-task q k j lq lk lj =
         t .at q k j lq lk lj ∙ seated (p .tasks) (rank p (s .tasks) q k) (sole (w .lines q lq .ranked) k) (j + 1) (omega arith)
 
     -- where there is one
-    pub seat-some : (q k j : ℕ) → q < 16 → k < 8 → j < 64 → taskAt (p .tasks) (rank p (s .tasks) q k) (j + 1) < p .tasks
-        → getD seats (seat q k j) 0 ≡ taskAt (p .tasks) (rank p (s .tasks) q k) (j + 1) + 1
+    pub seat-some : (q k j : ℕ) → q < 16 → k < 8 → j < 64 → taskRanked (p .tasks) (rank p (s .tasks) q k) (j + 1) < p .tasks
+        → getD seats (seat q k j) 0 ≡ taskRanked (p .tasks) (rank p (s .tasks) q k) (j + 1) + 1
     seat-some q k j lq lk lj l = seat-task q k j lq lk lj ∙ rw (lt-ltb _ _ l)
 
 module _ (p : Plan) (v : Valid p) (s : State) (w : Whole p s) {figures keys seats : List ℕ} (t : Tabled p s figures keys seats) where

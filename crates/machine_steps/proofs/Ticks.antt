@@ -18,7 +18,7 @@ use Rattle.machine_state.specs.declared.State.{State}
 use Rattle.machine_state.specs.Shows.{noLine, lineAt, slot, rank, shownLine, shows}
 use Rattle.machine_state.specs.Inner.{queueAt}
 use Rattle.machine_state.proofs.Good.{Good, Whole}
-use Rattle.machine_steps.specs.Inner.{passed, stepped, ends, endedOf, steppedLines, ticked, cutWord, grantWord}
+use Rattle.machine_steps.specs.Inner.{passed, stepped, cutsHolder, endedOf, steppedLines, tickedBy, cutWord, grantWord}
 use Rattle.machine_steps.proofs.Ready.{Tabled}
 use Rattle.machine_steps.proofs.Falling.{Ended, ranks-leave, ranks-stay, rows-after}
 use Rattle.machine_steps.proofs.Passed.{Shown, stays-shown, past-shows, all-shown, Held, passed-shown}
@@ -28,16 +28,16 @@ on-test A true f g = f refl
 on-test A false f g = g refl
 
 -- a line that a tick does not cut, and one that it does
-ends-free : (l : LineRow) → l .queued ≡ 0 → ends l ≡ false
+ends-free : (l : LineRow) → l .queued ≡ 0 → cutsHolder l ≡ false
 ends-free l e = rw e
 
-ends-on : (l : LineRow) → l .«hold_left» ≢ 1 → ends l ≡ false
+ends-on : (l : LineRow) → l .«hold_left» ≢ 1 → cutsHolder l ≡ false
 ends-on l n = rw (ne-eqb (l .«hold_left») 1 n) (and-false (ltb 0 (l .queued)))
 
-ends-cut : (l : LineRow) → 1 ≤ l .queued → l .«hold_left» ≡ 1 → ends l ≡ true
+ends-cut : (l : LineRow) → 1 ≤ l .queued → l .«hold_left» ≡ 1 → cutsHolder l ≡ true
 ends-cut l a e = rw (lt-ltb 0 (l .queued) a) (eq-eqb (l .«hold_left») 1 e)
 
-ends-held : (l : LineRow) → ends l ≡ true → 1 ≤ l .queued
+ends-held : (l : LineRow) → cutsHolder l ≡ true → 1 ≤ l .queued
 ends-held l e = ltb-true 0 (l .queued) (and-parts (ltb 0 (l .queued)) (eqb (l .«hold_left») 1) e .0)
 
 -- what stands for a queue in the table of those that lose their first
@@ -47,26 +47,26 @@ mark b = cond b 1 0
 module _ (p : Plan) (v : Valid p) (s : State) (w : Whole p s) where
   -- the queue that the line of q loses its first from
   abbrev key : ℕ → ℕ
-  key q = cond (ends (lineAt s q)) (queueAt (slot (lineAt s q) 0) q) 128
+  key q = cond (cutsHolder (lineAt s q)) (queueAt (slot (lineAt s q) 0) q) 128
 
-  head-low : (q : ℕ) → q < 16 → ends (lineAt s q) ≡ true → slot (lineAt s q) 0 < 8
+  head-low : (q : ℕ) → q < 16 → cutsHolder (lineAt s q) ≡ true → slot (lineAt s q) 0 < 8
   head-low q lq e = omega (arith, v .processors, w .lines q lq .queued .placed 0 (ends-held (lineAt s q) e))
 
-  key-mark : (q : ℕ) → q < 16 → mark (ends (lineAt s q)) ≡ mark (ltb (key q) 128)
+  key-mark : (q : ℕ) → q < 16 → mark (cutsHolder (lineAt s q)) ≡ mark (ltb (key q) 128)
   key-mark q lq =
-      on-test (mark (ends (lineAt s q)) ≡ mark (ltb (key q) 128)) (ends (lineAt s q))
+      on-test (mark (cutsHolder (lineAt s q)) ≡ mark (ltb (key q) 128)) (cutsHolder (lineAt s q))
       (λ e. rw (e, lt-ltb (queueAt (slot (lineAt s q) 0) q) 128 (omega (arith, head-low q lq e)))) (λ e. rw e)
 
-  key-at : (k q : ℕ) → k < 8 → q < 16 → anyBelow 16 (λ r. eqb (key r) (queueAt k q)) ≡ (ends (lineAt s q) && eqb k (slot (lineAt s q) 0))
+  key-at : (k q : ℕ) → k < 8 → q < 16 → anyBelow 16 (λ r. eqb (key r) (queueAt k q)) ≡ (cutsHolder (lineAt s q) && eqb k (slot (lineAt s q) 0))
   key-at k q lk lq =
       same-test _ _
       (λ a. any-out 16 (λ r. eqb (key r) (queueAt k q)) _ a (λ r lr e. out r lr (eqb-true _ _ e)))
-      (λ a. let b = and-parts (ends (lineAt s q)) (eqb k (slot (lineAt s q) 0)) a in
+      (λ a. let b = and-parts (cutsHolder (lineAt s q)) (eqb k (slot (lineAt s q) 0)) a in
       any-at 16 q (λ r. eqb (key r) (queueAt k q)) lq (eq-eqb (key q) (queueAt k q) (rw (b .0, eqb-true k (slot (lineAt s q) 0) (b .1)))))
     where
-      out : (r : ℕ) → r < 16 → key r ≡ queueAt k q → (ends (lineAt s q) && eqb k (slot (lineAt s q) 0)) ≡ true
+      out : (r : ℕ) → r < 16 → key r ≡ queueAt k q → (cutsHolder (lineAt s q) && eqb k (slot (lineAt s q) 0)) ≡ true
       out r lr e =
-          on-test ((ends (lineAt s q) && eqb k (slot (lineAt s q) 0)) ≡ true) (ends (lineAt s r))
+          on-test ((cutsHolder (lineAt s q) && eqb k (slot (lineAt s q) 0)) ≡ true) (cutsHolder (lineAt s r))
           (λ c. let f : queueAt (slot (lineAt s r) 0) r ≡ queueAt k q = rw c at e in
           let low : slot (lineAt s r) 0 < 8 = head-low r lr c in
           let i : r ≡ q = omega arith in
@@ -74,7 +74,7 @@ module _ (p : Plan) (v : Valid p) (s : State) (w : Whole p s) where
           rw (← i, c) (eq-eqb k _ (sym h)))
           (λ c. let f : 128 ≡ queueAt k q = rw c at e in let bad : ⊥ = omega arith in absurd bad)
 
-  ended : Ended s (λ q. ends (lineAt s q)) (endedOf (s .lines))
+  ended : Ended s (λ q. cutsHolder (lineAt s q)) (endedOf (s .lines))
   unfolding endedOf
   ended = record {
     at = λ k q lk lq. stamped (queueAt k q) (omega arith) ∙ rw (lt-ltb (queueAt k q) 128 (omega arith), key-at k q lk lq);
@@ -82,7 +82,7 @@ module _ (p : Plan) (v : Valid p) (s : State) (w : Whole p s) where
   }
     where
       stamped : (x : ℕ) → x < 129 → getD (endedOf (s .lines)) x 0 ≡ cond (anyBelow 16 (λ r. eqb (key r) x)) (mark (ltb x 128)) 0
-      stamped x l = stamped-at 16 129 key (λ q. mark (ends (lineAt s q))) (λ y. mark (ltb y 128)) x l key-mark
+      stamped x l = stamped-at 16 129 key (λ q. mark (cutsHolder (lineAt s q))) (λ y. mark (ltb y 128)) x l key-mark
 
       nothing : (b : Bool) → cond b (mark (ltb 128 128)) 0 ≡ 0
       nothing true = refl
@@ -90,7 +90,7 @@ module _ (p : Plan) (v : Valid p) (s : State) (w : Whole p s) where
 
 module _ (p : Plan) (v : Valid p) (s : State) (w : Whole p s) {figures keys seats : List ℕ} (t : Tabled p s figures keys seats) where
   abbrev T : State
-  T = ticked figures keys seats s
+  T = tickedBy figures keys seats s
 
   -- ── the line of q ──
   module _ (q : ℕ) (lq : q < 16) where
@@ -161,10 +161,10 @@ module _ (p : Plan) (v : Valid p) (s : State) (w : Whole p s) {figures keys seat
         (λ e. rw (ne-eqb (l .queued) 0 n, eq-eqb (l .«hold_left») 1 e) (tick-cut (omega arith) e))
         (λ m. rw (ne-eqb (l .queued) 0 n, ne-eqb (l .«hold_left») 1 m) (tick-on (omega arith) m))))
 
-  pub ticked-whole : Whole p (ticked figures keys seats s)
+  pub ticked-whole : Whole p (tickedBy figures keys seats s)
   ticked-whole = record { rows = rows-after p v s w t (ended p v s w); lines = λ q lq. ticked-shown q lq .good }
 
-  pub ticked-shows : shows p (ticked figures keys seats s) ≡ record { lines = λ q. Rules.ticked (terms p q) (shows p s .lines q) }
+  pub ticked-shows : shows p (tickedBy figures keys seats s) ≡ record { lines = λ q. Rules.ticked (terms p q) (shows p s .lines q) }
   unfolding steppedLines
   ticked-shows =
       all-shown p T (λ q. Rules.ticked (terms p q) (shows p s .lines q))
@@ -185,7 +185,7 @@ held-line n R zero g h b = refl
 held-line n R (suc c) g h b = lt-ltb 0 (suc c) (omega arith)
 
 module _ (p : Plan) (v : Valid p) (s : State) (w : Whole p s) {figures keys seats : List ℕ} (t : Tabled p s figures keys seats) where
-  ends-cuts : (q : ℕ) → q < 16 → ends (lineAt s q) ≡ Rules.cut (shows p s .lines q)
+  ends-cuts : (q : ℕ) → q < 16 → cutsHolder (lineAt s q) ≡ Rules.cut (shows p s .lines q)
   unfolding shows
   ends-cuts q lq =
       let l : LineRow = lineAt s q in
@@ -193,14 +193,14 @@ module _ (p : Plan) (v : Valid p) (s : State) (w : Whole p s) {figures keys seat
 
   pub cut-word : cutWord (s .lines) ≡ wordBelow 16 (λ q. Rules.cut (shows p s .lines q))
   unfolding cutWord
-  cut-word = word-same 16 (λ q. ends (lineAt s q)) (λ q. Rules.cut (shows p s .lines q)) ends-cuts
+  cut-word = word-same 16 (λ q. cutsHolder (lineAt s q)) (λ q. Rules.cut (shows p s .lines q)) ends-cuts
 
-  pub grant-word : grantWord (s .lines) (ticked figures keys seats s .lines) ≡ wordBelow 16 (regranted p (shows p s))
+  pub grant-word : grantWord (s .lines) (tickedBy figures keys seats s .lines) ≡ wordBelow 16 (regranted p (shows p s))
   unfolding grantWord
   grant-word = word-same 16 _ (regranted p (shows p s)) (λ q lq. ap₂ _&&_ (ends-cuts q lq) (holding q lq))
     where
-      holding : (q : ℕ) → q < 16 → ltb 0 (lineAt (ticked figures keys seats s) q .queued) ≡ held (Rules.ticked (terms p q) (shows p s .lines q))
+      holding : (q : ℕ) → q < 16 → ltb 0 (lineAt (tickedBy figures keys seats s) q .queued) ≡ held (Rules.ticked (terms p q) (shows p s .lines q))
       holding q lq =
-          let l : LineRow = lineAt (ticked figures keys seats s) q in
-          held-line (p .tasks) (rank p (ticked figures keys seats s .tasks) q) (l .queued) (slot l) (l .«hold_left») (l .«budget_left»)
+          let l : LineRow = lineAt (tickedBy figures keys seats s) q in
+          held-line (p .tasks) (rank p (tickedBy figures keys seats s .tasks) q) (l .queued) (slot l) (l .«hold_left») (l .«budget_left»)
           ∙ ap held (ticked-shown p v s w t q lq .shows)

@@ -195,8 +195,8 @@ module _ (figures seats : List ℕ) (q : ℕ) where
       }))
 
 -- the state once the holder of q left
-abbrev pub left : (figures keys seats : List ℕ) → ℕ → State → State
-left figures keys seats q s =
+abbrev pub leftBy : (figures keys seats : List ℕ) → ℕ → State → State
+leftBy figures keys seats q s =
     record {
       lines = set (s .lines) q (passed figures seats q (lineAt s q));
       tasks = lowered keys (set (replicate 129 0) (queueAt (slot (lineAt s q) 0) q) 1) (s .tasks);
@@ -205,22 +205,22 @@ left figures keys seats q s =
 -- ── a tick ──
 
 -- a tick cuts the holder
-abbrev pub ends : LineRow → Bool
-ends l = ltb 0 (l .queued) && eqb (l .«hold_left») 1
+abbrev pub cutsHolder : LineRow → Bool
+cutsHolder l = ltb 0 (l .queued) && eqb (l .«hold_left») 1
 
 -- the queues that lose their first in a tick; 128 is no queue
 unfoldable pub endedOf : List LineRow → List ℕ
 endedOf ls =
-    stampedBelow 16 (λ q. cond (ends (getD ls q noLine)) (queueAt (slot (getD ls q noLine) 0) q) 128)
-    (λ q. cond (ends (getD ls q noLine)) 1 0) (replicate 129 0)
+    stampedBelow 16 (λ q. cond (cutsHolder (getD ls q noLine)) (queueAt (slot (getD ls q noLine) 0) q) 128)
+    (λ q. cond (cutsHolder (getD ls q noLine)) 1 0) (replicate 129 0)
 
 -- the lines after a tick
 unfoldable pub steppedLines : (figures seats : List ℕ) → List LineRow → List LineRow
 steppedLines figures seats ls = eachBelow noLine (λ q l. stepped figures seats q l) 16 ls
 
 -- and the state
-abbrev pub ticked : (figures keys seats : List ℕ) → State → State
-ticked figures keys seats s =
+abbrev pub tickedBy : (figures keys seats : List ℕ) → State → State
+tickedBy figures keys seats s =
     record {
       lines = steppedLines figures seats (s .lines);
       tasks = lowered keys (endedOf (s .lines)) (s .tasks);
@@ -228,11 +228,11 @@ ticked figures keys seats s =
 
 -- the resources cut
 unfoldable pub cutWord : List LineRow → ℕ
-cutWord ls = wordBelow 16 (λ q. ends (getD ls q noLine))
+cutWord ls = wordBelow 16 (λ q. cutsHolder (getD ls q noLine))
 
 -- those of them with a new grant
 unfoldable pub grantWord : List LineRow → List LineRow → ℕ
-grantWord before after = wordBelow 16 (λ q. ends (getD before q noLine) && ltb 0 (getD after q noLine .queued))
+grantWord before after = wordBelow 16 (λ q. cutsHolder (getD before q noLine) && ltb 0 (getD after q noLine .queued))
 
 -- ── what the functions give ──
 
@@ -252,6 +252,6 @@ pub record SteppedOf (figures seats : List ℕ) (ls : List LineRow) (r : Stepped
 
 -- the state after it
 pub record TickedOf (figures keys seats : List ℕ) (s : State) (r : Ticked) : Type 0 where
-  pub state : r .state ≡ ticked figures keys seats s
+  pub state : r .state ≡ tickedBy figures keys seats s
   pub cuts : r .cuts ≡ cutWord (s .lines)
   pub grants : r .grants ≡ grantWord (s .lines) (r .state .lines)

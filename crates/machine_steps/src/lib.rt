@@ -11,7 +11,7 @@ ghost use lib.ListN.{length};
 ghost use Rattle.folds.specs.Words.{bitOf};
 ghost use Rattle.machine_state.specs.Shows.{lineAt};
 ghost use Rattle.machine_state.specs.Inner.{SeatSized, Sized};
-ghost use Rattle.machine_steps.specs.Inner.{pushed, joinedBy, fallen, lowered, holdOf, begun, passed, stepped, left};
+ghost use Rattle.machine_steps.specs.Inner.{pushed, joinedBy, fallen, lowered, holdOf, begun, passed, stepped, leftBy};
 ghost use Rattle.machine_steps.specs.Inner.{QueueOf, PlaceTaken, Joining, Lowering, Beginning, Passing, Stepping, Leaving, AllRunning};
 ghost use Rattle.machine_steps.specs.Inner.{AheadOf, SteppedOf, TickedOf};
 
@@ -194,7 +194,7 @@ fn pass(line: LineRow, figures: &[u16], seats: &[u8], q: usize) -> LineRow
 // The holder of q leaves.
 pub fn leave(mut state: State, figures: &[u16], keys: &[u16], seats: &[u8], q: usize) -> State
     requires { ⌜ Leaving (now figures) (now keys) (now seats) q (lineAt state q) ⌝ }
-    ensures { λ r. ⌜ r ≡ left (now (figures .entry)) (now (keys .entry)) (now (seats .entry)) q state ⌝ }
+    ensures { λ r. ⌜ r ≡ leftBy (now (figures .entry)) (now (keys .entry)) (now (seats .entry)) q state ⌝ }
 {
     let line = state.lines[q];
     let queue = line.queue;
@@ -230,7 +230,7 @@ fn step(line: LineRow, figures: &[u16], seats: &[u8], q: usize) -> LineRow
 }
 
 // Whether a tick cuts the holder of a line.
-fn ends(line: LineRow) -> bool
+fn cuts_holder(line: LineRow) -> bool
     ensures { λ r. ⌜ r ≡ (ltb 0 (line .queued) && eqb (line .«hold_left») 1) ⌝ }
 {
     (0 < line.queued) & (line.hold_left == 1)
@@ -260,7 +260,7 @@ fn step_lines(lines: [LineRow; 16], figures: &[u16], seats: &[u8]) -> Stepped
     while q < 16 {
         let line = next[q];
         let queue = line.queue;
-        let on = ends(line);
+        let on = cuts_holder(line);
         let after = step(line, figures, seats, q);
         next[q] = after;
         cuts += bit(on, q);

@@ -12,7 +12,7 @@ use Rattle.plan.specs.declared.ReadAnswer.{ReadAnswer}
 use Rattle.plan.specs.declared.ReadAnswer.the-variants.{Accepted, Refused}
 use Rattle.plan.specs.Acceptance as acceptance
 use Rattle.plan.specs.Acceptance.{refusal}
-use Rattle.plan.specs.Reading.{given, reading, refusedWith, countValues, told, readTold, nameRefusal}
+use Rattle.plan.specs.Reading.{given, reading, refusedWith, countValues, readOutcome, readingOutcome, nameRefusal}
 
 -- a plan that is not refused passed checks 1 to 9
 pub none-failed : (f : List ℕ) → refusal f ≡ 0 → checkCode f ≡ 0
@@ -51,11 +51,11 @@ number-in : ReadAnswer → ℕ
 number-in (Accepted c) = 0
 number-in (Refused k) = suc k
 
-pub given-told : (f : List ℕ) → told (reading f .answer) ≡ readTold f
+pub given-told : (f : List ℕ) → readOutcome (reading f .answer) ≡ readingOutcome f
 unfolding given
 given-told f =
     by-eq
-    (λ (b : Bool). told ((cond b (record { answer = Accepted (countsOf f); rows = rowsOf f }) (refusedWith (refusal f))) .answer) ≡ record { number = refusal f; values = cond b (countValues (countsOf f)) [] })
+    (λ (b : Bool). readOutcome ((cond b (record { answer = Accepted (countsOf f); rows = rowsOf f }) (refusedWith (refusal f))) .answer) ≡ record { number = refusal f; values = cond b (countValues (countsOf f)) [] })
     (refusal f) 0 (λ q. rw q) (λ d. refl)
 
 pub got-plan : (f : List ℕ) (c : Counts) → reading f .answer ≡ Accepted c → Got f c

@@ -39,13 +39,13 @@ abbrev pub countValues : Counts → List ℕ
 countValues c = c .processors ∷ c .tasks ∷ c .resources ∷ c .sections ∷ []
 
 -- document 01's number and values for each case of the answer: a plan that is read has no refusal, and the values of its counts
-abbrev pub told : ReadAnswer → Outcome
-told (Accepted c) = record { number = 0; values = countValues c }
-told (Refused code) = record { number = code; values = [] }
+abbrev pub readOutcome : ReadAnswer → Outcome
+readOutcome (Accepted c) = record { number = 0; values = countValues c }
+readOutcome (Refused code) = record { number = code; values = [] }
 
 -- what reading a file tells
-abbrev pub readTold : List ℕ → Outcome
-readTold f = outcome (refusal f) (countValues (countsOf f))
+abbrev pub readingOutcome : List ℕ → Outcome
+readingOutcome f = outcome (refusal f) (countValues (countsOf f))
 
 -- Name: 1 to 9, then 12, resource ≥ R
 unfoldable pub nameRefusal : List ℕ → ℕ → ℕ

@@ -5,7 +5,7 @@ ghost use mathlib.Core.Path.{_≡_};
 ghost use Prim.Native.Nat.{_≤_};
 ghost use lib.ListN.{length};
 ghost use Rattle.plan.specs.Acceptance.{refusal};
-ghost use Rattle.plan.specs.Reading.{reading, told, readTold, nameRefusal, nameOf, refusedWith, planLength};
+ghost use Rattle.plan.specs.Reading.{reading, readOutcome, readingOutcome, nameRefusal, nameOf, refusedWith, planLength};
 
 // A read plan's counts, or why it is refused.
 pub enum ReadAnswer {
@@ -45,7 +45,7 @@ pub fn refused(code: u8) -> Reading
 // The plan in a file of any length, or why it is refused.
 pub fn read(file: &[u8]) -> Reading
     ensures { λ r. ⌜ r ≡ reading (now (file .entry)) ⌝ }
-    ensures { λ r. ⌜ told (r .answer) ≡ readTold (now (file .entry)) ⌝ }
+    ensures { λ r. ⌜ readOutcome (r .answer) ≡ readingOutcome (now (file .entry)) ⌝ }
 {
     let code = check(file);
     if code != 0 {
@@ -60,7 +60,7 @@ pub fn read(file: &[u8]) -> Reading
 
 // The number that an answer tells: the refusal, 0 for a plan that is read.
 pub fn number(answer: ReadAnswer) -> u8
-    ensures { λ r. ⌜ r ≡ told answer .number ⌝ }
+    ensures { λ r. ⌜ r ≡ readOutcome answer .number ⌝ }
 {
     match answer {
         ReadAnswer::Accepted(_) => 0,

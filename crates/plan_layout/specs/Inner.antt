@@ -15,16 +15,16 @@ use Rattle.plan_layout.specs.Layout.{laid, taskAt, startAt, lengthAt, re
 use Rattle.plan_layout.specs.declared.ResourceRow.{ResourceRow}
 
 -- the bytes of a task's row
-abbrev pub taskRow : ℕ
-taskRow = width (formatOf edition1 .task)
+abbrev pub taskWidth : ℕ
+taskWidth = width (formatOf edition1 .task)
 
 -- of a resource's
-abbrev pub resourceRow : ℕ
-resourceRow = width (formatOf edition1 .resource)
+abbrev pub resourceWidth : ℕ
+resourceWidth = width (formatOf edition1 .resource)
 
 -- of a section's
-abbrev pub sectionRow : ℕ
-sectionRow = width (formatOf edition1 .section)
+abbrev pub sectionWidth : ℕ
+sectionWidth = width (formatOf edition1 .section)
 
 -- 5, then 6, of the part that begins at the task rows: nothing else is asked
 unfoldable pub taskCode : Edition → ℕ → ℕ → List ℕ → ℕ
@@ -57,18 +57,18 @@ pub record ResourceRead (e : Edition) (part : List ℕ) (i : ℕ) (row : Resourc
 pub record TasksFit (n p : ℕ) (part : List ℕ) : Type 0 where
   pub tasks : n ≤ mostTasks
   pub processors : p ≤ mostProcessors
-  pub inside : n * taskRow ≤ length part
+  pub inside : n * taskWidth ≤ length part
 
 -- n task rows and s section rows lie in their parts
 pub record SectionsFit (n s : ℕ) (rows part : List ℕ) : Type 0 where
   pub tasks : n ≤ mostTasks
   pub sections : s ≤ mostSections
-  pub tasks-inside : n * taskRow ≤ length rows
-  pub sections-inside : s * sectionRow ≤ length part
+  pub tasks-inside : n * taskWidth ≤ length rows
+  pub sections-inside : s * sectionWidth ≤ length part
 
 -- the rows of a plan of these counts lie in the parts for tasks, resources and sections
 pub record PartsFit (c : Counts) (x y z : List ℕ) : Type 0 where
   pub counts : countsOk c ≡ true
-  pub tasks : c .tasks * taskRow ≤ length x
-  pub resources : c .resources * resourceRow ≤ length y
-  pub sections : c .sections * sectionRow ≤ length z
+  pub tasks : c .tasks * taskWidth ≤ length x
+  pub resources : c .resources * resourceWidth ≤ length y
+  pub sections : c .sections * sectionWidth ≤ length z

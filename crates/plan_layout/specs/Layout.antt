@@ -176,8 +176,8 @@ abbrev pub editionIn : List ℕ → Edition
 editionIn f = laid (countsOf f)
 
 -- a file's task rows
-abbrev pub tasksOf : List ℕ → List TaskRow
-tasksOf f = taskRows (editionIn f) (countsOf f .tasks) (drop (tasksAt (countsOf f)) f)
+abbrev pub taskRowsOf : List ℕ → List TaskRow
+taskRowsOf f = taskRows (editionIn f) (countsOf f .tasks) (drop (tasksAt (countsOf f)) f)
 
 -- a file's name lengths
 abbrev pub lengthsOf : List ℕ → List ℕ
@@ -189,7 +189,7 @@ sectionsOf f = sectionRows (editionIn f) (countsOf f .sections) (drop (sectionsA
 
 -- all rows of a file
 abbrev pub rowsOf : List ℕ → Rows
-rowsOf f = record { tasks = tasksOf f; lengths = lengthsOf f; sections = sectionsOf f }
+rowsOf f = record { tasks = taskRowsOf f; lengths = lengthsOf f; sections = sectionsOf f }
 
 -- a file's names: its last part
 abbrev pub namesOf : List ℕ → List ℕ

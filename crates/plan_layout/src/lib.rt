@@ -13,7 +13,7 @@ ghost use Rattle.plan_rules.specs.Rules.{countsOk, noTask, noSection};
 ghost use Rattle.plan_layout.specs.Editions.{edition1, formatOf, known, headerLength};
 ghost use Rattle.plan_layout.specs.Layout.{countsOf, lengthSaid, offsetsOk, resourcesAt, sectionsAt, namesAt, taskAt, taskSpare, sectionAt};
 ghost use Rattle.plan_layout.specs.Layout.{taskRows, lengthRows, sectionRows, lengthRowsOk, sectionRowsOk, partsCode, fileCode};
-ghost use Rattle.plan_layout.specs.Inner.{taskRow, resourceRow, sectionRow, taskCode, sumsFit, sectionCode, restCode};
+ghost use Rattle.plan_layout.specs.Inner.{taskWidth, resourceWidth, sectionWidth, taskCode, sumsFit, sectionCode, restCode};
 ghost use Rattle.plan_layout.specs.Inner.{ResourceRead, TasksFit, SectionsFit, PartsFit};
 
 // The edition that is read and written, the bytes of its header and of its rows, and the greatest tag that a row has room for.
@@ -155,7 +155,7 @@ pub fn no_section() -> SectionRow
 
 // Task row i of the part that begins at the task rows.
 pub fn task_at(part: &[u8], i: usize) -> TaskRow
-    requires { ⌜ (i < mostTasks) × (i * taskRow + taskRow ≤ length (now part)) ⌝ }
+    requires { ⌜ (i < mostTasks) × (i * taskWidth + taskWidth ≤ length (now part)) ⌝ }
     ensures { λ r. ⌜ (r ≡ taskAt edition1 (now (part .entry)) i) × (r .tag ≤ formatOf edition1 .mostTag) ⌝ }
 {
     let at = i * TASK_ROW;
@@ -170,7 +170,7 @@ pub fn task_at(part: &[u8], i: usize) -> TaskRow
 
 // The spare byte of it.
 fn task_spare(part: &[u8], i: usize) -> u8
-    requires { ⌜ (i < mostTasks) × (i * taskRow + taskRow ≤ length (now part)) ⌝ }
+    requires { ⌜ (i < mostTasks) × (i * taskWidth + taskWidth ≤ length (now part)) ⌝ }
     ensures { λ r. ⌜ r ≡ taskSpare edition1 (now (part .entry)) i ⌝ }
 {
     part[i * TASK_ROW + 3]
@@ -210,7 +210,7 @@ fn task_code(part: &[u8], n: usize, p: u8) -> u8
 
 // The task rows of that part, by value.
 pub fn load_tasks(part: &[u8], n: usize) -> [TaskRow; sizes::TASKS]
-    requires { ⌜ (n ≤ mostTasks) × (n * taskRow ≤ length (now part)) ⌝ }
+    requires { ⌜ (n ≤ mostTasks) × (n * taskWidth ≤ length (now part)) ⌝ }
     ensures { λ r. ⌜ r ≡ taskRows edition1 n (now (part .entry)) ⌝ }
 {
     let none = no_task();
@@ -226,7 +226,7 @@ pub fn load_tasks(part: &[u8], n: usize) -> [TaskRow; sizes::TASKS]
 
 // Resource row i of the part that begins at the resource rows.
 pub fn resource_at(part: &[u8], i: usize) -> ResourceRow
-    requires { ⌜ (i < mostResources) × (i * resourceRow + resourceRow ≤ length (now part)) ⌝ }
+    requires { ⌜ (i < mostResources) × (i * resourceWidth + resourceWidth ≤ length (now part)) ⌝ }
     ensures { λ r. ⌜ ResourceRead edition1 (now (part .entry)) i r ⌝ }
 {
     let at = i * RESOURCE_ROW;
@@ -239,7 +239,7 @@ pub fn resource_at(part: &[u8], i: usize) -> ResourceRow
 
 // 7: the lengths in the resource rows, and whether each name starts where the last ended and each spare byte is 0.
 pub fn load_lengths(part: &[u8], r: usize) -> LoadedLengths
-    requires { ⌜ (r ≤ mostResources) × (r * resourceRow ≤ length (now part)) ⌝ }
+    requires { ⌜ (r ≤ mostResources) × (r * resourceWidth ≤ length (now part)) ⌝ }
     ensures { λ l. ⌜ (l .ok ≡ lengthRowsOk edition1 r (now (part .entry))) × (l .lengths ≡ lengthRows edition1 r (now (part .entry))) ⌝ }
 {
     let mut lengths = [0u8; sizes::RESOURCES];
@@ -258,7 +258,7 @@ pub fn load_lengths(part: &[u8], r: usize) -> LoadedLengths
 
 // Section row i of the part that begins at the section rows.
 pub fn section_at(part: &[u8], i: usize) -> SectionRow
-    requires { ⌜ (i < mostSections) × (i * sectionRow + sectionRow ≤ length (now part)) ⌝ }
+    requires { ⌜ (i < mostSections) × (i * sectionWidth + sectionWidth ≤ length (now part)) ⌝ }
     ensures { λ r. ⌜ r ≡ sectionAt edition1 (now (part .entry)) i ⌝ }
 {
     let at = i * SECTION_ROW;
@@ -271,7 +271,7 @@ pub fn section_at(part: &[u8], i: usize) -> SectionRow
 
 // Whether the sum of each of the n tasks is at most its execution time, in the part that begins at the task rows.
 fn sums_fit(tasks: &[u8], sums: [u32; sizes::TASKS], n: usize) -> bool
-    requires { ⌜ (n ≤ mostTasks) × (n * taskRow ≤ length (now tasks)) ⌝ }
+    requires { ⌜ (n ≤ mostTasks) × (n * taskWidth ≤ length (now tasks)) ⌝ }
     ensures { λ r. ⌜ r ≡ sumsFit edition1 n sums (now (tasks .entry)) ⌝ }
 {
     let mut ok = true;
@@ -287,7 +287,7 @@ fn sums_fit(tasks: &[u8], sums: [u32; sizes::TASKS], n: usize) -> bool
 
 // Whether each section row of the part that begins at them keeps its rule.
 fn section_rows_ok(part: &[u8], s: usize, n: u8, r: u8) -> bool
-    requires { ⌜ (s ≤ mostSections) × (s * sectionRow ≤ length (now part)) ⌝ }
+    requires { ⌜ (s ≤ mostSections) × (s * sectionWidth ≤ length (now part)) ⌝ }
     ensures { λ b. ⌜ b ≡ sectionRowsOk edition1 s n r (now (part .entry)) ⌝ }
 {
     let mut ok = true;
@@ -326,7 +326,7 @@ fn section_code(tasks: &[u8], part: &[u8], s: usize, n: u8, r: u8) -> u8
 
 // The section rows of that part, by value.
 pub fn load_sections(part: &[u8], s: usize) -> [SectionRow; sizes::SECTIONS]
-    requires { ⌜ (s ≤ mostSections) × (s * sectionRow ≤ length (now part)) ⌝ }
+    requires { ⌜ (s ≤ mostSections) × (s * sectionWidth ≤ length (now part)) ⌝ }
     ensures { λ l. ⌜ l ≡ sectionRows edition1 s (now (part .entry)) ⌝ }
 {
     let none = no_section();

@@ -10,7 +10,7 @@ use Rattle.plan_rules.specs.declared.Counts.{Counts}
 use Rattle.plan_rules.specs.declared.TaskRow.{TaskRow}
 use Rattle.sizes.specs.Sizes.{mostNameBytes}
 use Rattle.plan_layout.specs.Editions.{formatOf, known, headerLength}
-use Rattle.plan_layout.specs.Layout.{headerIn, countsOf, editionIn, lengthSaid, tasksAt, resourcesAt, sectionsAt, namesAt, offsetsOk, taskAt, taskSpare, sectionAt, taskRowsOk, lengthRowsOk, sectionRowsOk, partsTests, partsCode, tasksOf, lengthsOf, sectionsOf, namesOf, startAt, lengthAt, resourceSpare}
+use Rattle.plan_layout.specs.Layout.{headerIn, countsOf, editionIn, lengthSaid, tasksAt, resourcesAt, sectionsAt, namesAt, offsetsOk, taskAt, taskSpare, sectionAt, taskRowsOk, lengthRowsOk, sectionRowsOk, partsTests, partsCode, taskRowsOf, lengthsOf, sectionsOf, namesOf, startAt, lengthAt, resourceSpare}
 use Rattle.plan_rules.proofs.Laws.{InRange, counts-facts, task-facts, section-facts, length-facts, tests-facts}
 use Rattle.plan_layout.proofs.Laws.{task-read, length-read, start-read, task-fields}
 use Rattle.plan_reading.specs.Plan.{planOf, namePart, Checked, TaskFits, SectionFits, Valid}
@@ -76,11 +76,11 @@ header-facts f e =
 pub record Whole (f : List ℕ) : Type 0 where
   pub header : Header f
   pub tasks : taskRowsOk (editionIn f) (countsOf f .tasks) (countsOf f .processors) (drop (tasksAt (countsOf f)) f) ≡ true
-  pub unique : uniqueOk (countsOf f .tasks) (tasksOf f) ≡ true
+  pub unique : uniqueOk (countsOf f .tasks) (taskRowsOf f) ≡ true
   pub starts : lengthRowsOk (editionIn f) (countsOf f .resources) (drop (resourcesAt (countsOf f)) f) ≡ true
   pub names : namesOk (countsOf f .resources) (lengthsOf f) (namesOf f) ≡ true
   pub sections : sectionRowsOk (editionIn f) (countsOf f .sections) (countsOf f .tasks) (countsOf f .resources) (drop (sectionsAt (countsOf f)) f) ≡ true
-  pub sums : sumsOk (countsOf f .tasks) (countsOf f .sections) (tasksOf f) (sectionsOf f) ≡ true
+  pub sums : sumsOk (countsOf f .tasks) (countsOf f .sections) (taskRowsOf f) (sectionsOf f) ≡ true
 
 pub header-clear : (f : List ℕ) → checkCode f ≡ 0 → headerCode f ≡ 0
 unfolding checkCode
@@ -230,7 +230,7 @@ valid-plan f h =
     -- no earlier task has both, by the check of unique rows
     earlier : (i j : ℕ) → i < c .tasks → j < i → task i .processor ≡ task j .processor → task i .priority ≡ task j .priority → ⊥
     earlier i j l m p q =
-        let rows : List TaskRow = tasksOf f in
+        let rows : List TaskRow = taskRowsOf f in
         let at : taskOf rows i ≡ task i = task-read (editionIn f) (c .tasks) part i l (r .tasks) in
         let before : taskOf rows j ≡ task j = task-read (editionIn f) (c .tasks) part j (omega arith) (r .tasks) in
         let new : priorityNew rows i ≡ true = and-parts (tagNew rows i) (priorityNew rows i) (all-at (c .tasks) i _ (w .unique) l) .1 in
@@ -265,7 +265,7 @@ tags-differ f h i j l m e =
         let c : Counts = countsOf f in
         let w = whole-facts f (h .none) in
         let part : List ℕ = drop (tasksAt c) f in
-        let rows : List TaskRow = tasksOf f in
+        let rows : List TaskRow = taskRowsOf f in
         let tag : TaskRow → ℕ = λ v. v .tag in
         let at = ap tag (task-read (editionIn f) (c .tasks) part i l (w .header .ranges .tasks)) in
         let before = ap tag (task-read (editionIn f) (c .tasks) part j (omega arith) (w .header .ranges .tasks)) in

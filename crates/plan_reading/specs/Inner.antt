@@ -5,6 +5,8 @@ use Rattle.plan_rules.specs.declared.Counts.{Counts}
 use Rattle.plan_reading.specs.Plan.{Plan}
 
 -- these are the counts of a plan
-abbrev pub Counted : Plan → Counts → Type 0
-Counted p c =
-    (c .processors ≡ p .processors) × (c .tasks ≡ p .tasks) × (c .resources ≡ p .resources) × (c .sections ≡ p .sections)
+pub record Counted (p : Plan) (c : Counts) : Type 0 where
+  pub processors : c .processors ≡ p .processors
+  pub tasks : c .tasks ≡ p .tasks
+  pub resources : c .resources ≡ p .resources
+  pub sections : c .sections ≡ p .sections

@@ -9,11 +9,11 @@ use Rattle.plan_layout.specs.Layout.{countsOf, rowsOf, namesOf, valuesCode}
 use Rattle.plan.specs.declared.Reading.{Reading}
 use Rattle.plan.specs.declared.ReadAnswer.the-variants.{Accepted}
 use Rattle.plan.specs.Acceptance.{refusal}
-use Rattle.plan.specs.Reading.{given, reading, refusedWith, countValues, told as readSaid}
+use Rattle.plan.specs.Reading.{given, reading, refusedWith, countValues, readOutcome}
 use Rattle.plan_writing.specs.declared.WriteAnswer.{WriteAnswer}
 use Rattle.plan_writing.specs.declared.WriteAnswer.the-variants.{Written, Refused}
-use Rattle.plan_writing.specs.Encode.{fileLength, fileOf, writeCode, writing, written, told, writeTold}
-use Rattle.plan_writing.specs.RoundTrip.{trimmed, readBack, readBackTold, copyCode, copying, copied, copyTold}
+use Rattle.plan_writing.specs.Encode.{fileLength, fileOf, writeCode, writing, written, writeOutcome, writingOutcome}
+use Rattle.plan_writing.specs.RoundTrip.{trimmed, readBack, readBackOutcome, copyCode, copying, copied, copyOutcome}
 use Rattle.plan_writing.proofs.RoundTrip.{file-holds, written-then-read, read-then-written}
 
 length-in : WriteAnswer → ℕ
@@ -56,11 +56,11 @@ module _ (c : Counts) (rows : Rows) (names : List ℕ) where
   unfolding writing written
   kept-back l e d = (rw (e, ne-eqb _ _ d), rw (e, ne-eqb _ _ d))
 
-  pub writing-told : (room : ℕ) → told (writing c rows names room) ≡ writeTold c rows names room
+  pub writing-told : (room : ℕ) → writeOutcome (writing c rows names room) ≡ writingOutcome c rows names room
   unfolding writing
   writing-told room =
       by-eq
-      (λ (b : Bool). told (cond b (Written (fileLength c names)) (Refused (writeCode c rows names room))) ≡ record { number = writeCode c rows names room; values = cond b (fileLength c names ∷ []) [] })
+      (λ (b : Bool). writeOutcome (cond b (Written (fileLength c names)) (Refused (writeCode c rows names room))) ≡ record { number = writeCode c rows names room; values = cond b (fileLength c names ∷ []) [] })
       (writeCode c rows names room) 0 (λ z. rw z) (λ d. refl)
 
   -- what an answer tells of the number
@@ -103,11 +103,11 @@ module _ (c : Counts) (rows : Rows) (names : List ℕ) where
   unfolding readBack
   back-refused room e d = rw (e, ne-eqb _ _ d)
 
-  pub back-told : (room : ℕ) → readSaid (readBack c rows names room .answer) ≡ readBackTold c rows names room
+  pub back-told : (room : ℕ) → readOutcome (readBack c rows names room .answer) ≡ readBackOutcome c rows names room
   unfolding readBack
   back-told room =
       by-eq
-      (λ (b : Bool). readSaid ((cond b (record { answer = Accepted c; rows = trimmed c rows }) (refusedWith (writeCode c rows names room))) .answer) ≡ record { number = writeCode c rows names room; values = cond b (countValues c) [] })
+      (λ (b : Bool). readOutcome ((cond b (record { answer = Accepted c; rows = trimmed c rows }) (refusedWith (writeCode c rows names room))) .answer) ≡ record { number = writeCode c rows names room; values = cond b (countValues c) [] })
       (writeCode c rows names room) 0 (λ z. rw z) (λ d. refl)
 
 -- copying a file that is refused, and one that is read
@@ -136,9 +136,9 @@ module _ (f : List ℕ) where
     copy-answer c rows names room h counted rowed named =
         h ∙ rw (counted, rowed, named, copy-code room b e, copy-length b e)
 
-  pub copy-told : (room : ℕ) → told (copying f room) ≡ copyTold f room
+  pub copy-told : (room : ℕ) → writeOutcome (copying f room) ≡ copyOutcome f room
   unfolding copying
   copy-told room =
       by-eq
-      (λ (b : Bool). told (cond b (Written (length f)) (Refused (copyCode f room))) ≡ record { number = copyCode f room; values = cond b (length f ∷ []) [] })
+      (λ (b : Bool). writeOutcome (cond b (Written (length f)) (Refused (copyCode f room))) ≡ record { number = copyCode f room; values = cond b (length f ∷ []) [] })
       (copyCode f room) 0 (λ z. rw z) (λ d. refl)

@@ -15,7 +15,7 @@ use Rattle.plan_rules.specs.declared.Rows.{Rows}
 use Rattle.plan_rules.proofs.Laws.{InRange, counts-facts, length-facts}
 use Rattle.plan_layout.specs.Editions.{edition1, formatOf}
 use Rattle.plan_layout.specs.Layout.{laid, resourceNumbers, sectionNumbers, valuesCode}
-use Rattle.plan_layout.specs.Inner.{taskRow, resourceRow, sectionRow}
+use Rattle.plan_layout.specs.Inner.{taskWidth, resourceWidth, sectionWidth}
 use Rattle.plan_writing.specs.Encode.{headerBytes, taskBytes, resourceBytes, sectionBytes, fileLength, fileOf}
 use Rattle.plan_writing.proofs.Same.{Kept, kept-facts}
 
@@ -46,15 +46,15 @@ pub rows-all : (w : ℕ) (f : ℕ → List ℕ) (n i : ℕ) {l m : List ℕ} →
 rows-all w f n i e p = rw (← e) (p .bytes)
 
 -- how long the rows are
-pub task-length : (tasks : List TaskRow) (i : ℕ) → length (taskBytes edition1 tasks i) ≡ taskRow
+pub task-length : (tasks : List TaskRow) (i : ℕ) → length (taskBytes edition1 tasks i) ≡ taskWidth
 unfolding taskBytes
 task-length tasks i = row-length (formatOf edition1 .task) (formatOf edition1 .taskNumbers (taskOf tasks i))
 
-pub resource-length : (lengths : List ℕ) (i : ℕ) → length (resourceBytes edition1 lengths i) ≡ resourceRow
+pub resource-length : (lengths : List ℕ) (i : ℕ) → length (resourceBytes edition1 lengths i) ≡ resourceWidth
 unfolding resourceBytes
 resource-length lengths i = row-length (formatOf edition1 .resource) (resourceNumbers (startOf lengths i) (lengthOf lengths i))
 
-pub section-length : (sections : List SectionRow) (i : ℕ) → length (sectionBytes edition1 sections i) ≡ sectionRow
+pub section-length : (sections : List SectionRow) (i : ℕ) → length (sectionBytes edition1 sections i) ≡ sectionWidth
 unfolding sectionBytes
 section-length sections i = row-length (formatOf edition1 .section) (sectionNumbers (sectionOf sections i))
 

@@ -23,7 +23,7 @@ use Rattle.plan.proofs.Laws.{none-failed}
 use Rattle.plan_writing.specs.Encode.{headerBytes, taskBytes, resourceBytes, sectionBytes, fileLength, fileOf}
 use Rattle.plan_writing.specs.RoundTrip.{trimmed, nameIn, SameFile, WrittenThenRead, ReadThenWritten}
 use Rattle.plan_writing.proofs.Same.{Kept, kept-facts, kept-code, rows-joined}
-use Rattle.plan_writing.proofs.Values.{taskRow, resourceRow, sectionRow, at, RowsIn, taskPart, resourcePart, sectionPart, headed, sections-end, rows-in, header-length, task-same, length-same, start-same, section-same, tasks-checked, unique-checked, starts-checked, names-checked, sections-checked, sums-checked}
+use Rattle.plan_writing.proofs.Values.{taskWidth, resourceWidth, sectionWidth, at, RowsIn, taskPart, resourcePart, sectionPart, headed, sections-end, rows-in, header-length, task-same, length-same, start-same, section-same, tasks-checked, unique-checked, starts-checked, names-checked, sections-checked, sums-checked}
 
 -- the file f has the numbers of these values at their places, and ends with the names
 pub record Holds (f : List ℕ) (c : Counts) (rows : Rows) (names : List ℕ) : Type 0 where
@@ -205,9 +205,9 @@ unfolding fileOf headerBytes headerIn taskBytes resourceBytes sectionBytes
 holds-file f c rows names b h =
     let form : Format = formatOf (laid c) in
     let head : headerBytes c (fileLength c names) ≡ take (tasksAt c) f = ap (rowBytes (form .header)) (sym (h .header)) ∙ fields-forth (form .header) f 0 b (omega (arith, h .size)) in
-    let tasks = rows-joined (form .task) (taskRow (laid c) rows) (c .tasks) f (tasksAt c) (resourcesAt c) b (h .stand .task) (omega arith) (omega (arith, h .size)) head in
-    let resources = rows-joined (form .resource) (resourceRow rows) (c .resources) f (resourcesAt c) (sectionsAt c) b (h .stand .resource) (omega arith) (omega (arith, h .size)) tasks in
-    let sections = rows-joined (form .section) (sectionRow rows) (c .sections) f (sectionsAt c) (namesAt c) b (h .stand .section) (omega arith) (omega (arith, h .size)) resources in
+    let tasks = rows-joined (form .task) (taskWidth (laid c) rows) (c .tasks) f (tasksAt c) (resourcesAt c) b (h .stand .task) (omega arith) (omega (arith, h .size)) head in
+    let resources = rows-joined (form .resource) (resourceWidth rows) (c .resources) f (resourcesAt c) (sectionsAt c) b (h .stand .resource) (omega arith) (omega (arith, h .size)) tasks in
+    let sections = rows-joined (form .section) (sectionWidth rows) (c .sections) f (sectionsAt c) (namesAt c) b (h .stand .section) (omega arith) (omega (arith, h .size)) resources in
     ap₂ _++_ sections (sym (h .rest)) ∙ take-append-drop (namesAt c) f
 
 pub read-then-written : ReadThenWritten

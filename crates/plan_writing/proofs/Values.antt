@@ -18,14 +18,14 @@ use Rattle.plan_writing.specs.Encode.{headerBytes, taskBytes, resourceBy
 use Rattle.plan_writing.proofs.Same.{unique-same, sums-same, names-same, Stand, rows-length, rows-stand}
 
 -- the numbers in row i of each group
-abbrev pub taskRow : Edition → Rows → ℕ → List ℕ
-taskRow e rows i = formatOf e .taskNumbers (taskOf (rows .tasks) i)
+abbrev pub taskWidth : Edition → Rows → ℕ → List ℕ
+taskWidth e rows i = formatOf e .taskNumbers (taskOf (rows .tasks) i)
 
-abbrev pub resourceRow : Rows → ℕ → List ℕ
-resourceRow rows i = resourceNumbers (startOf (rows .lengths) i) (lengthOf (rows .lengths) i)
+abbrev pub resourceWidth : Rows → ℕ → List ℕ
+resourceWidth rows i = resourceNumbers (startOf (rows .lengths) i) (lengthOf (rows .lengths) i)
 
-abbrev pub sectionRow : Rows → ℕ → List ℕ
-sectionRow rows i = sectionNumbers (sectionOf (rows .sections) i)
+abbrev pub sectionWidth : Rows → ℕ → List ℕ
+sectionWidth rows i = sectionNumbers (sectionOf (rows .sections) i)
 
 -- number j of a row
 abbrev pub at : ℕ → List ℕ → ℕ
@@ -33,9 +33,9 @@ at j v = getD v j 0
 
 -- the rows of these values stand at their places in f
 pub record RowsIn (f : List ℕ) (c : Counts) (rows : Rows) : Type 0 where
-  pub task : Stand (formatOf (laid c) .task) (taskRow (laid c) rows) (c .tasks) f (tasksAt c)
-  pub resource : Stand (formatOf (laid c) .resource) (resourceRow rows) (c .resources) f (resourcesAt c)
-  pub section : Stand (formatOf (laid c) .section) (sectionRow rows) (c .sections) f (sectionsAt c)
+  pub task : Stand (formatOf (laid c) .task) (taskWidth (laid c) rows) (c .tasks) f (tasksAt c)
+  pub resource : Stand (formatOf (laid c) .resource) (resourceWidth rows) (c .resources) f (resourcesAt c)
+  pub section : Stand (formatOf (laid c) .section) (sectionWidth rows) (c .sections) f (sectionsAt c)
 
 -- the bytes of each group of rows
 abbrev pub taskPart : Counts → Rows → List ℕ
@@ -54,15 +54,15 @@ headed h c rows = ((h ++ taskPart c rows) ++ resourcePart c rows) ++ sectionPart
 module _ (c : Counts) (rows : Rows) (h : List ℕ) (lh : length h ≡ tasksAt c) where
   tasks-end : length (h ++ taskPart c rows) ≡ resourcesAt c
   unfolding taskBytes
-  tasks-end = length-append h _ ∙ omega (arith, lh, rows-length (formatOf (laid c) .task) (taskRow (laid c) rows) (c .tasks))
+  tasks-end = length-append h _ ∙ omega (arith, lh, rows-length (formatOf (laid c) .task) (taskWidth (laid c) rows) (c .tasks))
 
   resources-end : length ((h ++ taskPart c rows) ++ resourcePart c rows) ≡ sectionsAt c
   unfolding resourceBytes
-  resources-end = length-append (h ++ _) _ ∙ omega (arith, tasks-end, rows-length (formatOf (laid c) .resource) (resourceRow rows) (c .resources))
+  resources-end = length-append (h ++ _) _ ∙ omega (arith, tasks-end, rows-length (formatOf (laid c) .resource) (resourceWidth rows) (c .resources))
 
   pub sections-end : length (headed h c rows) ≡ namesAt c
   unfolding sectionBytes
-  sections-end = length-append ((h ++ _) ++ _) _ ∙ omega (arith, resources-end, rows-length (formatOf (laid c) .section) (sectionRow rows) (c .sections))
+  sections-end = length-append ((h ++ _) ++ _) _ ∙ omega (arith, resources-end, rows-length (formatOf (laid c) .section) (sectionWidth rows) (c .sections))
 
   -- whatever comes after them
   pub rows-in : (x : List ℕ) → RowsIn (headed h c rows ++ x) c rows
@@ -74,9 +74,9 @@ module _ (c : Counts) (rows : Rows) (h : List ℕ) (lh : length h ≡ tasksAt c)
       let s : List ℕ = sectionPart c rows in
       let f : List ℕ = headed h c rows ++ x in
       record {
-        task = rows-stand (formatOf (laid c) .task) (taskRow (laid c) rows) (c .tasks) f h (r ++ (s ++ x)) (tasksAt c) (e .task-solid) (λ i. e .task-long (taskOf (rows .tasks) i)) (simp append-assoc) lh;
-        resource = rows-stand (formatOf (laid c) .resource) (resourceRow rows) (c .resources) f (h ++ t) (s ++ x) (resourcesAt c) (e .resource-solid) (λ i. e .resource-long) (simp append-assoc) tasks-end;
-        section = rows-stand (formatOf (laid c) .section) (sectionRow rows) (c .sections) f ((h ++ t) ++ r) x (sectionsAt c) (e .section-solid) (λ i. e .section-long) (simp append-assoc) resources-end;
+        task = rows-stand (formatOf (laid c) .task) (taskWidth (laid c) rows) (c .tasks) f h (r ++ (s ++ x)) (tasksAt c) (e .task-solid) (λ i. e .task-long (taskOf (rows .tasks) i)) (simp append-assoc) lh;
+        resource = rows-stand (formatOf (laid c) .resource) (resourceWidth rows) (c .resources) f (h ++ t) (s ++ x) (resourcesAt c) (e .resource-solid) (λ i. e .resource-long) (simp append-assoc) tasks-end;
+        section = rows-stand (formatOf (laid c) .section) (sectionWidth rows) (c .sections) f ((h ++ t) ++ r) x (sectionsAt c) (e .section-solid) (λ i. e .section-long) (simp append-assoc) resources-end;
       }
 
 -- a header is as long as its edition says

@@ -63,10 +63,10 @@ written c rows names buf =
     cond (eqb (writeCode c rows names (length buf)) 0) (fileOf c rows names ++ drop (fileLength c names) buf) buf
 
 -- document 01's number and values for each case of the answer
-abbrev pub told : WriteAnswer → Outcome
-told (Written len) = record { number = 0; values = len ∷ [] }
-told (Refused code) = record { number = code; values = [] }
+abbrev pub writeOutcome : WriteAnswer → Outcome
+writeOutcome (Written len) = record { number = 0; values = len ∷ [] }
+writeOutcome (Refused code) = record { number = code; values = [] }
 
 -- what writing tells
-abbrev pub writeTold : Counts → Rows → List ℕ → ℕ → Outcome
-writeTold c rows names room = outcome (writeCode c rows names room) (fileLength c names ∷ [])
+abbrev pub writingOutcome : Counts → Rows → List ℕ → ℕ → Outcome
+writingOutcome c rows names room = outcome (writeCode c rows names room) (fileLength c names ∷ [])

@@ -11,7 +11,7 @@ use Rattle.plan_rules.specs.declared.Counts.{Counts}
 use Rattle.plan_rules.specs.declared.Rows.{Rows}
 use Rattle.plan_layout.specs.Editions.{edition1, formatOf}
 use Rattle.plan_layout.specs.Layout.{tasksAt}
-use Rattle.plan_layout.specs.Inner.{taskRow}
+use Rattle.plan_layout.specs.Inner.{taskWidth}
 use Rattle.plan_writing.specs.Encode.{fileLength}
 
 -- a buffer has room for a header, whose numbers fit their fields
@@ -24,7 +24,7 @@ pub record HeaderRoom (c : Counts) (len : ℕ) (buf : List ℕ) : Type 0 where
 pub record TasksRoom (n : ℕ) (rows : List TaskRow) (buf : List ℕ) : Type 0 where
   pub few : n ≤ mostTasks
   pub tags : tagsOk n (formatOf edition1 .mostTag) rows ≡ true
-  pub room : n * taskRow ≤ length buf
+  pub room : n * taskWidth ≤ length buf
 
 -- a buffer has room for a file, whose numbers fit their fields
 pub record FileRoom (c : Counts) (rows : Rows) (names buf : List ℕ) : Type 0 where

@@ -62,8 +62,8 @@ readBack c rows names room =
     cond (eqb (writeCode c rows names room) 0) (record { answer = Accepted c; rows = trimmed c rows }) (refusedWith (writeCode c rows names room))
 
 -- what that tells
-abbrev pub readBackTold : Counts → Rows → List ℕ → ℕ → Outcome
-readBackTold c rows names room =
+abbrev pub readBackOutcome : Counts → Rows → List ℕ → ℕ → Outcome
+readBackOutcome c rows names room =
     outcome (writeCode c rows names room) (countValues c)
 
 -- copying a file by reading and writing it: 1 to 9 as reading does, then 10
@@ -75,8 +75,8 @@ unfoldable pub copying : List ℕ → ℕ → WriteAnswer
 copying f room = cond (eqb (copyCode f room) 0) (Written (length f)) (Refused (copyCode f room))
 
 -- what that tells
-abbrev pub copyTold : List ℕ → ℕ → Outcome
-copyTold f room = outcome (copyCode f room) (length f ∷ [])
+abbrev pub copyOutcome : List ℕ → ℕ → Outcome
+copyOutcome f room = outcome (copyCode f room) (length f ∷ [])
 
 -- the buffer after it: the same file, then what was behind; unchanged after a refusal
 unfoldable pub copied : List ℕ → List ℕ → List ℕ

@@ -14,12 +14,12 @@ ghost use Rattle.folds.specs.Bytes.{rowBytes, bytesBelow};
 ghost use Rattle.plan_rules.specs.Rules.{tagsOk};
 ghost use Rattle.plan_layout.specs.Editions.{edition1, formatOf};
 ghost use Rattle.plan_layout.specs.Layout.{tasksAt, resourceNumbers, sectionNumbers, valuesCode};
-ghost use Rattle.plan_layout.specs.Inner.{taskRow, resourceRow, sectionRow};
+ghost use Rattle.plan_layout.specs.Inner.{taskWidth, resourceWidth, sectionWidth};
 ghost use Rattle.plan_writing.specs.Encode.{headerBytes, taskBytes, resourceBytes, sectionBytes, fileLength, fileOf};
-ghost use Rattle.plan_writing.specs.Encode.{writing, written, told, writeTold};
+ghost use Rattle.plan_writing.specs.Encode.{writing, written, writeOutcome, writingOutcome};
 ghost use Rattle.plan_writing.specs.Inner.{HeaderRoom, TasksRoom, FileRoom};
-ghost use Rattle.plan_writing.specs.RoundTrip.{readBack, readBackTold, copying, copied, copyTold};
-ghost use Rattle.plan.specs.Reading.{told as readSaid};
+ghost use Rattle.plan_writing.specs.RoundTrip.{readBack, readBackOutcome, copying, copied, copyOutcome};
+ghost use Rattle.plan.specs.Reading.{readOutcome};
 
 // The most bytes before the names.
 const ROWS_END: usize = plan_layout::HEADER
@@ -92,8 +92,8 @@ fn put_header(buf: &mut [u8], c: Counts, len: usize)
 
 // One task row at the front of the buffer.
 fn put_task(buf: &mut [u8], t: TaskRow)
-    requires { ⌜ (taskRow ≤ length (now buf)) × (t .tag ≤ formatOf edition1 .mostTag) ⌝ }
-    ensures { λ r. ⌜ now (buf .exit) ≡ rowBytes (formatOf edition1 .task) (formatOf edition1 .taskNumbers t) ++ drop taskRow (now (buf .entry)) ⌝ }
+    requires { ⌜ (taskWidth ≤ length (now buf)) × (t .tag ≤ formatOf edition1 .mostTag) ⌝ }
+    ensures { λ r. ⌜ now (buf .exit) ≡ rowBytes (formatOf edition1 .task) (formatOf edition1 .taskNumbers t) ++ drop taskWidth (now (buf .entry)) ⌝ }
 {
     let period = t.period as usize;
     let execution = t.execution as usize;
@@ -128,7 +128,7 @@ fn tags_ok(tasks: [TaskRow; sizes::TASKS], n: usize) -> bool
 // The first n task rows at the front of the buffer.
 fn put_tasks(buf: &mut [u8], tasks: [TaskRow; sizes::TASKS], n: usize)
     requires { ⌜ TasksRoom n tasks (now buf) ⌝ }
-    ensures { λ r. ⌜ now (buf .exit) ≡ bytesBelow n (taskBytes edition1 tasks) ++ drop (n * taskRow) (now (buf .entry)) ⌝ }
+    ensures { λ r. ⌜ now (buf .exit) ≡ bytesBelow n (taskBytes edition1 tasks) ++ drop (n * taskWidth) (now (buf .entry)) ⌝ }
 {
     let mut i = 0;
     while i < n {
@@ -141,8 +141,8 @@ fn put_tasks(buf: &mut [u8], tasks: [TaskRow; sizes::TASKS], n: usize)
 
 // One resource row at the front of the buffer.
 fn put_resource(buf: &mut [u8], start: usize, len: u8)
-    requires { ⌜ (resourceRow ≤ length (now buf)) × (start < 65536) ⌝ }
-    ensures { λ r. ⌜ now (buf .exit) ≡ rowBytes (formatOf edition1 .resource) (resourceNumbers start len) ++ drop resourceRow (now (buf .entry)) ⌝ }
+    requires { ⌜ (resourceWidth ≤ length (now buf)) × (start < 65536) ⌝ }
+    ensures { λ r. ⌜ now (buf .exit) ≡ rowBytes (formatOf edition1 .resource) (resourceNumbers start len) ++ drop resourceWidth (now (buf .entry)) ⌝ }
 {
     let row = [low(start), high(start), len, 0];
     put_bytes(buf, &row);
@@ -150,8 +150,8 @@ fn put_resource(buf: &mut [u8], start: usize, len: u8)
 
 // The first r resource rows at the front of the buffer: each name starts where the last ended.
 fn put_resources(buf: &mut [u8], lengths: [u8; sizes::RESOURCES], r: usize)
-    requires { ⌜ (r ≤ mostResources) × (r * resourceRow ≤ length (now buf)) ⌝ }
-    ensures { λ u. ⌜ now (buf .exit) ≡ bytesBelow r (resourceBytes edition1 lengths) ++ drop (r * resourceRow) (now (buf .entry)) ⌝ }
+    requires { ⌜ (r ≤ mostResources) × (r * resourceWidth ≤ length (now buf)) ⌝ }
+    ensures { λ u. ⌜ now (buf .exit) ≡ bytesBelow r (resourceBytes edition1 lengths) ++ drop (r * resourceWidth) (now (buf .entry)) ⌝ }
 {
     let mut start = 0;
     let mut i = 0;
@@ -166,8 +166,8 @@ fn put_resources(buf: &mut [u8], lengths: [u8; sizes::RESOURCES], r: usize)
 
 // One section row at the front of the buffer.
 fn put_section(buf: &mut [u8], s: SectionRow)
-    requires { ⌜ sectionRow ≤ length (now buf) ⌝ }
-    ensures { λ r. ⌜ now (buf .exit) ≡ rowBytes (formatOf edition1 .section) (sectionNumbers s) ++ drop sectionRow (now (buf .entry)) ⌝ }
+    requires { ⌜ sectionWidth ≤ length (now buf) ⌝ }
+    ensures { λ r. ⌜ now (buf .exit) ≡ rowBytes (formatOf edition1 .section) (sectionNumbers s) ++ drop sectionWidth (now (buf .entry)) ⌝ }
 {
     let ticks = s.length as usize;
     let row = [s.task, s.resource, low(ticks), high(ticks)];
@@ -176,8 +176,8 @@ fn put_section(buf: &mut [u8], s: SectionRow)
 
 // The first s section rows at the front of the buffer.
 fn put_sections(buf: &mut [u8], sections: [SectionRow; sizes::SECTIONS], s: usize)
-    requires { ⌜ (s ≤ mostSections) × (s * sectionRow ≤ length (now buf)) ⌝ }
-    ensures { λ r. ⌜ now (buf .exit) ≡ bytesBelow s (sectionBytes edition1 sections) ++ drop (s * sectionRow) (now (buf .entry)) ⌝ }
+    requires { ⌜ (s ≤ mostSections) × (s * sectionWidth ≤ length (now buf)) ⌝ }
+    ensures { λ r. ⌜ now (buf .exit) ≡ bytesBelow s (sectionBytes edition1 sections) ++ drop (s * sectionWidth) (now (buf .entry)) ⌝ }
 {
     let mut i = 0;
     while i < s {
@@ -231,7 +231,7 @@ pub fn values_code(c: Counts, rows: Rows, names: &[u8]) -> u8
 pub fn write(c: Counts, rows: Rows, names: &[u8], buf: &mut [u8]) -> WriteAnswer
     ensures { λ r. ⌜ r ≡ writing c rows (now (names .entry)) (length (now (buf .entry))) ⌝ }
     ensures { λ r. ⌜ now (buf .exit) ≡ written c rows (now (names .entry)) (now (buf .entry)) ⌝ }
-    ensures { λ r. ⌜ told r ≡ writeTold c rows (now (names .entry)) (length (now (buf .entry))) ⌝ }
+    ensures { λ r. ⌜ writeOutcome r ≡ writingOutcome c rows (now (names .entry)) (length (now (buf .entry))) ⌝ }
 {
     let code = values_code(c, rows, names);
     if code != 0 {
@@ -249,7 +249,7 @@ pub fn write(c: Counts, rows: Rows, names: &[u8], buf: &mut [u8]) -> WriteAnswer
 pub fn read_back(c: Counts, rows: Rows, names: &[u8], buf: &mut [u8]) -> Reading
     ensures { λ r. ⌜ r ≡ readBack c rows (now (names .entry)) (length (now (buf .entry))) ⌝ }
     ensures { λ r. ⌜ now (buf .exit) ≡ written c rows (now (names .entry)) (now (buf .entry)) ⌝ }
-    ensures { λ r. ⌜ readSaid (r .answer) ≡ readBackTold c rows (now (names .entry)) (length (now (buf .entry))) ⌝ }
+    ensures { λ r. ⌜ readOutcome (r .answer) ≡ readBackOutcome c rows (now (names .entry)) (length (now (buf .entry))) ⌝ }
 {
     let answer = write(c, rows, names, buf);
     match answer {
@@ -265,7 +265,7 @@ pub fn read_back(c: Counts, rows: Rows, names: &[u8], buf: &mut [u8]) -> Reading
 pub fn copy(file: &[u8], buf: &mut [u8]) -> WriteAnswer
     ensures { λ r. ⌜ r ≡ copying (now (file .entry)) (length (now (buf .entry))) ⌝ }
     ensures { λ r. ⌜ now (buf .exit) ≡ copied (now (file .entry)) (now (buf .entry)) ⌝ }
-    ensures { λ r. ⌜ told r ≡ copyTold (now (file .entry)) (length (now (buf .entry))) ⌝ }
+    ensures { λ r. ⌜ writeOutcome r ≡ copyOutcome (now (file .entry)) (length (now (buf .entry))) ⌝ }
 {
     let found = plan::read(file);
     let answer = found.answer;

@@ -11,7 +11,7 @@ use Rattle.machine.specs.Replies.{stateRefusal}
 use Rattle.machine.specs.Inner.{AfterBytes}
 use Rattle.print_calls.specs.declared.Step.{Step}
 use Rattle.print_calls.specs.Calls.{callLine}
-use Rattle.print_calls.specs.Buffers.{Printed, none, more, linesCode, linesRefusal, Written, Told}
+use Rattle.print_calls.specs.Buffers.{Printed, none, more, linesCode, linesRefusal, Written, Batched}
 use Rattle.print_calls.specs.Inner.{Stepped}
 
 -- nothing yet
@@ -108,7 +108,7 @@ module _ (f : List ℕ) (s : State) (calls before : List ℕ) {first k : ℕ} (a
   number-told : k ≡ linesRefusal f s (length calls) (length before)
   number-told = e ∙ ap (λ (x : ℕ). linesCode x (length calls) (length before)) a
 
-  pub told-none : (k ≡ 0 → ⊥) → Told f s calls before before (record { refusal = k; used = 0; length = 0; state = s })
+  pub told-none : (k ≡ 0 → ⊥) → Batched f s calls before before (record { refusal = k; used = 0; length = 0; state = s })
   told-none d =
       record {
         number = number-told;
@@ -122,7 +122,7 @@ module _ (f : List ℕ) (s : State) (calls before : List ℕ) {first k : ℕ} (a
       → Written f s calls before now used end t
       → Begun used end
       → (length calls < used + callWidth) ⊎ (length before < end + 96)
-      → Told f s calls before now (record { refusal = 0; used = used; length = end; state = t })
+      → Batched f s calls before now (record { refusal = 0; used = used; length = end; state = t })
   told-lines {used = used} {end} z w b x =
       record {
         number = sym z ∙ number-told;

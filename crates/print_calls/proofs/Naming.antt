@@ -10,7 +10,7 @@ use Rattle.queue_rules.specs.Rules.{Line, line, turn, released}
 use Rattle.machine_rules.specs.declared.Call.{Call}
 use Rattle.machine_rules.specs.declared.Call.the-variants.{Request, Release, Tick}
 use Rattle.machine_rules.specs.declared.Answer.the-variants.{Refused}
-use Rattle.machine_rules.specs.Machine.{View, terms, busy, requestCode, releaseCode, callCode, requestTold, releaseTold, acceptedAnswer}
+use Rattle.machine_rules.specs.Machine.{View, terms, busy, requestCode, releaseCode, callCode, requestAnswer, releaseAnswer, acceptedAnswer}
 use Rattle.machine_state.specs.declared.State.{State}
 use Rattle.machine_state.specs.Shows.{shows}
 use Rattle.machine.specs.Replies.{stateRefusal, callRefusal, reply}
@@ -30,11 +30,11 @@ module _ (p : Plan) (m : View) (tag q : ℕ) where
   release-below e = ltb-true _ _ (code-zero (ltb q (p .resources)) _ _ (code-next (ltb (taskNumber p tag) (p .tasks)) _ _ e))
 
 module _ (f : List ℕ) (q : ℕ) where
-  request-names : (i : ℕ) (l : Line) → Nameable f q → Names f q (requestTold (planOf f) i q l)
+  request-names : (i : ℕ) (l : Line) → Nameable f q → Names f q (requestAnswer (planOf f) i q l)
   request-names i (line h b []) n = n
   request-names i (line h b (x ∷ rest)) n = n
 
-  release-names : (l : Line) → Nameable f q → Names f q (releaseTold (planOf f) l)
+  release-names : (l : Line) → Nameable f q → Names f q (releaseAnswer (planOf f) l)
   release-names (line h b []) n = n
   release-names (line h b (turn k u us ∷ rest)) n = n
 

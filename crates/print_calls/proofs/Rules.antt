@@ -15,7 +15,7 @@ use Rattle.machine.specs.Promise.{Returned, started}
 use Rattle.machine.specs.Inner.{AfterBytes}
 use Rattle.machine.proofs.Bytes.{returned-step}
 use Rattle.machine.proofs.Kept.{fresh-is, returned-answers}
-use Rattle.print_calls.specs.Calls.{lineOf, callLine}
+use Rattle.print_calls.specs.Calls.{callText, callLine}
 use Rattle.print_calls.specs.Output.{lineAfter, linesBelow}
 use Rattle.print_calls.specs.Buffers.{Printed, none, more}
 
@@ -40,7 +40,7 @@ lines-front l x f (suc n) h =
     (ap₂ (lineAfter f) (calls-front callWidth (omega arith) l x n (omega arith)) (bytes-front callWidth (omega arith) l x (n * callWidth) (omega arith)))
 
 -- a line depends on what the call is answered, and on nothing else
-line-same : (f : List ℕ) (b : CallBytes) (g h : Call → Answer) → ((c : Call) → g c ≡ h c) → (cs : List Call) → lineOf f b g cs ≡ lineOf f b h cs
+line-same : (f : List ℕ) (b : CallBytes) (g h : Call → Answer) → ((c : Call) → g c ≡ h c) → (cs : List Call) → callText f b g cs ≡ callText f b h cs
 line-same f b g h e [] = refl
 line-same f b g h e (c ∷ cs) = rw (e c)
 

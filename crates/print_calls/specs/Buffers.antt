@@ -53,7 +53,7 @@ pub record Unmade (s : State) (before now : List ℕ) (r : Batch) : Type 0 where
 
 -- what `lines` does: nothing where it is refused; else the lines are those of all whole calls, or of as many as there was room for, and
 -- of one at least where there is one. So a caller who goes on with the rest comes to an end
-pub record Told (f : List ℕ) (s : State) (calls before now : List ℕ) (r : Batch) : Type 0 where
+pub record Batched (f : List ℕ) (s : State) (calls before now : List ℕ) (r : Batch) : Type 0 where
   pub number : r .refusal ≡ linesRefusal f s (length calls) (length before)
   pub unmade : r .refusal ≢ 0 → Unmade s before now r
   pub written : Written f s calls before now (r .used) (r .length) (r .state)

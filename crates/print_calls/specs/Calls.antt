@@ -10,10 +10,10 @@ use Rattle.machine_calls.specs.Calls.{callIn}
 use Rattle.print_lines.specs.Lines.{refusedLine, answerLine}
 
 -- bytes that are one call print its answer; "Another letter, or T with other bytes, prints "refused 21""
-abbrev pub lineOf : List ℕ → CallBytes → (Call → Answer) → List Call → List ℕ
-lineOf f b answer [] = refusedLine 21
-lineOf f b answer (c ∷ cs) = answerLine f (b .tag) (b .resource) (answer c)
+abbrev pub callText : List ℕ → CallBytes → (Call → Answer) → List Call → List ℕ
+callText f b answer [] = refusedLine 21
+callText f b answer (c ∷ cs) = answerLine f (b .tag) (b .resource) (answer c)
 
 -- what they print on a state
 unfoldable pub callLine : List ℕ → State → CallBytes → List ℕ
-callLine f s b = lineOf f b (reply f s) (callIn b)
+callLine f s b = callText f b (reply f s) (callIn b)

@@ -13,11 +13,11 @@ use Rattle.machine_rules.specs.Machine.{answer, run}
 use Rattle.machine_calls.specs.declared.CallBytes.{CallBytes}
 use Rattle.machine_calls.specs.Calls.{callWidth, bytesAt, callIn, callsBelow}
 use Rattle.print_lines.specs.Lines.{refusedLine, planLine}
-use Rattle.print_calls.specs.Calls.{lineOf}
+use Rattle.print_calls.specs.Calls.{callText}
 
 -- the line of a call after a list of calls on a fresh machine
 abbrev pub lineAfter : List ℕ → List Call → CallBytes → List ℕ
-lineAfter f before b = lineOf f b (answer (planOf f) (run (planOf f) before)) (callIn b)
+lineAfter f before b = callText f b (answer (planOf f) (run (planOf f) before)) (callIn b)
 
 -- the lines of the first n calls
 unfoldable pub linesBelow : List ℕ → ℕ → List ℕ → List ℕ

@@ -3,7 +3,7 @@ use machine_calls::CallBytes;
 use machine_calls::WIDTH;
 use machine_state::State;
 use plan_rules::Counts;
-use print_text::Line;
+use print_text::Handed;
 ghost use mathlib.Core.Path.{_≡_};
 ghost use Prim.Native.Nat.{_+_, _≤_};
 ghost use lib.ListN.{length};
@@ -13,13 +13,13 @@ ghost use Rattle.machine_calls.specs.Calls.{callIn};
 ghost use Rattle.print_lines.specs.Lines.{planLine};
 ghost use Rattle.print_calls.specs.Calls.{callLine};
 ghost use Rattle.print_calls.specs.Output.{endLine};
-ghost use Rattle.print_text.specs.Buffers.{lineFor, lineIn, lineUnless, lineInUnless};
-ghost use Rattle.print_calls.specs.Buffers.{StateBeside, linesCode, Told};
+ghost use Rattle.print_text.specs.Buffers.{handed, bufferWith, handedUnless, bufferUnless};
+ghost use Rattle.print_calls.specs.Buffers.{StateBeside, linesCode, Batched};
 ghost use Rattle.print_calls.specs.Inner.{Stepped};
 
 // A line, and the state after its call.
 pub struct CallLine {
-    pub line: Line,
+    pub line: Handed,
     pub state: State,
 }
 
@@ -65,12 +65,12 @@ fn put_call(
 }
 
 // What the output ends with, where so many bytes stand behind the last call that was made: nothing, or the refusal 22.
-pub fn end_line(left: usize, out: &mut [u8]) -> Line
-    ensures { λ r. ⌜ r ≡ lineFor (endLine left) (length (now (out .entry))) ⌝ }
-    ensures { λ r. ⌜ now (out .exit) ≡ lineIn (endLine left) (now (out .entry)) ⌝ }
+pub fn end_line(left: usize, out: &mut [u8]) -> Handed
+    ensures { λ r. ⌜ r ≡ handed (endLine left) (length (now (out .entry))) ⌝ }
+    ensures { λ r. ⌜ now (out .exit) ≡ bufferWith (endLine left) (now (out .entry)) ⌝ }
 {
     if left % WIDTH == 0 {
-        return Line {
+        return Handed {
             refusal: 0,
             length: 0,
         };
@@ -79,9 +79,9 @@ pub fn end_line(left: usize, out: &mut [u8]) -> Line
 }
 
 // The line of a plan that is read.
-pub fn plan_line(counts: Counts, out: &mut [u8]) -> Line
-    ensures { λ r. ⌜ r ≡ lineFor (planLine counts) (length (now (out .entry))) ⌝ }
-    ensures { λ r. ⌜ now (out .exit) ≡ lineIn (planLine counts) (now (out .entry)) ⌝ }
+pub fn plan_line(counts: Counts, out: &mut [u8]) -> Handed
+    ensures { λ r. ⌜ r ≡ handed (planLine counts) (length (now (out .entry))) ⌝ }
+    ensures { λ r. ⌜ now (out .exit) ≡ bufferWith (planLine counts) (now (out .entry)) ⌝ }
 {
     let mut line = [0u8; 96];
     let end = print_lines::put_plan(&mut line, 0, counts);
@@ -92,7 +92,7 @@ pub fn plan_line(counts: Counts, out: &mut [u8]) -> Line
 fn no_line(refusal: u8, state: State) -> CallLine
     ensures { λ r. ⌜ r ≡ record { line = record { refusal = refusal; length = 0 }; state = state } ⌝ }
 {
-    let line = Line { refusal, length: 0 };
+    let line = Handed { refusal, length: 0 };
     CallLine { line, state }
 }
 
@@ -100,8 +100,8 @@ fn no_line(refusal: u8, state: State) -> CallLine
 // A plan that is refused, a state that is not sound (19), then a buffer that is too short for the line (10) are refusals here: there
 // is no line, and buffer and state are as they were.
 pub fn call_line(file: &[u8], state: State, bytes: CallBytes, out: &mut [u8]) -> CallLine
-    ensures { λ r. ⌜ r .line ≡ lineUnless (stateRefusal (now (file .entry)) state) (callLine (now (file .entry)) state bytes) (length (now (out .entry))) ⌝ }
-    ensures { λ r. ⌜ now (out .exit) ≡ lineInUnless (stateRefusal (now (file .entry)) state) (callLine (now (file .entry)) state bytes) (now (out .entry)) ⌝ }
+    ensures { λ r. ⌜ r .line ≡ handedUnless (stateRefusal (now (file .entry)) state) (callLine (now (file .entry)) state bytes) (length (now (out .entry))) ⌝ }
+    ensures { λ r. ⌜ now (out .exit) ≡ bufferUnless (stateRefusal (now (file .entry)) state) (callLine (now (file .entry)) state bytes) (now (out .entry)) ⌝ }
     ensures { λ r. ⌜ StateBeside (r .line .refusal) state (r .state) (AfterBytes (now (file .entry)) state (callIn bytes)) ⌝ }
 {
     let mut figures = [0u16; analysis_hold_times::FIGURES];
@@ -151,7 +151,7 @@ fn none_made(refusal: u8, state: State) -> Batch
 // than 96 bytes are left, which no line needs. A plan that is refused, a state that is not sound (19), then a buffer of fewer than 96
 // bytes where there is a call (10) are refusals: nothing is made, and buffer and state are as they were.
 pub fn lines(file: &[u8], state: State, calls: &[u8], out: &mut [u8]) -> Batch
-    ensures { λ r. ⌜ Told (now (file .entry)) state (now (calls .entry)) (now (out .entry)) (now (out .exit)) r ⌝ }
+    ensures { λ r. ⌜ Batched (now (file .entry)) state (now (calls .entry)) (now (out .entry)) (now (out .exit)) r ⌝ }
 {
     let mut figures = [0u16; analysis_hold_times::FIGURES];
     let code = machine::surveyed::look(file, &mut figures);

@@ -1,35 +1,35 @@
 -- Lines as they are printed, by computing: document 01's, of a plan whose resource 0 has the name "bus".
 use Rattle.folds.proofs.Ground.{ℕ, _≡_, refl, List}
 use Rattle.machine_rules.specs.declared.Answer.the-variants.{Granted, Waits, Next, Free, Ticked, Refused}
-use Rattle.print_text.specs.Text.{quoted, placesTo, digits}
+use Rattle.print_text.specs.Text.{quoted, placesTo, decimals}
 use Rattle.plan_reading.specs.Plan.{namePart}
 use Rattle.print_lines.specs.Lines.{planLine, answerLine}
 
 pub plan-example : planLine (record { edition = 1; processors = 2; tasks = 2; resources = 1; sections = 2 }) ≡ quoted "plan 2 2 1 2\n"
-unfolding placesTo digits
+unfolding placesTo decimals
 plan-example = refl
 
 module _ (f : List ℕ) (bus : namePart f 0 ≡ quoted "bus") where
   pub granted-example : answerLine f 20 0 Granted ≡ quoted "granted 20 bus\n"
-  unfolding placesTo digits
+  unfolding placesTo decimals
   granted-example = rw bus
 
   pub waits-example : answerLine f 10 0 (Waits 0 3) ≡ quoted "waits 10 bus 0 3\n"
-  unfolding placesTo digits
+  unfolding placesTo decimals
   waits-example = rw bus
 
   pub next-example : answerLine f 10 0 (Next 20) ≡ quoted "released 10 bus to 20\n"
-  unfolding placesTo digits
+  unfolding placesTo decimals
   next-example = rw bus
 
   pub free-example : answerLine f 10 0 Free ≡ quoted "released 10 bus free\n"
-  unfolding placesTo digits
+  unfolding placesTo decimals
   free-example = rw bus
 
   pub tick-example : answerLine f 0 0 (Ticked 1 1) ≡ quoted "tick 1 1\n"
-  unfolding placesTo digits
+  unfolding placesTo decimals
   tick-example = refl
 
   pub refused-example : answerLine f 20 0 (Refused 16) ≡ quoted "refused 16\n"
-  unfolding placesTo digits
+  unfolding placesTo decimals
   refused-example = refl

@@ -3,14 +3,14 @@
 // there for any buffer too.
 use machine_rules::Answer;
 use plan_rules::Counts;
-use print_text::Line;
+use print_text::Handed;
 ghost use mathlib.Core.Path.{_≡_};
 ghost use mathlib.Core.Bool.{cond};
 ghost use mathlib.Core.List.{[]};
 ghost use Prim.Native.Nat.{_+_, _≤_};
 ghost use lib.ListN.{length};
 ghost use Rattle.print_text.specs.Text.{PutIn};
-ghost use Rattle.print_text.specs.Buffers.{lineFor, lineIn};
+ghost use Rattle.print_text.specs.Buffers.{handed, bufferWith};
 ghost use Rattle.print_lines.specs.declared.Field.the-variants.{Number, Signed, Name, Says};
 ghost use Rattle.print_lines.specs.Lines.{refusedLine, planLine, answerLine};
 ghost use Rattle.print_lines.specs.Naming.{Nameable, Names};
@@ -158,9 +158,9 @@ pub fn put_refused(buf: &mut [u8], at: usize, number: u8) -> usize
 }
 
 // That line alone, at the front of a lent buffer.
-pub fn refused_line(number: u8, out: &mut [u8]) -> Line
-    ensures { λ r. ⌜ r ≡ lineFor (refusedLine number) (length (now (out .entry))) ⌝ }
-    ensures { λ r. ⌜ now (out .exit) ≡ lineIn (refusedLine number) (now (out .entry)) ⌝ }
+pub fn refused_line(number: u8, out: &mut [u8]) -> Handed
+    ensures { λ r. ⌜ r ≡ handed (refusedLine number) (length (now (out .entry))) ⌝ }
+    ensures { λ r. ⌜ now (out .exit) ≡ bufferWith (refusedLine number) (now (out .entry)) ⌝ }
 {
     let mut line = [0u8; 96];
     let end = put_refused(&mut line, 0, number);

@@ -1,7 +1,7 @@
 -- Lines of a sheet as they are printed, by computing, of a plan whose resource 0 has the name "bus".
 use Rattle.folds.proofs.Ground.{ℕ, true, false, _≡_, refl, List}
 use lib.IntN.{pos, negsuc}
-use Rattle.print_text.specs.Text.{quoted, placesTo, digits}
+use Rattle.print_text.specs.Text.{quoted, placesTo, decimals}
 use Rattle.plan_reading.specs.Plan.{namePart}
 use Rattle.print_sheet.specs.Sheet.{resourceLine, budgetLine, holdLine, requirementLine, admittedLine}
 
@@ -10,16 +10,16 @@ module _ (f : List ℕ) (bus : namePart f 0 ≡ quoted "bus") where
   resource-example = rw bus
 
   pub budget-example : budgetLine f 1 0 3 2 ≡ quoted "budget 1 bus 3 2\n"
-  unfolding placesTo digits
+  unfolding placesTo decimals
   budget-example = rw bus
 
   pub hold-example : holdLine f 10 0 2 0 3 ≡ quoted "hold 10 bus 2 0 3\n"
-  unfolding placesTo digits
+  unfolding placesTo decimals
   hold-example = rw bus
 
 -- C7's slack is -4
 pub requirement-example : requirementLine 10 (record { blocking1 = 0; blocking2 = 4; tolerance = pos 0; slack = negsuc 3; side = 0; met = false }) ≡ quoted "requirement 10 0 4 0 -4 0 unmet\n"
-unfolding placesTo digits
+unfolding placesTo decimals
 requirement-example = refl
 
 pub admitted-example : admittedLine true ≡ quoted "admitted yes\n"

@@ -7,6 +7,7 @@ use Rattle.plan_rules.specs.declared.Counts.{Counts}
 use Rattle.plan_rules.specs.declared.TaskRow.{TaskRow}
 use Rattle.plan_layout.specs.Layout.{countsOf}
 use Rattle.plan_reading.specs.Plan.{planOf}
+use Rattle.plan_reading.specs.Inner.{Counted}
 use Rattle.plan_reading.proofs.Laws.{valid-plan}
 use Rattle.analysis_equations.specs.Sharing.{uses, usedOn, global}
 use Rattle.analysis_equations.specs.HoldTimes.{holdTime, holdAt, budget, waitTime}
@@ -29,11 +30,11 @@ either-text true x y = refl
 either-text false x y = refl
 
 -- the counts that were read are those of the plan
-pub plan-counts : {l m : List ℕ} {at e room : ℕ} (f : List ℕ) (c : Counts) → (c .processors ≡ planOf f .processors) × (c .tasks ≡ planOf f .tasks) × (c .resources ≡ planOf f .resources) × (c .sections ≡ planOf f .sections)
+pub plan-counts : {l m : List ℕ} {at e room : ℕ} (f : List ℕ) (c : Counts) → Counted (planOf f) c
     → PutIn l m at room (planLine c) e
     → PutIn l m at room (planLine (countsOf f)) e
 unfolding planOf
-plan-counts f c h p = rw (h .0, h .1, h .2, h .3) at p
+plan-counts f c h p = rw (h .processors, h .tasks, h .resources, h .sections) at p
 
 -- of a figure that is 0 there is no line
 module _ (f t : List ℕ) (h : Known f t) (q : ℕ) (b : q < planOf f .resources) {j : ℕ} (d : j ≡ q) where

@@ -4,9 +4,9 @@ use mathlib.Core.Bool.{Bool, cond, _&&_}
 use mathlib.Core.List.{List, [], _∷_, _++_}
 use lib.Dec.{eqb}
 use lib.ListN.{length, take}
-use Rattle.print_text.specs.declared.Line.{Line}
+use Rattle.print_text.specs.declared.Handed.{Handed}
 use Rattle.print_text.specs.Text.{quoted, decimal, signed, textBelow}
-use Rattle.print_text.specs.Buffers.{lineUnless, lineInUnless}
+use Rattle.print_text.specs.Buffers.{handedUnless, bufferUnless}
 use Rattle.plan_layout.specs.Layout.{countsOf}
 use Rattle.plan.specs.Acceptance.{refusal}
 use Rattle.plan.specs.Reading.{planLength}
@@ -103,12 +103,12 @@ module _ (f : List ℕ) where
 
   -- "Each operation given a plan file first gives 1 to 9 as reading does"; then 10, a buffer of n bytes that is too short for the sheet;
   -- else its length
-  unfoldable pub sheetLine : ℕ → Line
-  sheetLine n = lineUnless (refusal f) planSheet n
+  unfoldable pub sheetLine : ℕ → Handed
+  sheetLine n = handedUnless (refusal f) planSheet n
 
   -- the lent buffer afterwards: the sheet at its front and what lies behind as it was; all as it was after a refusal
   unfoldable pub sheetIn : List ℕ → List ℕ
-  sheetIn l = lineInUnless (refusal f) planSheet l
+  sheetIn l = bufferUnless (refusal f) planSheet l
 
   -- what is printed for any file: "a refused plan: "refused N", nothing more; else" the sheet
   unfoldable pub sheetText : List ℕ

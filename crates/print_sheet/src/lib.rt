@@ -4,12 +4,12 @@ use print_lines::Field;
 use print_lines::NONE;
 use print_lines::Word;
 use print_lines::put_line;
-use print_text::Line;
+use print_text::Handed;
 ghost use mathlib.Core.Path.{_≡_};
 ghost use Prim.Native.Nat.{_+_, _≤_, _<_};
 ghost use lib.ListN.{length};
 ghost use Rattle.print_text.specs.Text.{PutIn};
-ghost use Rattle.print_text.specs.Buffers.{lineFor, lineIn};
+ghost use Rattle.print_text.specs.Buffers.{handed, bufferWith};
 ghost use Rattle.plan_reading.specs.Plan.{planOf, Checked};
 ghost use Rattle.analysis_requirements.specs.Terms.{Prepared};
 ghost use Rattle.print_sheet.specs.Sheet.{requirementLine, admittedLine, resourceAt, budgetAt, holdLineAt};
@@ -299,10 +299,10 @@ fn put_plan_sheet(buf: &mut [u8], file: &[u8]) -> usize
 }
 
 // The sheet of a checked plan by way of a buffer of its own, for a lent one that may be too short for it.
-fn sheet_aside(file: &[u8], out: &mut [u8]) -> Line
+fn sheet_aside(file: &[u8], out: &mut [u8]) -> Handed
     requires { ⌜ Checked (now file) ⌝ }
-    ensures { λ r. ⌜ r ≡ lineFor (planSheet (now (file .entry))) (length (now (out .entry))) ⌝ }
-    ensures { λ r. ⌜ now (out .exit) ≡ lineIn (planSheet (now (file .entry))) (now (out .entry)) ⌝ }
+    ensures { λ r. ⌜ r ≡ handed (planSheet (now (file .entry))) (length (now (out .entry))) ⌝ }
+    ensures { λ r. ⌜ now (out .exit) ≡ bufferWith (planSheet (now (file .entry))) (now (out .entry)) ⌝ }
     ensures { λ r. ⌜ r .length ≤ mostSheet ⌝ }
 {
     let mut buf = [0u8; SHEET];
@@ -312,14 +312,14 @@ fn sheet_aside(file: &[u8], out: &mut [u8]) -> Line
 
 // The datasheet of a plan file, at the front of a lent buffer: its length, or the first of 1 to 9, or 10 where the buffer is too short
 // for it. A refusal leaves the buffer as it was.
-pub fn sheet(file: &[u8], out: &mut [u8]) -> Line
+pub fn sheet(file: &[u8], out: &mut [u8]) -> Handed
     ensures { λ r. ⌜ r ≡ sheetLine (now (file .entry)) (length (now (out .entry))) ⌝ }
     ensures { λ r. ⌜ now (out .exit) ≡ sheetIn (now (file .entry)) (now (out .entry)) ⌝ }
     ensures { λ r. ⌜ r .length ≤ mostSheet ⌝ }
 {
     let code = plan::check(file);
     if code != 0 {
-        return Line {
+        return Handed {
             refusal: code,
             length: 0,
         };
@@ -328,5 +328,5 @@ pub fn sheet(file: &[u8], out: &mut [u8]) -> Line
         return sheet_aside(file, out);
     }
     let length = put_plan_sheet(out, file);
-    Line { refusal: 0, length }
+    Handed { refusal: 0, length }
 }

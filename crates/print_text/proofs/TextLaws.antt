@@ -4,7 +4,7 @@ use lib.IntN.{ℤ, pos, negsuc}
 use mir.Syntax.{w64}
 use mir.Val.{SFits, toZ, ofZ}
 use mir.Facts.{toZ-ofZ}
-use Rattle.print_text.specs.Text.{quoted, placesTo, digits, decimal, signed, textBelow, valueFrom, valueOf, Put, PutIn}
+use Rattle.print_text.specs.Text.{quoted, placesTo, decimals, decimal, signed, textBelow, valueFrom, valueOf, Put, PutIn}
 
 -- what a buffer holds up to where a text ends, and from there on; the place may lie behind the buffer's end too
 front : (at : ℕ) (l a : List ℕ) → take (at + length a) (take at l ++ (a ++ drop (at + length a) l)) ≡ take at l ++ a
@@ -103,10 +103,10 @@ places-enough zero n l = l
 places-enough (suc k) n l =
     by-places (λ p. n < 10 ^ p) k n (λ s. s) (λ m. let r : n / 10 < 10 ^ placesTo k (n / 10) = places-enough k (n / 10) (omega arith) in omega arith)
 
-pub digits-length : (k n : ℕ) → length (digits k n) ≡ k
-unfolding digits
+pub digits-length : (k n : ℕ) → length (decimals k n) ≡ k
+unfolding decimals
 digits-length zero n = refl
-digits-length (suc k) n = omega (arith, length-append (digits k (n / 10)) ((48 + n % 10) ∷ []), digits-length k (n / 10))
+digits-length (suc k) n = omega (arith, length-append (decimals k (n / 10)) ((48 + n % 10) ∷ []), digits-length k (n / 10))
 
 -- how long a number is in decimal
 pub decimal-length : (n : ℕ) → length (decimal n) ≤ 20
@@ -121,39 +121,39 @@ unfolding valueFrom
 value-last so d [] = refl
 value-last so d (c ∷ text) = value-last (so * 10 + (c - 48)) d text
 
-digits-value : (k n : ℕ) → n < 10 ^ k → valueOf (digits k n) ≡ n
-unfolding digits valueFrom
+digits-value : (k n : ℕ) → n < 10 ^ k → valueOf (decimals k n) ≡ n
+unfolding decimals valueFrom
 digits-value zero n l = omega arith
 digits-value (suc k) n l =
-    value-last 0 (48 + n % 10) (digits k (n / 10)) ∙ omega (arith, digits-value k (n / 10) (omega arith))
+    value-last 0 (48 + n % 10) (decimals k (n / 10)) ∙ omega (arith, digits-value k (n / 10) (omega arith))
 
 -- `decimal` is decimal: it says the number, each byte of it is a digit, and the first is not the digit zero unless the number is 0
 pub decimal-value : (n : ℕ) → n < 10 ^ 20 → valueOf (decimal n) ≡ n
 decimal-value n l = digits-value (placesTo 19 n) n (places-enough 19 n l)
 
-digits-digit : (k n i : ℕ) → i < k → (48 ≤ getD (digits k n) i 0) × (getD (digits k n) i 0 ≤ 57)
-unfolding digits
+digits-digit : (k n i : ℕ) → i < k → (48 ≤ getD (decimals k n) i 0) × (getD (decimals k n) i 0 ≤ 57)
+unfolding decimals
 digits-digit zero n i l = absurd (not-suc-le-zero l)
 digits-digit (suc k) n i l =
     ⊎-elim
-    (λ e. rw (getD-at (digits k (n / 10)) (48 + n % 10) [] 0 i (digits-length k (n / 10) ∙ sym e)) (omega arith))
-    (λ s. rw (List·getD-append (digits k (n / 10)) ((48 + n % 10) ∷ []) 0 i (rw digits-length s)) (digits-digit k (n / 10) i s))
+    (λ e. rw (getD-at (decimals k (n / 10)) (48 + n % 10) [] 0 i (digits-length k (n / 10) ∙ sym e)) (omega arith))
+    (λ s. rw (List·getD-append (decimals k (n / 10)) ((48 + n % 10) ∷ []) 0 i (rw digits-length s)) (digits-digit k (n / 10) i s))
     (eq-or-lt-of-le (le-of-suc-le-suc l))
 
 pub decimal-digit : (n i : ℕ) → i < length (decimal n) → (48 ≤ getD (decimal n) i 0) × (getD (decimal n) i 0 ≤ 57)
 decimal-digit n i l = digits-digit (placesTo 19 n) n i (rw digits-length at l)
 
-one-digit : (n : ℕ) → 0 < n → n < 10 → 49 ≤ getD (digits 1 n) 0 0
-unfolding digits
+one-digit : (n : ℕ) → 0 < n → n < 10 → 49 ≤ getD (decimals 1 n) 0 0
+unfolding decimals
 one-digit n h l = omega arith
 
-digits-first : (k n : ℕ) → 0 < n → n < 10 ^ suc k → 49 ≤ getD (digits (placesTo k n) n) 0 0
-unfolding placesTo digits
+digits-first : (k n : ℕ) → 0 < n → n < 10 ^ suc k → 49 ≤ getD (decimals (placesTo k n) n) 0 0
+unfolding placesTo decimals
 digits-first zero n h l = one-digit n h l
 digits-first (suc k) n h l =
-    by-places (λ p. 49 ≤ getD (digits p n) 0 0) k n
+    by-places (λ p. 49 ≤ getD (decimals p n) 0 0) k n
     (λ s. one-digit n h s)
-    (λ m. rw (List·getD-append (digits (placesTo k (n / 10)) (n / 10)) ((48 + n % 10) ∷ []) 0 0 (rw digits-length (places-low k (n / 10)))) (digits-first k (n / 10) (omega arith) (omega arith)))
+    (λ m. rw (List·getD-append (decimals (placesTo k (n / 10)) (n / 10)) ((48 + n % 10) ∷ []) 0 0 (rw digits-length (places-low k (n / 10)))) (digits-first k (n / 10) (omega arith) (omega arith)))
 
 pub decimal-first : (n : ℕ) → 0 < n → n < 10 ^ 20 → 49 ≤ getD (decimal n) 0 0
 decimal-first n h l = digits-first 19 n h l
@@ -163,15 +163,15 @@ pub quoted-bus : quoted "bus" ≡ 98 ∷ 117 ∷ 115 ∷ []
 quoted-bus = refl
 
 pub decimal-0 : decimal 0 ≡ quoted "0"
-unfolding placesTo digits
+unfolding placesTo decimals
 decimal-0 = refl
 
 pub decimal-65535 : decimal 65535 ≡ quoted "65535"
-unfolding placesTo digits
+unfolding placesTo decimals
 decimal-65535 = refl
 
 pub decimal-largest : decimal 18446744073709551615 ≡ quoted "18446744073709551615"
-unfolding placesTo digits
+unfolding placesTo decimals
 decimal-largest = refl
 
 pub value-65535 : valueOf (quoted "65535") ≡ 65535
@@ -179,13 +179,13 @@ unfolding valueFrom
 value-65535 = refl
 
 pub signed-below-zero : signed (negsuc 3) ≡ quoted "-4"
-unfolding placesTo digits
+unfolding placesTo decimals
 signed-below-zero = refl
 
 pub signed-lowest : signed (negsuc 9223372036854775807) ≡ quoted "-9223372036854775808"
-unfolding placesTo digits
+unfolding placesTo decimals
 signed-lowest = refl
 
 pub signed-above : signed (pos 17) ≡ quoted "17"
-unfolding placesTo digits
+unfolding placesTo decimals
 signed-above = refl

@@ -4,20 +4,20 @@ use mathlib.Core.Bool.{cond}
 use mathlib.Core.List.{List, _++_}
 use lib.Dec.{leb, eqb}
 use lib.ListN.{length, drop}
-use Rattle.print_text.specs.declared.Line.{Line}
+use Rattle.print_text.specs.declared.Handed.{Handed}
 
 -- a text for a buffer of n bytes: its length, or 10, buffer too short
-unfoldable pub lineFor : List ℕ → ℕ → Line
-lineFor text n = cond (leb (length text) n) (record { refusal = 0; length = length text }) (record { refusal = 10; length = 0 })
+unfoldable pub handed : List ℕ → ℕ → Handed
+handed text n = cond (leb (length text) n) (record { refusal = 0; length = length text }) (record { refusal = 10; length = 0 })
 
 -- the text at the front of the buffer, and what lies behind as it was; the whole buffer as it was where it is too short
-unfoldable pub lineIn : List ℕ → List ℕ → List ℕ
-lineIn text l = cond (leb (length text) (length l)) (text ++ drop (length text) l) l
+unfoldable pub bufferWith : List ℕ → List ℕ → List ℕ
+bufferWith text l = cond (leb (length text) (length l)) (text ++ drop (length text) l) l
 
 -- where something comes before the 10: the number of it and no text, or the same where that number is 0
-unfoldable pub lineUnless : ℕ → List ℕ → ℕ → Line
-lineUnless code text n = cond (eqb code 0) (lineFor text n) (record { refusal = code; length = 0 })
+unfoldable pub handedUnless : ℕ → List ℕ → ℕ → Handed
+handedUnless code text n = cond (eqb code 0) (handed text n) (record { refusal = code; length = 0 })
 
 -- the buffer then: as it was after that number too
-unfoldable pub lineInUnless : ℕ → List ℕ → List ℕ → List ℕ
-lineInUnless code text l = cond (eqb code 0) (lineIn text l) l
+unfoldable pub bufferUnless : ℕ → List ℕ → List ℕ → List ℕ
+bufferUnless code text l = cond (eqb code 0) (bufferWith text l) l

@@ -24,13 +24,13 @@ placesTo zero n = 1
 placesTo (suc k) n = cond (ltb n 10) 1 (suc (placesTo k (n / 10)))
 
 -- the last k digits of a number, from the highest down
-unfoldable pub digits : ℕ → ℕ → List ℕ
-digits zero n = []
-digits (suc k) n = digits k (n / 10) ++ ((48 + n % 10) ∷ [])
+unfoldable pub decimals : ℕ → ℕ → List ℕ
+decimals zero n = []
+decimals (suc k) n = decimals k (n / 10) ++ ((48 + n % 10) ∷ [])
 
 -- a number of 64 bits in decimal, with no zero before it: such a number has at most 20 digits
 abbrev pub decimal : ℕ → List ℕ
-decimal n = digits (placesTo 19 n) n
+decimal n = decimals (placesTo 19 n) n
 
 -- a whole number in decimal, with a minus before one below zero: `negsuc n` is -(n + 1)
 abbrev pub signed : ℤ → List ℕ

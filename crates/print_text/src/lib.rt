@@ -7,10 +7,10 @@ ghost use lib.IntN.{pos, natAbs};
 ghost use lib.Signed.{ltZ};
 ghost use lib.ListN.{length};
 ghost use Rattle.print_text.specs.Text.{placesTo, decimal, signed, Put, PutIn};
-ghost use Rattle.print_text.specs.Buffers.{lineFor, lineIn};
+ghost use Rattle.print_text.specs.Buffers.{handed, bufferWith};
 
 // A text in a lent buffer: its length, or the refusal 10 where the buffer is too short for it.
-pub struct Line {
+pub struct Handed {
     pub refusal: u8,
     pub length: usize,
 }
@@ -78,15 +78,15 @@ pub fn put_signed(buf: &mut [u8], at: usize, z: i64) -> usize
 }
 
 // Puts a whole text at the front of a lent buffer, where that is long enough.
-pub fn hand_over(line: &[u8], out: &mut [u8]) -> Line
-    ensures { λ r. ⌜ (r ≡ lineFor (now (line .entry)) (length (now (out .entry)))) × (now (out .exit) ≡ lineIn (now (line .entry)) (now (out .entry))) ⌝ }
+pub fn hand_over(line: &[u8], out: &mut [u8]) -> Handed
+    ensures { λ r. ⌜ (r ≡ handed (now (line .entry)) (length (now (out .entry)))) × (now (out .exit) ≡ bufferWith (now (line .entry)) (now (out .entry))) ⌝ }
 {
     if out.len() < line.len() {
-        return Line {
+        return Handed {
             refusal: 10,
             length: 0,
         };
     }
     let length = put(out, 0, line);
-    Line { refusal: 0, length }
+    Handed { refusal: 0, length }
 }

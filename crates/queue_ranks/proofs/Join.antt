@@ -3,7 +3,7 @@ use Rattle.folds.proofs.Ground.{ℕ, zero, suc, _+_, _-_, _<_, _≤_, _≡_, re
 use Rattle.folds.specs.Below.{maxBelow}
 use Rattle.folds.proofs.Figures.{max-at, max-bound}
 use Rattle.queue_rules.specs.Rules.{Terms, Turn, turn, line, join, entered}
-use Rattle.queue_ranks.specs.Ranks.{listFrom, taskAt, othersOf, turnOf, queueFrom}
+use Rattle.queue_ranks.specs.Ranks.{listFrom, taskRanked, othersOf, turnOf, queueFrom}
 use Rattle.folds.proofs.Searches.{on-eq, find-same, find-is}
 use Rattle.queue_ranks.proofs.Lists.{list-same, list-snoc}
 use Rattle.queue_ranks.proofs.Ranked.{At, Queued}
@@ -34,14 +34,14 @@ module _ {n : ℕ} {t : Terms} {R S : ℕ → ℕ → ℕ} {i : ℕ} (x : Joins 
       (λ e. rw e (omega (arith, x .new))) (λ d. omega (arith, below u l d))))
       (omega (arith, x .new, max-at n i (S (t .processor i)) (x .inside)))
 
-  pub join-task : (j : ℕ) → 1 ≤ j → j ≤ maxBelow n (R (t .processor i)) → taskAt n (S (t .processor i)) j ≡ taskAt n (R (t .processor i)) j
+  pub join-task : (j : ℕ) → 1 ≤ j → j ≤ maxBelow n (R (t .processor i)) → taskRanked n (S (t .processor i)) j ≡ taskRanked n (R (t .processor i)) j
   join-task j a b =
       find-same n (λ u. eqb (S (t .processor i) u) j) (λ u. eqb (R (t .processor i) u) j)
       (λ u l. on-eq (eqb (S (t .processor i) u) j ≡ eqb (R (t .processor i) u) j) u i
       (λ e. rw e (ne-eqb _ j (λ z. omega (arith, x .new)) ∙ sym (ne-eqb _ j (λ z. omega (arith, x .out)))))
       (λ d. ap (λ (y : ℕ). eqb y j) (x .kept (t .processor i) u l d)))
 
-  pub join-last : taskAt n (S (t .processor i)) (suc (maxBelow n (R (t .processor i)))) ≡ i
+  pub join-last : taskRanked n (S (t .processor i)) (suc (maxBelow n (R (t .processor i)))) ≡ i
   join-last =
       find-is n i (λ u. eqb (S (t .processor i) u) (suc (maxBelow n (R (t .processor i))))) (x .inside) (eq-eqb _ _ (x .new))
       (λ u l. ne-eqb (S (t .processor i) u) (suc (maxBelow n (R (t .processor i))))
@@ -50,20 +50,20 @@ module _ {n : ℕ} {t : Terms} {R S : ℕ → ℕ → ℕ} {i : ℕ} (x : Joins 
   join-others : 1 ≤ maxBelow n (R (t .processor i)) → othersOf n (S (t .processor i)) ≡ othersOf n (R (t .processor i)) ++ (i ∷ [])
   join-others a =
       let m : maxBelow n (S (t .processor i)) - 1 ≡ suc (maxBelow n (R (t .processor i)) - 1) = omega (arith, join-max) in
-      let f : ℕ → ℕ = taskAt n (S (t .processor i)) in
+      let f : ℕ → ℕ = taskRanked n (S (t .processor i)) in
       rw (m, list-snoc (maxBelow n (R (t .processor i)) - 1) 2 (suc (maxBelow n (R (t .processor i)))) f (omega arith), join-last)
       (ap (λ (l : List ℕ). l ++ (i ∷ []))
-      (list-same (maxBelow n (R (t .processor i)) - 1) 2 (taskAt n (S (t .processor i))) (taskAt n (R (t .processor i)))
+      (list-same (maxBelow n (R (t .processor i)) - 1) 2 (taskRanked n (S (t .processor i))) (taskRanked n (R (t .processor i)))
       (λ j b l. join-task j (omega arith) (omega arith))))
 
   own-turn : 1 ≤ maxBelow n (R (t .processor i))
-      → turnOf n S (t .processor i) ≡ turn (t .processor i) (taskAt n (R (t .processor i)) 1) (othersOf n (R (t .processor i)) ++ (i ∷ []))
+      → turnOf n S (t .processor i) ≡ turn (t .processor i) (taskRanked n (R (t .processor i)) 1) (othersOf n (R (t .processor i)) ++ (i ∷ []))
   own-turn a = ap₂ (λ (u : ℕ) (us : List ℕ). turn (t .processor i) u us) (join-task 1 (omega arith) a) (join-others a)
 
   new-turn : maxBelow n (R (t .processor i)) ≡ 0 → turnOf n S (t .processor i) ≡ turn (t .processor i) i []
   unfolding listFrom
   new-turn e =
-      let a : taskAt n (S (t .processor i)) 1 ≡ i = rw e at join-last in
+      let a : taskRanked n (S (t .processor i)) 1 ≡ i = rw e at join-last in
       let m : maxBelow n (S (t .processor i)) - 1 ≡ 0 = omega (arith, join-max) in
       rw (a, m)
 

@@ -3,7 +3,7 @@ use Rattle.folds.proofs.Ground.{ℕ, suc, _+_, _-_, _<_, _≤_, _≡_, sym, ap,
 use Rattle.folds.specs.Below.{maxBelow}
 use Rattle.folds.proofs.Figures.{max-at, max-same}
 use Rattle.queue_rules.specs.Rules.{Terms}
-use Rattle.queue_ranks.specs.Ranks.{taskAt}
+use Rattle.queue_ranks.specs.Ranks.{taskRanked}
 use Rattle.folds.proofs.Searches.{on-eq}
 use Rattle.queue_ranks.proofs.Ranked.{At, Ranked, Queued, Timed, full}
 use Rattle.queue_ranks.proofs.Same.{same-task}
@@ -19,9 +19,9 @@ module _ {n : ℕ} {t : Terms} {R S : ℕ → ℕ → ℕ} {i : ℕ} (x : Joins 
       (λ e. rw e (omega (arith, join-max x))) (λ ne. omega (arith, other-max k ne))
 
   -- whoever has a rank stays the task of that rank
-  pub task-stays : (k j : ℕ) → 1 ≤ j → j ≤ maxBelow n (R k) → taskAt n (S k) j ≡ taskAt n (R k) j
+  pub task-stays : (k j : ℕ) → 1 ≤ j → j ≤ maxBelow n (R k) → taskRanked n (S k) j ≡ taskRanked n (R k) j
   task-stays k j a b =
-      on-eq (taskAt n (S k) j ≡ taskAt n (R k) j) k (t .processor i)
+      on-eq (taskRanked n (S k) j ≡ taskRanked n (R k) j) k (t .processor i)
       (λ e. rw e (join-task x j a (rw e at b)))
       (λ ne. sym (same-task n (R k) (S k) (λ u l. join-other x k u ne l) j))
 
@@ -30,11 +30,11 @@ module _ {n : ℕ} {t : Terms} {R S : ℕ → ℕ → ℕ} {i : ℕ} (x : Joins 
     own = λ k u l ne. on-eq (S k u ≡ 0) u i
         (λ e. rw e (x .elsewhere k (λ p. ne (p ∙ ap (t .processor) (sym e))) ∙ r .own k i (x .inside) (λ p. ne (p ∙ ap (t .processor) (sym e)))))
         (λ d. x .kept k u l d ∙ r .own k u l ne);
-    alone = λ u l a. on-eq (taskAt n (S (t .processor u)) (S (t .processor u) u) ≡ u) u i
+    alone = λ u l a. on-eq (taskRanked n (S (t .processor u)) (S (t .processor u) u) ≡ u) u i
         (λ e. rw (e, x .new) (join-last x))
         (λ d. let k = t .processor u in let b : 1 ≤ R k u = omega (arith, x .kept k u l d) in
         rw (x .kept k u l d) (task-stays k (R k u) b (max-at n u (R k) l) ∙ r .alone u l b));
-    backed = λ u l a. on-eq (taskAt n (S (t .processor u)) (S (t .processor u) u - 1) < n) u i
+    backed = λ u l a. on-eq (taskRanked n (S (t .processor u)) (S (t .processor u) u - 1) < n) u i
         (λ e. rw (e, x .new) (before r (t .processor i) (suc (maxBelow n (R (t .processor i))) - 1) (omega (arith, x .new, rw e at a)) (omega arith)))
         (λ d. let k = t .processor u in let b : 2 ≤ R k u = omega (arith, x .kept k u l d) in
         rw (x .kept k u l d) (before r k (R k u - 1) (omega arith) (omega (arith, max-at n u (R k) l))));
@@ -42,7 +42,7 @@ module _ {n : ℕ} {t : Terms} {R S : ℕ → ℕ → ℕ} {i : ℕ} (x : Joins 
         (λ d. r .uses u l (omega (arith, x .kept (t .processor u) u l d)));
   }
     where
-      before : Ranked n t R → (k j : ℕ) → 1 ≤ j → j ≤ maxBelow n (R k) → taskAt n (S k) j < n
+      before : Ranked n t R → (k j : ℕ) → 1 ≤ j → j ≤ maxBelow n (R k) → taskRanked n (S k) j < n
       before r k j a b = rw (task-stays k j a b) (full r k j a b)
 
   -- its processor is in the queue
@@ -88,5 +88,5 @@ module _ {n : ℕ} {t : Terms} {R S : ℕ → ℕ → ℕ} {i : ℕ} (x : Joins 
       → Timed n t S 1 f (t .hold i) (t .budget (t .processor i))
   join-timed-new f z e some within = record {
     idle = λ y. let bad : ⊥ = omega arith in absurd bad;
-    runs = λ _. let a : taskAt n (S (t .processor i)) 1 ≡ i = rw z at (join-last x) in rw (e, a) (some, omega arith, within, omega arith);
+    runs = λ _. let a : taskRanked n (S (t .processor i)) 1 ≡ i = rw z at (join-last x) in rw (e, a) (some, omega arith, within, omega arith);
   }

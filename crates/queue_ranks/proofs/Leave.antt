@@ -4,7 +4,7 @@ use Rattle.folds.specs.Below.{maxBelow}
 use Rattle.folds.proofs.Figures.{max-at, max-bound}
 use Rattle.folds.proofs.Arrays.{by-eq}
 use Rattle.queue_rules.specs.Rules.{Terms, Turn, line, begin, leave, ticked}
-use Rattle.queue_ranks.specs.Ranks.{listFrom, taskAt, othersOf, turnOf, queueFrom}
+use Rattle.queue_ranks.specs.Ranks.{listFrom, taskRanked, othersOf, turnOf, queueFrom}
 use Rattle.folds.proofs.Searches.{find-same, same-eqb}
 use Rattle.queue_ranks.proofs.Lists.{list-same, list-shift, list-snoc}
 use Rattle.queue_ranks.proofs.Ranked.{Queued}
@@ -29,27 +29,27 @@ module _ {n : ℕ} {R S : ℕ → ℕ → ℕ} {k : ℕ} (x : Leaves n R S k) wh
       max-bound n (suc (maxBelow n (S k))) (R k) (λ u l. omega (arith, x .fall u l, max-at n u (S k) l)) in
       omega arith
 
-  pub leave-task : (j : ℕ) → 1 ≤ j → taskAt n (S k) j ≡ taskAt n (R k) (suc j)
+  pub leave-task : (j : ℕ) → 1 ≤ j → taskRanked n (S k) j ≡ taskRanked n (R k) (suc j)
   leave-task j a =
       find-same n (λ u. eqb (S k u) j) (λ u. eqb (R k u) (suc j))
       (λ u l. same-eqb (S k u) j (R k u) (suc j) (λ e. omega (arith, x .fall u l)) (λ e. omega (arith, x .fall u l)))
 
   -- the first task of each processor afterwards
-  pub after-first : (l : ℕ) → taskAt n (S l) 1 ≡ cond (eqb l k) (taskAt n (R l) 2) (taskAt n (R l) 1)
+  pub after-first : (l : ℕ) → taskRanked n (S l) 1 ≡ cond (eqb l k) (taskRanked n (R l) 2) (taskRanked n (R l) 1)
   after-first l =
-      by-eq (λ (b : Bool). taskAt n (S l) 1 ≡ cond b (taskAt n (R l) 2) (taskAt n (R l) 1)) l k
+      by-eq (λ (b : Bool). taskRanked n (S l) 1 ≡ cond b (taskRanked n (R l) 2) (taskRanked n (R l) 1)) l k
       (λ e. rw e (leave-task 1 (omega arith)))
       (λ ne. sym (same-task n (R l) (S l) (λ u a. leave-other l u ne a) 1))
 
   -- with a second task: it is first now, and the others are behind it
-  leave-others : 2 ≤ maxBelow n (R k) → othersOf n (R k) ≡ taskAt n (S k) 1 ∷ othersOf n (S k)
+  leave-others : 2 ≤ maxBelow n (R k) → othersOf n (R k) ≡ taskRanked n (S k) 1 ∷ othersOf n (S k)
   unfolding listFrom
   leave-others a =
       let m : maxBelow n (R k) - 1 ≡ suc (maxBelow n (S k) - 1) = omega (arith, leave-max) in
       rw (m, leave-task 1 (omega arith))
-      (ap (λ (us : List ℕ). taskAt n (R k) 2 ∷ us)
-      (list-shift (maxBelow n (S k) - 1) 2 (taskAt n (R k))
-      ∙ list-same (maxBelow n (S k) - 1) 2 (λ j. taskAt n (R k) (suc j)) (taskAt n (S k)) (λ j b l. sym (leave-task j (omega arith)))))
+      (ap (λ (us : List ℕ). taskRanked n (R k) 2 ∷ us)
+      (list-shift (maxBelow n (S k) - 1) 2 (taskRanked n (R k))
+      ∙ list-same (maxBelow n (S k) - 1) 2 (λ j. taskRanked n (R k) (suc j)) (taskRanked n (S k)) (λ j b l. sym (leave-task j (omega arith)))))
 
   leave-empty : maxBelow n (R k) ≤ 1 → othersOf n (R k) ≡ []
   unfolding listFrom
@@ -62,7 +62,7 @@ module _ (n : ℕ) (t : Terms) (R : ℕ → ℕ → ℕ) where
   begin-none c g e = rw e
 
   pub begin-some : (c : ℕ) (g : ℕ → ℕ) → 1 ≤ c
-      → begin t (queueFrom n R c g) ≡ line (t .hold (taskAt n (R (g 0)) 1)) (t .budget (g 0)) (queueFrom n R c g)
+      → begin t (queueFrom n R c g) ≡ line (t .hold (taskRanked n (R (g 0)) 1)) (t .budget (g 0)) (queueFrom n R c g)
   unfolding listFrom
   begin-some zero g a = let bad : ⊥ = omega arith in absurd bad
   begin-some (suc c) g a = refl
@@ -98,16 +98,16 @@ module _ {n m : ℕ} (t : Terms) {R S : ℕ → ℕ → ℕ} {c : ℕ} {g : ℕ 
   leave-last b f a h = rw (leave-empty x a, behind f h)
 
   -- the next is granted within the budget left
-  pub leave-next : (b : ℕ) → 2 ≤ maxBelow n (R (g 0)) → t .hold (taskAt n (S (g 0)) 1) ≤ b
-      → leave t b (queueFrom n R (suc c) g) ≡ line (t .hold (taskAt n (S (g 0)) 1)) b (queueFrom n S (suc c) g)
+  pub leave-next : (b : ℕ) → 2 ≤ maxBelow n (R (g 0)) → t .hold (taskRanked n (S (g 0)) 1) ≤ b
+      → leave t b (queueFrom n R (suc c) g) ≡ line (t .hold (taskRanked n (S (g 0)) 1)) b (queueFrom n S (suc c) g)
   unfolding listFrom
   leave-next b a h =
       rw (leave-others x a, le-leb _ _ h)
-      (ap (λ (q : List Turn). line (t .hold (taskAt n (S (g 0)) 1)) b (turnOf n S (g 0) ∷ q))
+      (ap (λ (q : List Turn). line (t .hold (taskRanked n (S (g 0)) 1)) b (turnOf n S (g 0) ∷ q))
       (list-same c 1 (λ j. turnOf n R (g j)) (λ j. turnOf n S (g j)) (λ j d l. behind-turn j d (omega arith))))
 
   -- the processor goes to the tail
-  pub leave-back : (b : ℕ) (f : ℕ → ℕ) → 2 ≤ maxBelow n (R (g 0)) → b < t .hold (taskAt n (S (g 0)) 1)
+  pub leave-back : (b : ℕ) (f : ℕ → ℕ) → 2 ≤ maxBelow n (R (g 0)) → b < t .hold (taskRanked n (S (g 0)) 1)
       → ((j : ℕ) → j < c → f j ≡ g (suc j)) → f c ≡ g 0 → leave t b (queueFrom n R (suc c) g) ≡ begin t (queueFrom n S (suc c) f)
   unfolding listFrom
   leave-back b f a h q e =

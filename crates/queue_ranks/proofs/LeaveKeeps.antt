@@ -3,7 +3,7 @@ use Rattle.folds.proofs.Ground.{ℕ, zero, suc, _-_, _<_, _≤_, _≡_, refl, s
 use Rattle.folds.specs.Below.{maxBelow}
 use Rattle.folds.proofs.Figures.{max-same}
 use Rattle.queue_rules.specs.Rules.{Terms}
-use Rattle.queue_ranks.specs.Ranks.{taskAt}
+use Rattle.queue_ranks.specs.Ranks.{taskRanked}
 use Rattle.folds.proofs.Searches.{on-eq}
 use Rattle.queue_ranks.proofs.Ranked.{At, Ranked, Queued, Timed, task-rank, owner, sole, full}
 use Rattle.queue_ranks.proofs.Same.{same-task}
@@ -15,12 +15,12 @@ leave-ranked {n} {t} {R} {S} {k} x r = record {
   own = λ l u a ne. on-eq (S l u ≡ 0) l k
       (λ e. rw e (omega (arith, x .fall u a, rw e at (r .own l u a ne))))
       (λ d. x .kept l u d a ∙ r .own l u a ne);
-  alone = λ u a b. on-eq (taskAt n (S (t .processor u)) (S (t .processor u) u) ≡ u) (t .processor u) k
+  alone = λ u a b. on-eq (taskRanked n (S (t .processor u)) (S (t .processor u) u) ≡ u) (t .processor u) k
       (λ e. rw e (head-alone u a (rw e at b)))
       (λ d. rw (← leave-other x (t .processor u) u d a)
       (sym (same-task n (R (t .processor u)) (S (t .processor u)) (λ v c. leave-other x (t .processor u) v d c) (R (t .processor u) u))
       ∙ r .alone u a (rw (leave-other x (t .processor u) u d a) b)));
-  backed = λ u a b. on-eq (taskAt n (S (t .processor u)) (S (t .processor u) u - 1) < n) (t .processor u) k
+  backed = λ u a b. on-eq (taskRanked n (S (t .processor u)) (S (t .processor u) u - 1) < n) (t .processor u) k
       (λ e. rw e (head-backed u a (sym e) (rw e at b)))
       (λ d. rw (
         ← leave-other x (t .processor u) u d a,
@@ -32,15 +32,15 @@ leave-ranked {n} {t} {R} {S} {k} x r = record {
       (λ d. rw (leave-other x (t .processor u) u d a) b));
 }
   where
-    head-alone : (u : ℕ) → u < n → 1 ≤ S k u → taskAt n (S k) (S k u) ≡ u
+    head-alone : (u : ℕ) → u < n → 1 ≤ S k u → taskRanked n (S k) (S k u) ≡ u
     head-alone u a b =
         let f : suc (S k u) ≡ R k u = omega (arith, x .fall u a) in
         leave-task x (S k u) b ∙ rw f (sole r k u a (omega arith))
 
-    head-backed : (u : ℕ) → u < n → k ≡ t .processor u → 2 ≤ S k u → taskAt n (S k) (S k u - 1) < n
+    head-backed : (u : ℕ) → u < n → k ≡ t .processor u → 2 ≤ S k u → taskRanked n (S k) (S k u - 1) < n
     head-backed u a e b =
         let f : suc (S k u - 1) ≡ R k u - 1 = omega (arith, x .fall u a) in
-        let y : taskAt n (R k) (R k u - 1) < n = rw e (r .backed u a (rw (← e) (omega (arith, x .fall u a)))) in
+        let y : taskRanked n (R k) (R k u - 1) < n = rw e (r .backed u a (rw (← e) (omega (arith, x .fall u a)))) in
         rw (leave-task x (S k u - 1) (omega arith), f) y
 
 -- ── the queue of processors; the head is g 0, c others are queued ──
@@ -121,22 +121,22 @@ tick-timed k a l = record {
 
 module _ {n : ℕ} {t : Terms} {R : ℕ → ℕ → ℕ} (r : Ranked n t R) (within : (u : ℕ) → u < n → t .hold u ≤ t .budget (t .processor u)) where
   -- the first task of a queue has a hold time, and it is within the budget
-  pub first-fits : (k : ℕ) → 1 ≤ maxBelow n (R k) → (1 ≤ t .hold (taskAt n (R k) 1)) × (t .hold (taskAt n (R k) 1) ≤ t .budget k)
+  pub first-fits : (k : ℕ) → 1 ≤ maxBelow n (R k) → (1 ≤ t .hold (taskRanked n (R k) 1)) × (t .hold (taskRanked n (R k) 1) ≤ t .budget k)
   first-fits k a =
-      let l : taskAt n (R k) 1 < n = full r k 1 (omega arith) a in
-      fits (taskAt n (R k) 1) l (task-rank n 1 (R k) l)
+      let l : taskRanked n (R k) 1 < n = full r k 1 (omega arith) a in
+      fits (taskRanked n (R k) 1) l (task-rank n 1 (R k) l)
     where
       fits : (u : ℕ) → u < n → R k u ≡ 1 → (1 ≤ t .hold u) × (t .hold u ≤ t .budget k)
       fits u l e = let o : k ≡ t .processor u = owner r k u l (omega arith) in (r .uses u l (rw (← o) (omega arith)), rw o (within u l))
 
-  pub begin-timed : {m : ℕ} (c : ℕ) (g : ℕ → ℕ) → Queued n m R c g → 1 ≤ c → Timed n t R c g (t .hold (taskAt n (R (g 0)) 1)) (t .budget (g 0))
+  pub begin-timed : {m : ℕ} (c : ℕ) (g : ℕ → ℕ) → Queued n m R c g → 1 ≤ c → Timed n t R c g (t .hold (taskRanked n (R (g 0)) 1)) (t .budget (g 0))
   begin-timed c g w a = record {
     idle = λ z. let bad : ⊥ = omega arith in absurd bad;
     runs = λ _. let y = first-fits (g 0) (w .served 0 a) in (y .0, omega arith, y .1, omega arith);
   }
 
-  pub next-timed : (c : ℕ) (g : ℕ → ℕ) (b : ℕ) → 1 ≤ maxBelow n (R (g 0)) → t .hold (taskAt n (R (g 0)) 1) ≤ b → b ≤ t .budget (g 0) → 1 ≤ c
-      → Timed n t R c g (t .hold (taskAt n (R (g 0)) 1)) b
+  pub next-timed : (c : ℕ) (g : ℕ → ℕ) (b : ℕ) → 1 ≤ maxBelow n (R (g 0)) → t .hold (taskRanked n (R (g 0)) 1) ≤ b → b ≤ t .budget (g 0) → 1 ≤ c
+      → Timed n t R c g (t .hold (taskRanked n (R (g 0)) 1)) b
   next-timed c g b a l z o = record {
     idle = λ e. let bad : ⊥ = omega arith in absurd bad;
     runs = λ _. let y = first-fits (g 0) a in (y .0, omega arith, l, z);

@@ -6,7 +6,7 @@ use Rattle.folds.proofs.Figures.{max-at, max-bound}
 use Rattle.folds.proofs.Ranges.{max-where-bound, max-where-at}
 use Rattle.folds.proofs.Arrays.{by-eq}
 use Rattle.queue_rules.specs.Rules.{Terms}
-use Rattle.queue_ranks.specs.Ranks.{taskAt}
+use Rattle.queue_ranks.specs.Ranks.{taskRanked}
 use Rattle.folds.proofs.Searches.{on-eq, on-le, find-passes, find-first, pigeon}
 
 -- a place of the queue at which processor k stands
@@ -18,8 +18,8 @@ pub record At (c : ℕ) (g : ℕ → ℕ) (k : ℕ) : Type 0 where
 -- each task in line is so in its own processor's queue, alone at its rank, behind one of the rank before, and has a hold time
 pub record Ranked (n : ℕ) (t : Terms) (R : ℕ → ℕ → ℕ) : Type 0 where
   pub own : (k u : ℕ) → u < n → k ≢ t .processor u → R k u ≡ 0
-  pub alone : (u : ℕ) → u < n → 1 ≤ R (t .processor u) u → taskAt n (R (t .processor u)) (R (t .processor u) u) ≡ u
-  pub backed : (u : ℕ) → u < n → 2 ≤ R (t .processor u) u → taskAt n (R (t .processor u)) (R (t .processor u) u - 1) < n
+  pub alone : (u : ℕ) → u < n → 1 ≤ R (t .processor u) u → taskRanked n (R (t .processor u)) (R (t .processor u) u) ≡ u
+  pub backed : (u : ℕ) → u < n → 2 ≤ R (t .processor u) u → taskRanked n (R (t .processor u)) (R (t .processor u) u - 1) < n
   pub uses : (u : ℕ) → u < n → 1 ≤ R (t .processor u) u → 1 ≤ t .hold u
 
 -- each processor with a task in line and no other is queued, just once
@@ -32,44 +32,44 @@ pub record Queued (n m : ℕ) (R : ℕ → ℕ → ℕ) (c : ℕ) (g : ℕ → �
 -- the hold and the budget left
 pub record Timed (n : ℕ) (t : Terms) (R : ℕ → ℕ → ℕ) (c : ℕ) (g : ℕ → ℕ) (h b : ℕ) : Type 0 where
   pub idle : c ≡ 0 → (h ≡ 0) × (b ≡ 0)
-  pub runs : 1 ≤ c → (1 ≤ h) × (h ≤ t .hold (taskAt n (R (g 0)) 1)) × (h ≤ b) × (b ≤ t .budget (g 0))
+  pub runs : 1 ≤ c → (1 ≤ h) × (h ≤ t .hold (taskRanked n (R (g 0)) 1)) × (h ≤ b) × (b ≤ t .budget (g 0))
 
 -- the task found at a rank has it, and is the first that has
-pub task-rank : (n j : ℕ) (f : ℕ → ℕ) → taskAt n f j < n → f (taskAt n f j) ≡ j
+pub task-rank : (n j : ℕ) (f : ℕ → ℕ) → taskRanked n f j < n → f (taskRanked n f j) ≡ j
 task-rank n j f l = eqb-true _ _ (find-passes n (λ u. eqb (f u) j) l)
 
-pub task-first : (n j u : ℕ) (f : ℕ → ℕ) → u < n → f u ≡ j → taskAt n f j ≤ u
+pub task-first : (n j u : ℕ) (f : ℕ → ℕ) → u < n → f u ≡ j → taskRanked n f j ≤ u
 task-first n j u f l e = find-first n u (λ v. eqb (f v) j) l (eq-eqb _ _ e)
 
-pub task-le : (n j : ℕ) (f : ℕ → ℕ) → taskAt n f j ≤ n
+pub task-le : (n j : ℕ) (f : ℕ → ℕ) → taskRanked n f j ≤ n
 task-le n j f = find-le n (λ u. eqb (f u) j)
 
 -- the greatest rank is some task's
-pub max-there : (n : ℕ) (f : ℕ → ℕ) → 1 ≤ maxBelow n f → taskAt n f (maxBelow n f) < n
+pub max-there : (n : ℕ) (f : ℕ → ℕ) → 1 ≤ maxBelow n f → taskRanked n f (maxBelow n f) < n
 max-there n f a =
-    on-le (taskAt n f (maxBelow n f) < n) n (taskAt n f (maxBelow n f))
+    on-le (taskRanked n f (maxBelow n f) < n) n (taskRanked n f (maxBelow n f))
     (λ out. let b : maxBelow n f ≤ maxBelow n f - 1 = max-bound n (maxBelow n f - 1) f (less out) in omega arith)
     (λ l. l)
   where
-    less : n ≤ taskAt n f (maxBelow n f) → (u : ℕ) → u < n → f u ≤ maxBelow n f - 1
+    less : n ≤ taskRanked n f (maxBelow n f) → (u : ℕ) → u < n → f u ≤ maxBelow n f - 1
     less out u l =
         on-eq (f u ≤ maxBelow n f - 1) (f u) (maxBelow n f)
         (λ e. let x = task-first n (maxBelow n f) u f l e in let bad : ⊥ = omega arith in absurd bad)
         (λ ne. omega (arith, max-at n u f l))
 
 -- where no two tasks share a rank, the last task of rank j is the first
-pub seated : (n : ℕ) (f : ℕ → ℕ) → ((u : ℕ) → u < n → 1 ≤ f u → taskAt n f (f u) ≡ u) → (j : ℕ) → 1 ≤ j
-    → maxBelow n (λ u. cond (eqb (f u) j) (u + 1) 0) ≡ cond (ltb (taskAt n f j) n) (taskAt n f j + 1) 0
+pub seated : (n : ℕ) (f : ℕ → ℕ) → ((u : ℕ) → u < n → 1 ≤ f u → taskRanked n f (f u) ≡ u) → (j : ℕ) → 1 ≤ j
+    → maxBelow n (λ u. cond (eqb (f u) j) (u + 1) 0) ≡ cond (ltb (taskRanked n f j) n) (taskRanked n f j + 1) 0
 seated n f alone j a =
-    on-le (maxBelow n (λ u. cond (eqb (f u) j) (u + 1) 0) ≡ cond (ltb (taskAt n f j) n) (taskAt n f j + 1) 0) n (taskAt n f j)
-    (λ out. rw (le-ltb (taskAt n f j) n out) (le-antisymm
+    on-le (maxBelow n (λ u. cond (eqb (f u) j) (u + 1) 0) ≡ cond (ltb (taskRanked n f j) n) (taskRanked n f j + 1) 0) n (taskRanked n f j)
+    (λ out. rw (le-ltb (taskRanked n f j) n out) (le-antisymm
     (max-where-bound n 0 (λ u. eqb (f u) j) (λ u. u + 1) (λ u l e. omega (arith, task-first n j u f l (eqb-true _ _ e))))
     (omega arith)))
-    (λ l. rw (lt-ltb (taskAt n f j) n l) (le-antisymm
-    (max-where-bound n (taskAt n f j + 1) (λ u. eqb (f u) j) (λ u. u + 1) (λ u b e. omega (arith, one u b (eqb-true _ _ e))))
-    (max-where-at n (taskAt n f j) (λ u. eqb (f u) j) (λ u. u + 1) l (eq-eqb _ _ (task-rank n j f l)))))
+    (λ l. rw (lt-ltb (taskRanked n f j) n l) (le-antisymm
+    (max-where-bound n (taskRanked n f j + 1) (λ u. eqb (f u) j) (λ u. u + 1) (λ u b e. omega (arith, one u b (eqb-true _ _ e))))
+    (max-where-at n (taskRanked n f j) (λ u. eqb (f u) j) (λ u. u + 1) l (eq-eqb _ _ (task-rank n j f l)))))
   where
-    one : (u : ℕ) → u < n → f u ≡ j → taskAt n f j ≡ u
+    one : (u : ℕ) → u < n → f u ≡ j → taskRanked n f j ≡ u
     one u l e = rw e at (alone u l (rw e a))
 
 module _ {n : ℕ} {t : Terms} {R : ℕ → ℕ → ℕ} (r : Ranked n t R) where
@@ -80,40 +80,40 @@ module _ {n : ℕ} {t : Terms} {R : ℕ → ℕ → ℕ} (r : Ranked n t R) wher
       (λ ne. let z = r .own k u l ne in let bad : ⊥ = omega arith in absurd bad)
 
   -- and alone at it
-  pub sole : (k u : ℕ) → u < n → 1 ≤ R k u → taskAt n (R k) (R k u) ≡ u
+  pub sole : (k u : ℕ) → u < n → 1 ≤ R k u → taskRanked n (R k) (R k u) ≡ u
   sole k u l a = let o = owner k u l a in rw o (r .alone u l (rw (← o) a))
 
   -- no rank is left out
-  down : (k d j : ℕ) → 1 ≤ j → j + d ≡ maxBelow n (R k) → taskAt n (R k) j < n
+  down : (k d j : ℕ) → 1 ≤ j → j + d ≡ maxBelow n (R k) → taskRanked n (R k) j < n
   down k zero j a e = let i : j ≡ maxBelow n (R k) = omega arith in rw i (max-there n (R k) (omega arith))
   down k (suc d) j a e =
-      let l : taskAt n (R k) (suc j) < n = down k d (suc j) (omega arith) (omega arith) in
-      step (taskAt n (R k) (suc j)) l (task-rank n (suc j) (R k) l)
+      let l : taskRanked n (R k) (suc j) < n = down k d (suc j) (omega arith) (omega arith) in
+      step (taskRanked n (R k) (suc j)) l (task-rank n (suc j) (R k) l)
     where
-      step : (u : ℕ) → u < n → R k u ≡ suc j → taskAt n (R k) j < n
+      step : (u : ℕ) → u < n → R k u ≡ suc j → taskRanked n (R k) j < n
       step u l f =
           let o : k ≡ t .processor u = owner k u l (omega arith) in
-          let x : taskAt n (R k) (R k u - 1) < n = rw o (r .backed u l (rw (← o) (omega arith))) in
+          let x : taskRanked n (R k) (R k u - 1) < n = rw o (r .backed u l (rw (← o) (omega arith))) in
           let y : R k u - 1 ≡ j = omega arith in
           rw y at x
 
-  pub full : (k j : ℕ) → 1 ≤ j → j ≤ maxBelow n (R k) → taskAt n (R k) j < n
+  pub full : (k j : ℕ) → 1 ≤ j → j ≤ maxBelow n (R k) → taskRanked n (R k) j < n
   full k j a b = down k (maxBelow n (R k) - j) j a (omega arith)
 
   -- the task of a rank is k's
-  pub task-owner : (k j : ℕ) → 1 ≤ j → j ≤ maxBelow n (R k) → t .processor (taskAt n (R k) j) ≡ k
+  pub task-owner : (k j : ℕ) → 1 ≤ j → j ≤ maxBelow n (R k) → t .processor (taskRanked n (R k) j) ≡ k
   task-owner k j a b =
-      let l : taskAt n (R k) j < n = full k j a b in
-      sym (owner k (taskAt n (R k) j) l (omega (arith, task-rank n j (R k) l)))
+      let l : taskRanked n (R k) j < n = full k j a b in
+      sym (owner k (taskRanked n (R k) j) l (omega (arith, task-rank n j (R k) l)))
 
   -- there are no more ranks than tasks
   pub ranks-few : (k : ℕ) → maxBelow n (R k) ≤ n
   ranks-few k =
-      pigeon n (maxBelow n (R k)) (λ j. taskAt n (R k) (suc j))
+      pigeon n (maxBelow n (R k)) (λ j. taskRanked n (R k) (suc j))
       (λ j l. full k (suc j) (omega arith) l)
       (λ i j a b e. omega (arith, at i a, at j b, ap (R k) e))
     where
-      at : (j : ℕ) → j < maxBelow n (R k) → R k (taskAt n (R k) (suc j)) ≡ suc j
+      at : (j : ℕ) → j < maxBelow n (R k) → R k (taskRanked n (R k) (suc j)) ≡ suc j
       at j l = task-rank n (suc j) (R k) (full k (suc j) (omega arith) l)
 
   -- a task outside its processor's queue makes the ranks fewer than the tasks
@@ -124,15 +124,15 @@ module _ {n : ℕ} {t : Terms} {R : ℕ → ℕ → ℕ} (r : Ranked n t R) wher
       f = R (t .processor i)
 
       pick : ℕ → ℕ
-      pick j = cond (eqb j 0) i (taskAt n f j)
+      pick j = cond (eqb j 0) i (taskRanked n f j)
 
       small : (j : ℕ) → j < suc (maxBelow n f) → pick j < n
       small j l =
-          by-eq (λ (d : Bool). cond d i (taskAt n f j) < n) j 0 (λ e. lt) (λ ne. full (t .processor i) j (omega arith) (omega arith))
+          by-eq (λ (d : Bool). cond d i (taskRanked n f j) < n) j 0 (λ e. lt) (λ ne. full (t .processor i) j (omega arith) (omega arith))
 
       rank : (j : ℕ) → j < suc (maxBelow n f) → f (pick j) ≡ j
       rank j l =
-          by-eq (λ (d : Bool). f (cond d i (taskAt n f j)) ≡ j) j 0 (λ e. omega arith)
+          by-eq (λ (d : Bool). f (cond d i (taskRanked n f j)) ≡ j) j 0 (λ e. omega arith)
           (λ ne. task-rank n j f (full (t .processor i) j (omega arith) (omega arith)))
 
       distinct : (j k : ℕ) → j < suc (maxBelow n f) → k < suc (maxBelow n f) → pick j ≡ pick k → j ≡ k

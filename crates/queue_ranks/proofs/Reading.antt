@@ -4,17 +4,17 @@ use Rattle.folds.specs.Below.{maxBelow}
 use Rattle.folds.proofs.Figures.{max-at}
 use Rattle.folds.proofs.Arrays.{by-eq}
 use Rattle.queue_rules.specs.Rules.{Terms, line, among, standsIn, tasksOf, holds}
-use Rattle.queue_ranks.specs.Ranks.{listFrom, taskAt, othersOf, turnOf, queueFrom}
+use Rattle.queue_ranks.specs.Ranks.{listFrom, taskRanked, othersOf, turnOf, queueFrom}
 use Rattle.folds.proofs.Searches.{on-eq, on-le}
 use Rattle.queue_ranks.proofs.Ranked.{At, Ranked, Queued, task-rank, owner, full}
 
 -- the tasks of a turn, first and others
 abbrev tasks : ℕ → (ℕ → ℕ) → List ℕ
-tasks n f = taskAt n f 1 ∷ othersOf n f
+tasks n f = taskRanked n f 1 ∷ othersOf n f
 
-pub all-tasks : (n : ℕ) (f : ℕ → ℕ) → 1 ≤ maxBelow n f → taskAt n f 1 ∷ othersOf n f ≡ listFrom (maxBelow n f) 1 (taskAt n f)
+pub all-tasks : (n : ℕ) (f : ℕ → ℕ) → 1 ≤ maxBelow n f → taskRanked n f 1 ∷ othersOf n f ≡ listFrom (maxBelow n f) 1 (taskRanked n f)
 unfolding listFrom
-all-tasks n f a = ap (λ (m : ℕ). listFrom m 1 (taskAt n f)) (same (maxBelow n f) a)
+all-tasks n f a = ap (λ (m : ℕ). listFrom m 1 (taskRanked n f)) (same (maxBelow n f) a)
   where
     same : (m : ℕ) → 1 ≤ m → suc (m - 1) ≡ m
     same m a = omega arith
@@ -38,10 +38,10 @@ module _ (n : ℕ) (R : ℕ → ℕ → ℕ) (g : ℕ → ℕ) (k : ℕ) where
       (λ p. absurd (ne (ap g p ∙ e))) (λ p. tasks-there c (suc i) x (omega arith) (omega arith) e))
 
 pub tasks-in : {n m : ℕ} {R : ℕ → ℕ → ℕ} {c : ℕ} {g : ℕ → ℕ} → Queued n m R c g → (k : ℕ)
-    → tasksOf k (queueFrom n R c g) ≡ listFrom (maxBelow n (R k)) 1 (taskAt n (R k))
+    → tasksOf k (queueFrom n R c g) ≡ listFrom (maxBelow n (R k)) 1 (taskRanked n (R k))
 unfolding listFrom
 tasks-in {n} {m} {R} {c} {g} w k =
-    on-eq (tasksOf k (queueFrom n R c g) ≡ listFrom (maxBelow n (R k)) 1 (taskAt n (R k))) (maxBelow n (R k)) 0
+    on-eq (tasksOf k (queueFrom n R c g) ≡ listFrom (maxBelow n (R k)) 1 (taskRanked n (R k))) (maxBelow n (R k)) 0
     (λ z. rw z (tasks-absent n R g k c 0 (λ j a l e. let s : 1 ≤ maxBelow n (R k) = rw e at (w .served j (omega arith)) in omega arith)))
     (λ z. let x : At c g k = w .stands k (omega arith) in
     tasks-there n R g k c 0 (x .index) (omega arith) (omega (arith, x .within)) (x .is) ∙ all-tasks n (R k) (omega arith))
@@ -62,14 +62,14 @@ among-none i f (suc c) a h =
     rw (ne-eqb (f a) i (h a (omega arith) (omega arith))) (among-none i f c (suc a) (λ j p l. h j (omega arith) (omega arith)))
 
 module _ (n : ℕ) (R : ℕ → ℕ → ℕ) (g : ℕ → ℕ) (i : ℕ) where
-  turn-there : (k j : ℕ) → 1 ≤ j → j ≤ maxBelow n (R k) → taskAt n (R k) j ≡ i → among i (tasks n (R k)) ≡ true
+  turn-there : (k j : ℕ) → 1 ≤ j → j ≤ maxBelow n (R k) → taskRanked n (R k) j ≡ i → among i (tasks n (R k)) ≡ true
   turn-there k j a l e =
-      ap (among i) (all-tasks n (R k) (omega arith)) ∙ among-there i (taskAt n (R k)) (maxBelow n (R k)) 1 j a (omega arith) e
+      ap (among i) (all-tasks n (R k) (omega arith)) ∙ among-there i (taskRanked n (R k)) (maxBelow n (R k)) 1 j a (omega arith) e
 
-  turn-none : (k : ℕ) → 1 ≤ maxBelow n (R k) → ((j : ℕ) → 1 ≤ j → j ≤ maxBelow n (R k) → taskAt n (R k) j ≢ i)
+  turn-none : (k : ℕ) → 1 ≤ maxBelow n (R k) → ((j : ℕ) → 1 ≤ j → j ≤ maxBelow n (R k) → taskRanked n (R k) j ≢ i)
       → among i (tasks n (R k)) ≡ false
   turn-none k a h =
-      ap (among i) (all-tasks n (R k) a) ∙ among-none i (taskAt n (R k)) (maxBelow n (R k)) 1 (λ j p l. h j p (omega arith))
+      ap (among i) (all-tasks n (R k) a) ∙ among-none i (taskRanked n (R k)) (maxBelow n (R k)) 1 (λ j p l. h j p (omega arith))
 
   stands-there : (c a x : ℕ) → a ≤ x → x < a + c → among i (tasks n (R (g x))) ≡ true
       → standsIn i (listFrom c a (λ s. turnOf n R (g s))) ≡ true
@@ -89,7 +89,7 @@ module _ (n : ℕ) (R : ℕ → ℕ → ℕ) (g : ℕ → ℕ) (i : ℕ) where
       ap₂ (λ (b d : Bool). b || d) (h a (omega arith) (omega arith)) (stands-none c (suc a) (λ x p l. h x (omega arith) (omega arith)))
 
 module _ {n m : ℕ} {t : Terms} {R : ℕ → ℕ → ℕ} {c : ℕ} {g : ℕ → ℕ} (r : Ranked n t R) (w : Queued n m R c g) (i : ℕ) where
-  nobody : ((x j : ℕ) → x < c → 1 ≤ j → j ≤ maxBelow n (R (g x)) → taskAt n (R (g x)) j ≢ i) → standsIn i (queueFrom n R c g) ≡ false
+  nobody : ((x j : ℕ) → x < c → 1 ≤ j → j ≤ maxBelow n (R (g x)) → taskRanked n (R (g x)) j ≢ i) → standsIn i (queueFrom n R c g) ≡ false
   nobody h = stands-none n R g i c 0 (λ x p l. turn-none n R g i (g x) (w .served x (omega arith)) (λ j. h x j (omega arith)))
 
   -- a task is in line exactly when it has a rank in its processor's queue
@@ -102,7 +102,7 @@ module _ {n m : ℕ} {t : Terms} {R : ℕ → ℕ → ℕ} {c : ℕ} {g : ℕ �
       stands-there n R g i c 0 (x .index) (omega arith) (omega (arith, x .within)) (rw (x .is) q) ∙ sym (le-leb 1 (R (t .processor i) i) a))
       (λ z. nobody (λ x j b a d e. out x j a e z) ∙ sym (lt-leb 1 (R (t .processor i) i) z))
     where
-      out : (x j : ℕ) → 1 ≤ j → taskAt n (R (g x)) j ≡ i → R (t .processor i) i < 1 → ⊥
+      out : (x j : ℕ) → 1 ≤ j → taskRanked n (R (g x)) j ≡ i → R (t .processor i) i < 1 → ⊥
       out x j a e z =
           let f : R (g x) i ≡ j = rw e at (task-rank n j (R (g x)) (rw e l)) in
           let o : g x ≡ t .processor i = owner r (g x) i l (omega arith) in
@@ -119,7 +119,7 @@ module _ (n : ℕ) (R : ℕ → ℕ → ℕ) (i : ℕ) where
   unfolding listFrom
   holds-none c g h b e = rw e
 
-  pub holds-first : (c : ℕ) (g : ℕ → ℕ) (h b : ℕ) → 1 ≤ c → holds i (line h b (queueFrom n R c g)) ≡ eqb (taskAt n (R (g 0)) 1) i
+  pub holds-first : (c : ℕ) (g : ℕ → ℕ) (h b : ℕ) → 1 ≤ c → holds i (line h b (queueFrom n R c g)) ≡ eqb (taskRanked n (R (g 0)) 1) i
   unfolding listFrom
   holds-first zero g h b a = let bad : ⊥ = omega arith in absurd bad
   holds-first (suc c) g h b a = refl

@@ -3,18 +3,18 @@ use Rattle.folds.proofs.Ground.{ℕ, _-_, _<_, _≡_, refl, sym, ap, ap₂, _�
 use Rattle.folds.specs.Below.{maxBelow}
 use Rattle.folds.proofs.Figures.{max-same}
 use Rattle.queue_rules.specs.Rules.{Terms, turn}
-use Rattle.queue_ranks.specs.Ranks.{taskAt, othersOf, turnOf, queueFrom}
+use Rattle.queue_ranks.specs.Ranks.{taskRanked, othersOf, turnOf, queueFrom}
 use Rattle.folds.proofs.Searches.{find-same}
 use Rattle.queue_ranks.proofs.Lists.{list-same}
 use Rattle.queue_ranks.proofs.Ranked.{At, Ranked, Queued, Timed}
 
 -- one queue of tasks
 module _ (n : ℕ) (f g : ℕ → ℕ) (same : (u : ℕ) → u < n → f u ≡ g u) where
-  pub same-task : (j : ℕ) → taskAt n f j ≡ taskAt n g j
+  pub same-task : (j : ℕ) → taskRanked n f j ≡ taskRanked n g j
   same-task j = find-same n (λ u. eqb (f u) j) (λ u. eqb (g u) j) (λ u l. ap (λ (x : ℕ). eqb x j) (same u l))
 
   pub same-others : othersOf n f ≡ othersOf n g
-  same-others = rw (max-same n f g same) (list-same (maxBelow n g - 1) 2 (taskAt n f) (taskAt n g) (λ j a l. same-task j))
+  same-others = rw (max-same n f g same) (list-same (maxBelow n g - 1) 2 (taskRanked n f) (taskRanked n g) (λ j a l. same-task j))
 
 pub same-turn : (n : ℕ) (R S : ℕ → ℕ → ℕ) (k : ℕ) → ((u : ℕ) → u < n → R k u ≡ S k u) → turnOf n R k ≡ turnOf n S k
 same-turn n R S k h = ap₂ (λ (u : ℕ) (us : List ℕ). turn k u us) (same-task n (R k) (S k) h 1) (same-others n (R k) (S k) h)

@@ -12,16 +12,16 @@ listFrom zero i f = []
 listFrom (suc n) i f = f i ∷ listFrom n (suc i) f
 
 -- the task of rank j, n where there is none
-abbrev pub taskAt : ℕ → (ℕ → ℕ) → ℕ → ℕ
-taskAt n f j = findBelow n (λ u. eqb (f u) j)
+abbrev pub taskRanked : ℕ → (ℕ → ℕ) → ℕ → ℕ
+taskRanked n f j = findBelow n (λ u. eqb (f u) j)
 
 -- the tasks behind the first: those of rank 2 to the greatest
 abbrev pub othersOf : ℕ → (ℕ → ℕ) → List ℕ
-othersOf n f = listFrom (maxBelow n f - 1) 2 (taskAt n f)
+othersOf n f = listFrom (maxBelow n f - 1) 2 (taskRanked n f)
 
 -- the turn of processor k
 abbrev pub turnOf : ℕ → (ℕ → ℕ → ℕ) → ℕ → Turn
-turnOf n R k = turn k (taskAt n (R k) 1) (othersOf n (R k))
+turnOf n R k = turn k (taskRanked n (R k) 1) (othersOf n (R k))
 
 -- the queue of the c processors g 0, g 1, ..
 abbrev pub queueFrom : ℕ → (ℕ → ℕ → ℕ) → ℕ → (ℕ → ℕ) → List Turn

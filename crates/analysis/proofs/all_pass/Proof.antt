@@ -19,7 +19,7 @@ counts-requires c κs = c .before .before .before .pre .known .plan
 
 loop-holds : tie.Need-loop-holds Inv-loop μ-loop
 unfolding allBelow
-loop-holds c = (omega arith, c .wide .ensures .0 ∙ c .before .counts .ensures .1, refl)
+loop-holds c = (omega arith, c .wide .ensures .same ∙ c .before .counts .ensures .tasks, refl)
 
 passes-requires : tie.Need-passes-requires Inv-loop μ-loop
 passes-requires c κs =

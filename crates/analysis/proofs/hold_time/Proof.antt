@@ -11,13 +11,13 @@ returns c = figure-told _ _ (figure-refused _ (c .before .before .before .user-o
 hold-at-requires : tie.Need-hold-at-requires
 hold-at-requires c κs =
     let u = c .before .before .before .before .before .user-of .ensures .user (c .before .before .if1 .left) in
-    record { long = u .known .figures .long; row = user-task u; resource = rw (c .wide .ensures .0) (user-resource u) }
+    record { long = u .known .figures .long; row = user-task u; resource = rw (c .wide .ensures .same) (user-resource u) }
 
 returns-2 : tie.Need-returns-2
 returns-2 c =
     let f = c .before .before .before .before .before .before .user-of .ensures in
     let clear = c .before .before .before .if1 .left in
-    figure-told _ _ (figure-given (sym clear ∙ f .code) (c .hold-at .ensures ∙ rw (c .before .wide .ensures .0) (user-hold (f .user clear))))
+    figure-told _ _ (figure-given (sym clear ∙ f .code) (c .hold-at .ensures ∙ rw (c .before .wide .ensures .same) (user-hold (f .user clear))))
 
 pub hold-time-spec : {M : Type 1} → statement M
 hold-time-spec =

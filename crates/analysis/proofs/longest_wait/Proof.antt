@@ -14,8 +14,8 @@ longest-of-requires c κs =
     record {
       known = u .known;
       task = u .below;
-      resource = rw (c .wide .ensures .0) (user-resource u);
-      shared = rw (c .wide .ensures .0) (u .shared);
+      resource = rw (c .wide .ensures .same) (user-resource u);
+      shared = rw (c .wide .ensures .same) (u .shared);
     }
 
 returns-2 : tie.Need-returns-2
@@ -23,7 +23,7 @@ returns-2 c =
     let f = c .before .before .before .before .before .before .user-of .ensures in
     let clear = c .before .before .before .if1 .left in
     let u = f .user clear in
-    figure-told _ _ (figure-given (sym clear ∙ f .code) (c .longest-of .ensures .1 ∙ rw (c .before .wide .ensures .0, u .task)))
+    figure-told _ _ (figure-given (sym clear ∙ f .code) (c .longest-of .ensures .1 ∙ rw (c .before .wide .ensures .same, u .task)))
 
 pub longest-wait-spec : {M : Type 1} → statement M
 longest-wait-spec =

@@ -12,22 +12,22 @@ budget-at-requires c κs =
     let v = valid-plan _ (h .plan) in
     record {
       long = c .before .before .before .before .fill-figures .ensures .figures .long;
-      row = omega (arith, v .processors, h .processor, c .wide2 .ensures .0);
-      resource = omega (arith, v .resources, h .resource, c .before .before .wide .ensures .0);
+      row = omega (arith, v .processors, h .processor, c .wide2 .ensures .same);
+      resource = omega (arith, v .resources, h .resource, c .before .before .wide .ensures .same);
     }
 
 wait-in-requires : tie.Need-wait-in-requires
 wait-in-requires c κs =
     let h = c .before .before .before .before .before .before .before .before .before .pre in
-    (c .before .before .before .before .before .before .fill-figures .ensures, omega (arith, valid-plan _ (h .plan) .resources, h .resource, c .before .before .before .before .wide .ensures .0))
+    (c .before .before .before .before .before .before .fill-figures .ensures, omega (arith, valid-plan _ (h .plan) .resources, h .resource, c .before .before .before .before .wide .ensures .same))
 
 returns : tie.Need-returns
 returns c =
     let h = c .before .before .before .before .before .before .before .before .before .before .pre in
     let v = valid-plan _ (h .plan) in
-    let e = c .before .before .before .before .before .wide .ensures .0 in (
+    let e = c .before .before .before .before .before .wide .ensures .same in (
       c .before .before .budget-at .ensures
-          ∙ budget-of _ _ (c .before .before .before .before .before .before .before .fill-figures .ensures .figures) (c .before .before .before .wide2 .ensures .0) e (omega (arith, v .processors, h .processor)) (omega (arith, v .resources, h .resource)),
+          ∙ budget-of _ _ (c .before .before .before .before .before .before .before .fill-figures .ensures .figures) (c .before .before .before .wide2 .ensures .same) e (omega (arith, v .processors, h .processor)) (omega (arith, v .resources, h .resource)),
       c .wait-in .ensures .0 ∙ ap (waitTime _ _) e,
     )
 

@@ -27,7 +27,7 @@ task-requires c κs = let h = c .before .before .before .before .pre in (h .know
 loop-holds : tie.Need-loop-holds Inv-loop μ-loop
 loop-holds c =
     let a = c .before .before .before .before .before in
-    let e = c .before .wide .ensures .0 ∙ c .before .before .counts .ensures .1 in
+    let e = c .before .wide .ensures .same ∙ c .before .before .counts .ensures .tasks in
     (omega arith, e, omega (arith, e, valid-plan _ (a .pre .known .plan) .tasks), ap (λ (r : TaskRow). r .processor) (c .task .ensures), counted-none _ _ _)
 
 task-requires-2 : tie.Need-task-requires-2 Inv-loop μ-loop

@@ -17,7 +17,7 @@ abbrev μ-loop : tie.MeasureT-loop
 loop-holds : tie.Need-loop-holds Inv-loop μ-loop
 loop-holds c =
     let h = c .before .before .before .before .before .before .before .pre in
-    (omega arith, c .before .wide .ensures .0 ∙ c .before .before .counts .ensures .0, h .known .plan, h .known .tasks, h .longest, c .shared-flags .ensures, table-none _ _ (h .known .sections))
+    (omega arith, c .before .wide .ensures .same ∙ c .before .before .counts .ensures .processors, h .known .plan, h .known .tasks, h .longest, c .shared-flags .ensures, table-none _ _ (h .known .sections))
 
 hold-rows-requires : tie.Need-hold-rows-requires Inv-loop μ-loop
 hold-rows-requires c κs =

@@ -24,7 +24,7 @@ abbrev μ-loop : tie.MeasureT-loop
 loop-holds : tie.Need-loop-holds Inv-loop μ-loop
 loop-holds c =
     let w = c .before .before .before .before .before .before .pre in
-    record { within = omega arith; all = c .wide .ensures .0 ∙ c .before .counts .ensures .1; walk = w; held = held-none _ _ _ _ (w .long) }
+    record { within = omega arith; all = c .wide .ensures .same ∙ c .before .counts .ensures .tasks; walk = w; held = held-none _ _ _ _ (w .long) }
 
 order-read : tie.Need-shared-slice-read-wide Inv-loop μ-loop
 order-read c = let i = c .before .before .loop .inv in omega (arith, i .walk .tasks .long, i .walk .processor, valid-plan _ (i .walk .plan) .tasks, i .all)
@@ -35,7 +35,7 @@ returns c =
     let l = c .before .before .before .before .loop in
     let w = l .inv .walk in
     let v = valid-plan _ (w .plan) in
-    held-done _ v _ _ (l .x) _ _ _ (l .inv .held) (last-sits _ _ _ (l .x) (w .tasks) (w .processor) (omega (arith, v .tasks, l .inv .all)) (c .before .wide2 .ensures .0) (c .if1 .taken))
+    held-done _ v _ _ (l .x) _ _ _ (l .inv .held) (last-sits _ _ _ (l .x) (w .tasks) (w .processor) (omega (arith, v .tasks, l .inv .all)) (c .before .wide2 .ensures .same) (c .if1 .taken))
 
 -- ── where a task is next ──
 abbrev Seated : Type 0
@@ -48,7 +48,7 @@ next c =
     let v = valid-plan _ (w .plan) in
     record {
       held = l .inv .held;
-      sits = next-sits _ _ _ (l .x) (w .tasks) (w .processor) (omega (arith, v .tasks, l .inv .all)) (c .before .wide2 .ensures .0) (omega arith);
+      sits = next-sits _ _ _ (l .x) (w .tasks) (w .processor) (omega (arith, v .tasks, l .inv .all)) (c .before .wide2 .ensures .same) (omega arith);
       shared = w .shared;
       longest = w .longest;
       begun = w .begun;

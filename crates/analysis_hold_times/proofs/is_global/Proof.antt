@@ -19,7 +19,7 @@ abbrev μ-loop : tie.MeasureT-loop
 loop-holds : tie.Need-loop-holds Inv-loop μ-loop
 unfolding allBelow
 loop-holds c =
-    let e = c .wide .ensures .0 ∙ c .before .counts .ensures .1 in
+    let e = c .wide .ensures .same ∙ c .before .counts .ensures .tasks in
     (omega arith, e, omega (arith, e, valid-plan _ (c .before .before .before .before .pre .0 .plan) .tasks), refl)
 
 hold-at-requires : tie.Need-hold-at-requires Inv-loop μ-loop

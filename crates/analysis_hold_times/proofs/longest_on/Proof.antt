@@ -19,7 +19,7 @@ counts-requires c κs = c .before .pre
 
 loop-holds : tie.Need-loop-holds Inv-loop μ-loop
 unfolding maxBelow
-loop-holds c = (omega arith, c .before .counts .ensures .3, refl)
+loop-holds c = (omega arith, c .before .counts .ensures .sections, refl)
 
 section-requires : tie.Need-section-requires Inv-loop μ-loop
 section-requires c κs = (c .before .before .before .before .before .pre, omega arith)
@@ -30,7 +30,7 @@ loop-again c =
     let row = c .before .before .before .before .section .ensures in (
       omega arith,
       l .inv .1,
-      max-step _ _ (l .inv .2) (rw (c .before .chosen .ensures, c .before .before .before .wide .ensures .0, row)) (c .longer .ensures),
+      max-step _ _ (l .inv .2) (rw (c .before .chosen .ensures, c .before .before .before .wide .ensures .same, row)) (c .longer .ensures),
     )
 
 returns : tie.Need-returns Inv-loop μ-loop

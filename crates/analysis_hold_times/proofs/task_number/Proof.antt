@@ -18,7 +18,7 @@ counts-requires c κs = c .before .pre
 
 loop-holds : tie.Need-loop-holds Inv-loop μ-loop
 unfolding allBelow
-loop-holds c = (omega arith, c .wide .ensures .0 ∙ c .before .counts .ensures .1, refl)
+loop-holds c = (omega arith, c .wide .ensures .same ∙ c .before .counts .ensures .tasks, refl)
 
 task-requires : tie.Need-task-requires Inv-loop μ-loop
 task-requires c κs = (c .before .before .before .before .before .pre, omega arith)

@@ -28,7 +28,7 @@ resource c = omega arith
 hold : (c : tie.After-hold-at) → c .hold-at .result ≡ holdAt (planOf (start c .args .file .now)) (found c .task-number .result) (start c .args .q)
 hold c =
     c .hold-at .ensures
-    ∙ hold-of _ _ (start c .pre .figures) (c .before .wide2 .ensures .0) (omega (arith, valid c .tasks, below c)) (omega (arith, valid c .resources, resource c))
+    ∙ hold-of _ _ (start c .pre .figures) (c .before .wide2 .ensures .same) (omega (arith, valid c .tasks, below c)) (omega (arith, valid c .resources, resource c))
 
 -- ── the needs ──
 returns : tie.Need-returns
@@ -41,7 +41,7 @@ hold-at-requires : tie.Need-hold-at-requires
 hold-at-requires c κs =
     let h = c .before .before .before .before .before .before .before .before .before .pre in
     let v = valid-plan _ (h .plan) in
-    record { long = h .figures .long; row = omega (arith, v .tasks); resource = omega (arith, v .resources, c .wide2 .ensures .0) }
+    record { long = h .figures .long; row = omega (arith, v .tasks); resource = omega (arith, v .resources, c .wide2 .ensures .same) }
 
 returns-3 : tie.Need-returns-3
 returns-3 c = let a = c .before .before in (use-told _ _ _ (found a .task-number .ensures) (below a) (resource a) (c .sharing-code .ensures .0), found a .task-number .ensures)

@@ -28,14 +28,14 @@ loop-again : tie.Need-loop-again Inv-loop μ-loop
 loop-again c =
     let l = c .before .before .before .before .loop in
     let h = c .before .before .before .before .before .before .before .before .before .pre in
-    let own = c .before .before .wide2 .ensures .0 in
+    let own = c .before .before .wide2 .ensures .same in
     (omega arith, l .inv .1, others-step _ _ _ _ _ (h .0 .figures) own (omega arith) (h .1) (l .inv .2) (c .before .budget-at .ensures) (c .chosen .ensures), omega arith)
 
 returns : tie.Need-returns Inv-loop μ-loop
 returns c =
     let l = c .before .loop in
-    let w = c .before .before .wide .ensures .0 in
-    (others-done _ _ _ (l .l) (omega (arith, w, c .before .before .before .counts .ensures .0)) (l .inv .2), omega arith)
+    let w = c .before .before .wide .ensures .same in
+    (others-done _ _ _ (l .l) (omega (arith, w, c .before .before .before .counts .ensures .processors)) (l .inv .2), omega arith)
 
 pub wait-in-spec : {M : Type 1} → statement M
 wait-in-spec =

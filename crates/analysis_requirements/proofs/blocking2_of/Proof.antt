@@ -28,7 +28,7 @@ loop-holds : tie.Need-loop-holds Inv-loop μ-loop
 unfolding sumBelow
 loop-holds c =
     let h = c .before .before .before .before .before .before .pre in
-    let e = c .before .before .wide .ensures .0 ∙ c .before .before .before .counts .ensures .1 in
+    let e = c .before .before .wide .ensures .same ∙ c .before .before .before .counts .ensures .tasks in
     record { within = omega arith; all = e; few = omega (arith, e, valid-plan _ (h .plan) .tasks); asked = h; low = omega arith; told = refl }
 
 -- ── a term, and that it is small ──

@@ -21,16 +21,16 @@ unfolding gatheredBelow
 loop-holds c = (omega arith, refl)
 
 section-requires : tie.Need-section-requires Inv-loop μ-loop
-section-requires c κs = (c .before .before .before .before .before .pre, rw (← c .before .before .before .counts .ensures .3) (c .loop-test .taken))
+section-requires c κs = (c .before .before .before .before .before .pre, rw (← c .before .before .before .counts .ensures .sections) (c .loop-test .taken))
 
 array-read-table : tie.Need-array-read-table Inv-loop μ-loop
-array-read-table c = row-resource _ (c .before .before .before .before .before .before .before .before .before .pre) (c .before .before .before .before .before .before .before .counts .ensures .3) (c .before .before .before .before .loop-test .taken) (c .before .before .before .section .ensures) (c .wide2 .ensures .0)
+array-read-table c = row-resource _ (c .before .before .before .before .before .before .before .before .before .pre) (c .before .before .before .before .before .before .before .counts .ensures .sections) (c .before .before .before .before .loop-test .taken) (c .before .before .before .section .ensures) (c .wide2 .ensures .same)
 
 add-table : tie.Need-add-table Inv-loop μ-loop
 add-table c =
     let a = c .before .before .before .before .before .before .before .before .before in
     let own = eqb (c .before .before .wide .result) (a .args .i) in
-    omega (arith, valid-plan _ (a .pre) .sections, c .before .before .before .before .before .before .before .counts .ensures .3, on-more (planOf (a .args .file .now)) (a .args .i) _ own (c .before .before .before .before .before .loop .inv .1) (array-read-table c) (c .before .chosen .ensures))
+    omega (arith, valid-plan _ (a .pre) .sections, c .before .before .before .before .before .before .before .counts .ensures .sections, on-more (planOf (a .args .file .now)) (a .args .i) _ own (c .before .before .before .before .before .loop .inv .1) (array-read-table c) (c .before .chosen .ensures))
 
 array-write-table : tie.Need-array-write-table Inv-loop μ-loop
 array-write-table c = array-read-table c
@@ -39,11 +39,11 @@ loop-again : tie.Need-loop-again Inv-loop μ-loop
 loop-again c =
     let row = c .before .before .before .section .ensures in (
       omega arith,
-      gathered-step _ _ _ _ (c .before .before .before .before .before .loop .inv .1) (rw (c .wide2 .ensures .0, row)) (rw (c .before .chosen .ensures, c .before .before .wide .ensures .0, row)),
+      gathered-step _ _ _ _ (c .before .before .before .before .before .loop .inv .1) (rw (c .wide2 .ensures .same, row)) (rw (c .before .chosen .ensures, c .before .before .wide .ensures .same, row)),
     )
 
 returns : tie.Need-returns Inv-loop μ-loop
-returns c = on-table _ _ (c .before .before .before .counts .ensures .3) (omega arith) (c .before .loop .inv .1)
+returns c = on-table _ _ (c .before .before .before .counts .ensures .sections) (omega arith) (c .before .loop .inv .1)
 
 pub counts-on-spec : {M : Type 1} → statement M
 counts-on-spec =

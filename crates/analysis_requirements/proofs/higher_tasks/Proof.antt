@@ -40,7 +40,7 @@ shared-slice-read-mine c =
 loop-holds : tie.Need-loop-holds Inv-loop μ-loop
 loop-holds c =
     let a = c .before .before .before .before .before in
-    let e = c .before .wide .ensures .0 ∙ c .before .before .counts .ensures .1 in
+    let e = c .before .wide .ensures .same ∙ c .before .before .counts .ensures .tasks in
     (omega arith, e, omega (arith, e, valid-plan _ (a .pre .plan) .tasks), above-none _ _)
 
 shared-slice-read-place : tie.Need-shared-slice-read-place Inv-loop μ-loop

@@ -24,12 +24,12 @@ abbrev μ-loop : tie.MeasureT-loop
 
 loop-holds : tie.Need-loop-holds Inv-loop μ-loop
 unfolding maxBelow
-loop-holds c = record { within = omega arith; all = c .before .before .counts .ensures .3; asked = c .before .before .before .before .before .pre; told = refl }
+loop-holds c = record { within = omega arith; all = c .before .before .counts .ensures .sections; asked = c .before .before .before .before .before .pre; told = refl }
 
 task-requires : tie.Need-task-requires-2 Inv-loop μ-loop
 task-requires c κs =
     let i = c .before .before .before .loop .inv in
-    (i .asked .plan, row-task _ (i .asked .plan) (i .all) (c .before .before .loop-test .taken) (c .before .section .ensures) (c .wide .ensures .0))
+    (i .asked .plan, row-task _ (i .asked .plan) (i .all) (c .before .before .loop-test .taken) (c .before .section .ensures) (c .wide .ensures .same))
 
 -- ── where the section's resource is read ──
 abbrev Read : Type 0
@@ -38,7 +38,7 @@ Read = tie.After-wide2 Inv-loop μ-loop
 low-resource : (r : Read) → r .wide2 .result < 16
 low-resource r =
     let i = r .before .before .before .before .before .loop .inv in
-    row-resource _ (i .asked .plan) (i .all) (r .before .before .before .before .loop-test .taken) (r .before .before .before .section .ensures) (r .wide2 .ensures .0)
+    row-resource _ (i .asked .plan) (i .all) (r .before .before .before .before .loop-test .taken) (r .before .before .before .section .ensures) (r .wide2 .ensures .same)
 
 slice-read-shared : tie.Need-shared-slice-read-is-local Inv-loop μ-loop
 slice-read-shared c = let r = c .before in omega (arith, low-resource r, r .before .before .before .before .before .loop .inv .asked .terms .long)
@@ -60,7 +60,7 @@ loop-again c =
       within = omega arith;
       all = i .all;
       asked = i .asked;
-      told = max-step _ _ (i .told) (rw (c .before .chosen .ensures, shared, reach, c .before .before .before .before .before .before .before .half .ensures .0, r .wide2 .ensures .0, r .before .task2 .ensures, r .before .before .before .before .before .before .task .ensures, r .before .before .wide .ensures .0, r .before .before .before .section .ensures)) (c .longer .ensures);
+      told = max-step _ _ (i .told) (rw (c .before .chosen .ensures, shared, reach, c .before .before .before .before .before .before .before .half .ensures .same, r .wide2 .ensures .same, r .before .task2 .ensures, r .before .before .before .before .before .before .task .ensures, r .before .before .wide .ensures .same, r .before .before .before .section .ensures)) (c .longer .ensures);
     }
 
 returns : tie.Need-returns Inv-loop μ-loop

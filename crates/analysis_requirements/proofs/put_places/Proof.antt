@@ -23,7 +23,7 @@ abbrev μ-loop : tie.MeasureT-loop
 loop-holds : tie.Need-loop-holds Inv-loop μ-loop
 loop-holds c =
     let h = c .before .before .before .before .pre in
-    let e = c .wide .ensures .0 ∙ c .before .counts .ensures .1 in
+    let e = c .wide .ensures .same ∙ c .before .counts .ensures .tasks in
     record { within = omega arith; all = e; few = omega (arith, e, valid-plan _ (h .0) .tasks); plan = h .0; terms = h .1 }
 
 slice-write-terms : tie.Need-slice-write-terms Inv-loop μ-loop
@@ -38,7 +38,7 @@ loop-again c =
       all = i .all;
       few = i .few;
       plan = i .plan;
-      terms = terms-place _ (l .j) (l .terms) (i .terms) (omega arith) (rw (c .before .half .ensures .0, c .half2 .ensures .0, c .before .before .task .ensures));
+      terms = terms-place _ (l .j) (l .terms) (i .terms) (omega arith) (rw (c .before .half .ensures .same, c .half2 .ensures .same, c .before .before .task .ensures));
     }
 
 same-length : tie.Need-same-length Inv-loop μ-loop

@@ -22,7 +22,7 @@ abbrev μ-loop : tie.MeasureT-loop
 μ-loop file terms₀ n s₀ terms s = n - s
 
 loop-holds : tie.Need-loop-holds Inv-loop μ-loop
-loop-holds c = let h = c .before .before .before .before .pre in record { within = omega arith; all = c .before .counts .ensures .3; plan = h .0; terms = h .1 }
+loop-holds c = let h = c .before .before .before .before .pre in record { within = omega arith; all = c .before .counts .ensures .sections; plan = h .0; terms = h .1 }
 
 -- ── where the task and the resource of the section are read ──
 abbrev Read : Type 0
@@ -31,18 +31,18 @@ Read = tie.After-wide2 Inv-loop μ-loop
 low-task : (r : Read) → r .before .wide .result < 64
 low-task r =
     let i = r .before .before .before .before .loop .inv in
-    omega (arith, valid-plan _ (i .plan) .tasks, row-task _ (i .plan) (i .all) (r .before .before .before .loop-test .taken) (r .before .before .section .ensures) (r .before .wide .ensures .0))
+    omega (arith, valid-plan _ (i .plan) .tasks, row-task _ (i .plan) (i .all) (r .before .before .before .loop-test .taken) (r .before .before .section .ensures) (r .before .wide .ensures .same))
 
 low-resource : (r : Read) → r .wide2 .result < 16
 low-resource r =
     let i = r .before .before .before .before .loop .inv in
-    row-resource _ (i .plan) (i .all) (r .before .before .before .loop-test .taken) (r .before .before .section .ensures) (r .wide2 .ensures .0)
+    row-resource _ (i .plan) (i .all) (r .before .before .before .loop-test .taken) (r .before .before .section .ensures) (r .wide2 .ensures .same)
 
 task-is : (r : Read) → r .before .wide .result ≡ planOf (r .before .before .before .before .before .before .before .before .before .args .file .now) .section (r .before .before .before .before .loop .s) .task
-task-is r = r .before .wide .ensures .0 ∙ ap (λ (x : SectionRow). x .task) (r .before .before .section .ensures)
+task-is r = r .before .wide .ensures .same ∙ ap (λ (x : SectionRow). x .task) (r .before .before .section .ensures)
 
 resource-is : (r : Read) → r .wide2 .result ≡ planOf (r .before .before .before .before .before .before .before .before .before .args .file .now) .section (r .before .before .before .before .loop .s) .resource
-resource-is r = r .wide2 .ensures .0 ∙ ap (λ (x : SectionRow). x .resource) (r .before .before .section .ensures)
+resource-is r = r .wide2 .ensures .same ∙ ap (λ (x : SectionRow). x .resource) (r .before .before .section .ensures)
 
 length-is : (r : Read) → r .before .before .section .result .length ≡ planOf (r .before .before .before .before .before .before .before .before .before .args .file .now) .section (r .before .before .before .before .loop .s) .length
 length-is r = ap (λ (x : SectionRow). x .length) (r .before .before .section .ensures)

@@ -11,14 +11,14 @@ known : (c : tie.After-struct-known) → let a = c .before .before .before .befo
 known c =
     let h = c .before .before .before .before .before .before .before .before .pre in
     let s = h .sharer in
-    waits _ (valid-plan _ (s .known .plan)) _ _ _ (s .known .figures) (s .task) (s .resource) (h .used) (s .shared) (c .before .before .before .before .before .task .ensures) (c .before .before .before .before .wide .ensures .0) (c .before .before .before .budget-at .ensures) (c .before .before .wait-in .ensures .0) (c .before .fellows-of .ensures .1) (h .count)
+    waits _ (valid-plan _ (s .known .plan)) _ _ _ (s .known .figures) (s .task) (s .resource) (h .used) (s .shared) (c .before .before .before .before .before .task .ensures) (c .before .before .before .before .wide .ensures .same) (c .before .before .before .budget-at .ensures) (c .before .before .wait-in .ensures .0) (c .before .fellows-of .ensures .1) (h .count)
 
 budget-at-requires : tie.Need-budget-at-requires
 budget-at-requires c κs =
     let s = c .before .before .before .before .pre .sharer in
     record {
       long = s .known .figures .long;
-      row = processor-low _ (valid-plan _ (s .known .plan)) _ (s .task) (c .before .task .ensures) (c .wide .ensures .0);
+      row = processor-low _ (valid-plan _ (s .known .plan)) _ (s .task) (c .before .task .ensures) (c .wide .ensures .same);
       resource = s .resource;
     }
 

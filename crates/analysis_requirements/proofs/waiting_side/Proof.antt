@@ -26,7 +26,7 @@ abbrev μ-loop : tie.MeasureT-loop
 loop-holds : tie.Need-loop-holds Inv-loop μ-loop
 unfolding sumBelow
 loop-holds c =
-    let e = c .before .wide .ensures .0 ∙ c .before .before .counts .ensures .2 in
+    let e = c .before .wide .ensures .same ∙ c .before .before .counts .ensures .resources in
     record {
       within = omega arith;
       all = e;

@@ -1,6 +1,6 @@
 -- A look at the file, then the call by what that gave.
 use Rattle.folds.proofs.Ground.{ap, _∙_, needs}
-use Rattle.machine_rules.specs.Machine.{answerTold}
+use Rattle.machine_rules.specs.Machine.{answerOutcome}
 use Rattle.machine.proofs.Answered.{reply-told}
 use Rattle.machine.proofs.call.Statement.{statement}
 use Rattle.machine.proofs.call.Tie as tie
@@ -8,7 +8,7 @@ use Rattle.machine.proofs.call.Tie as tie
 returns : tie.Need-returns
 returns c =
     let h = c .call .ensures in
-    (h .0, (h .1, ap answerTold (h .0) ∙ reply-told _ _ _))
+    (h .0, (h .1, ap answerOutcome (h .0) ∙ reply-told _ _ _))
 
 pub call-spec : {M : Type 1} → statement M
 call-spec = tie.close (tie.spec (λ c. search needs) (λ c κs. search needs) (λ c. search needs) (λ c κs. search needs) returns)

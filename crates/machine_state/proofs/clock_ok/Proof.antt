@@ -17,13 +17,13 @@ shared-slice-read-wide c =
 sub-first : tie.Need-sub-first
 sub-first c =
     let row = c .before .before .before .before .before .before .before .before .pre in
-    rw (c .wide2 .ensures .0, c .before .before .wide .ensures .0) (rw add-zero at (row .head (omega arith) .some))
+    rw (c .wide2 .ensures .same, c .before .before .wide .ensures .same) (rw add-zero at (row .head (omega arith) .some))
 
 hold-at-requires : tie.Need-hold-at-requires
 hold-at-requires c κs =
     let row = c .before .before .before .before .before .before .before .before .pre in
     let low : c .wide2 .result < 65 =
-    rw (c .wide2 .ensures .0, c .before .before .wide .ensures .0) (rw add-zero at (head-low (row .tables) (row .resource) (row .head (omega arith)))) in
+    rw (c .wide2 .ensures .same, c .before .before .wide .ensures .same) (rw add-zero at (head-low (row .tables) (row .resource) (row .head (omega arith)))) in
     record { long = row .tables .figures-long; row = omega arith; resource = row .resource }
 
 budget-at-requires : tie.Need-budget-at-requires
@@ -36,7 +36,7 @@ unfolding clockTest
 returns-2 c =
     let first = c .before .before in
     let head = first .before .before in
-    rw (ne-eqb _ _ (head .before .before .if1 .left), c .before .hold-at .ensures, c .budget-at .ensures, first .wide2 .ensures .0, head .wide .ensures .0, add-zero)
+    rw (ne-eqb _ _ (head .before .before .if1 .left), c .before .hold-at .ensures, c .budget-at .ensures, first .wide2 .ensures .same, head .wide .ensures .same, add-zero)
 
 pub clock-ok-spec : {M : Type 1} → statement M
 clock-ok-spec =

@@ -23,25 +23,25 @@ returns : tie.Need-returns Inv-loop μ-loop
 unfolding queueTest
 returns c =
     let l = c .before .before .before .loop in
-    let n = c .before .before .before .before .wide .ensures .0 in
+    let n = c .before .before .before .before .wide .ensures .same in
     let a = c .before .before .before .before .before .before .before .before .args in
-    let high = slot-high (a .seats .now) (a .q) (a .t1) (l .i) (rw (c .before .wide2 .ensures .0) at (c .if1 .taken)) in
+    let high = slot-high (a .seats .now) (a .q) (a .t1) (l .i) (rw (c .before .wide2 .ensures .same) at (c .if1 .taken)) in
     rw (all-fails (a .c) (l .i) (slotTest (a .seats .now) (a .q) (a .t1)) (omega arith) high)
 
 returns-2 : tie.Need-returns-2 Inv-loop μ-loop
 unfolding queueTest
 returns-2 c =
     let l = c .before .before .before .before .loop in
-    let n = c .before .before .before .before .before .wide .ensures .0 in
+    let n = c .before .before .before .before .before .wide .ensures .same in
     let a = c .before .before .before .before .before .before .before .before .before .args in
-    let test = slot-is (a .seats .now) (a .q) (a .t1) (l .i) _ (c .before .before .wide2 .ensures .0) (omega arith) (l .inv .1) in
+    let test = slot-is (a .seats .now) (a .q) (a .t1) (l .i) _ (c .before .before .wide2 .ensures .same) (omega arith) (l .inv .1) in
     rw (all-fails (a .c) (l .i) (slotTest (a .seats .now) (a .q) (a .t1)) (omega arith) (test ∙ ap (leb 1) (c .if2 .taken)))
 
 loop-again : tie.Need-loop-again Inv-loop μ-loop
 loop-again c =
     let l = c .before .before .before .before .loop in
     let a = c .before .before .before .before .before .before .before .before .before .args in
-    let k = c .before .before .wide2 .ensures .0 in
+    let k = c .before .before .wide2 .ensures .same in
     let test = slot-is (a .seats .now) (a .q) (a .t1) (l .i) _ k (omega arith) (l .inv .1) in
     let taken : 1 ≤ getD (l .rest) (c .before .before .wide2 .result) 0 = omega (arith, c .if2 .left) in (
       omega arith,
@@ -53,7 +53,7 @@ returns-3 : tie.Need-returns-3 Inv-loop μ-loop
 unfolding queueTest
 returns-3 c =
     let l = c .before .before .before .loop in
-    let n = c .before .before .before .before .wide .ensures .0 in
+    let n = c .before .before .before .before .wide .ensures .same in
     let a = c .before .before .before .before .before .before .before .before .args in
     let all : l .i ≡ a .c = omega arith in
     let slots = rw all at (l .inv .2) in

@@ -26,7 +26,7 @@ returns : tie.Need-returns
 returns c =
     let start = c .before .before in
     let number = c .before .eight .ensures in
-    rw (number .0, c .byte .ensures .0) (part-tail (start .args .queue) (number .1) (start .args .c) (start .pre .1) (start .pre .0))
+    rw (number .0, c .byte .ensures .same) (part-tail (start .args .queue) (number .1) (start .args .c) (start .pre .1) (start .pre .0))
 
 pub tail-ok-spec : {M : Type 1} → statement M
 tail-ok-spec =

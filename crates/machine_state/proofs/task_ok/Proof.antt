@@ -47,7 +47,7 @@ unfolding taskTest
 returns-2 c =
     let start = c .before .before .before .before .before .before .before in
     let a = start .args in
-    rw (ne-eqb _ _ (c .before .before .before .before .if1 .left), c .before .wide .ensures .0, hold-at (a .figures .now) (a .base) (a .key) (a .u) (start .pre .counted))
+    rw (ne-eqb _ _ (c .before .before .before .before .if1 .left), c .before .wide .ensures .same, hold-at (a .figures .now) (a .base) (a .key) (a .u) (start .pre .counted))
     (back-same (a .seats .now) (a .key) (a .u) (leb 1 (getD (a .figures .now) (holdCell (a .u) (a .key / 512)) 0)) _ refl)
 
 pub task-ok-spec : {M : Type 1} → statement M

@@ -22,7 +22,7 @@ sits : (c : tie.After-wide2 Inv-loop μ-loop)
 sits c =
     let l = c .before .before .before in
     let a = l .before .before .before .before .args in
-    seat-read (a .seats .now) (a .q) (a .k) (l .loop .j) (l .before .wide .ensures .0) (c .wide2 .ensures .0)
+    seat-read (a .seats .now) (a .q) (a .k) (l .loop .j) (l .before .wide .ensures .same) (c .wide2 .ensures .same)
 
 returns : tie.Need-returns Inv-loop μ-loop
 returns c =

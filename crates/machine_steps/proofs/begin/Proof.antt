@@ -34,7 +34,7 @@ returns-2 : tie.Need-returns-2
 unfolding begun
 returns-2 c =
     let held = c .before .before in
-    rw (ne-eqb _ _ (held .before .if1 .left), held .hold-of .ensures, c .budget-at .ensures, c .before .wide .ensures .0, flag)
+    rw (ne-eqb _ _ (held .before .if1 .left), held .hold-of .ensures, c .budget-at .ensures, c .before .wide .ensures .same, flag)
 
 pub begin-spec : {M : Type 1} → statement M
 begin-spec =

@@ -10,7 +10,7 @@ sits : (c : tie.After-wide2) → let a = c .before .before .before .before .befo
     c .wide2 .result ≡ getD (a .seats .now) (seat (a .q) (a .k) (a .j)) 0
 sits c =
     let a = c .before .before .before .before .before .args in
-    seat-read (a .seats .now) (a .q) (a .k) (a .j) (c .before .before .wide .ensures .0) (c .wide2 .ensures .0)
+    seat-read (a .seats .now) (a .q) (a .k) (a .j) (c .before .before .wide .ensures .same) (c .wide2 .ensures .same)
 
 hold-at-requires : tie.Need-hold-at-requires
 hold-at-requires c κs =

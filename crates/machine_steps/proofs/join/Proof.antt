@@ -11,18 +11,18 @@ start c = c .before .before .before .before
 hold-at-requires : tie.Need-hold-at-requires
 hold-at-requires c κs =
     let p = start c .pre in
-    record { long = p .figures-long; row = p .task; resource = omega (arith, p .resource, c .wide .ensures .0) }
+    record { long = p .figures-long; row = p .task; resource = omega (arith, p .resource, c .wide .ensures .same) }
 
 budget-at-requires : tie.Need-budget-at-requires
 budget-at-requires c κs =
     let w = c .before .before in
     let p = start w .pre in
-    record { long = p .figures-long; row = omega (arith, p .core, c .wide2 .ensures .0); resource = omega (arith, p .resource, w .wide .ensures .0) }
+    record { long = p .figures-long; row = omega (arith, p .core, c .wide2 .ensures .same); resource = omega (arith, p .resource, w .wide .ensures .same) }
 
 push-requires : tie.Need-push-requires
 push-requires c κs =
     let w = c .before .before .before .before in
-    rw (w .wide .ensures .0) (start w .pre .room (w .before .if1 .taken))
+    rw (w .wide .ensures .same) (start w .pre .room (w .before .if1 .taken))
 
 returns : tie.Need-returns
 unfolding joinedLines
@@ -35,8 +35,8 @@ returns c =
       c .push .ensures .0,
       b .budget-at .ensures,
       b .before .before .hold-at .ensures,
-      b .before .wide2 .ensures .0,
-      w .wide .ensures .0,
+      b .before .wide2 .ensures .same,
+      w .wide .ensures .same,
     )
 
 returns-2 : tie.Need-returns-2
@@ -48,8 +48,8 @@ join-spec =
     tie.close
     (tie.spec
     (λ c κs. search needs) (λ c. search needs) (λ c. search needs) (λ c κs. search needs) hold-at-requires (λ c κs. search needs)
-    budget-at-requires (λ c. omega (arith, c .before .before .before .wide .ensures .0, start (c .before .before .before) .pre .resource))
-    (λ c. omega (arith, c .before .before .before .wide .ensures .0, start (c .before .before .before) .pre .resource)) push-requires
-    (λ c. omega (arith, c .before .before .before .before .before .wide .ensures .0, start (c .before .before .before .before .before) .pre .resource))
-    (λ c. omega (arith, c .before .before .before .before .before .wide .ensures .0, start (c .before .before .before .before .before) .pre .resource))
+    budget-at-requires (λ c. omega (arith, c .before .before .before .wide .ensures .same, start (c .before .before .before) .pre .resource))
+    (λ c. omega (arith, c .before .before .before .wide .ensures .same, start (c .before .before .before) .pre .resource)) push-requires
+    (λ c. omega (arith, c .before .before .before .before .before .wide .ensures .same, start (c .before .before .before .before .before) .pre .resource))
+    (λ c. omega (arith, c .before .before .before .before .before .wide .ensures .same, start (c .before .before .before .before .before) .pre .resource))
     returns returns-2)

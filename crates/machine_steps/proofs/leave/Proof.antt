@@ -9,7 +9,7 @@ array-write-marks c =
     omega (arith, p .resource, p .ready .placed 0 (p .ready .some), c .wide .ensures)
 
 returns : tie.Need-returns
-returns c = rw (c .pass .ensures, c .before .lower .ensures, c .before .before .before .before .wide .ensures .0)
+returns c = rw (c .pass .ensures, c .before .lower .ensures, c .before .before .before .before .wide .ensures .same)
 
 pub leave-spec : {M : Type 1} → statement M
 leave-spec =

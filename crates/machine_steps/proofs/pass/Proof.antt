@@ -23,7 +23,7 @@ unfolding passed
 returns c =
     let next = c .before .before .before in
     let a = next .before .before .before .before .before .args in
-    let none = seat-read (a .seats .now) (a .q) (slot (a .line) 0) 1 (next .before .wide .ensures .0) (sym (c .before .before .if1 .taken)) in
+    let none = seat-read (a .seats .now) (a .q) (slot (a .line) 0) 1 (next .before .wide .ensures .same) (sym (c .before .before .if1 .taken)) in
     rw (eq-eqb _ _ (sym none)) (c .begin .ensures)
 
 -- ── where the head has another task ──
@@ -34,7 +34,7 @@ start c = c .before .before .before .before .before .before
 next-seat : (c : tie.Else1) → let a = start c .args in 1 ≤ getD (a .seats .now) (seat (a .q) (slot (a .line) 0) 1) 0
 next-seat c =
     let a = start c .args in
-    omega (arith, seat-read (a .seats .now) (a .q) (slot (a .line) 0) 1 (c .before .before .wide .ensures .0) refl, c .if1 .left)
+    omega (arith, seat-read (a .seats .now) (a .q) (slot (a .line) 0) 1 (c .before .before .wide .ensures .same) refl, c .if1 .left)
 
 hold-of-requires : tie.Need-hold-of-requires
 hold-of-requires c κs =

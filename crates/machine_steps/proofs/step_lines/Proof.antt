@@ -7,7 +7,7 @@ use Rattle.folds.proofs.EachLaws.{each-later, each-step, each-done}
 use Rattle.folds.proofs.WordLaws.{word-step, word-fits, word-done}
 use Rattle.machine_state.specs.declared.LineRow.{LineRow}
 use Rattle.machine_state.specs.Shows.{noLine, slot}
-use Rattle.machine_steps.specs.Inner.{ends, stepped, steppedLines, cutWord}
+use Rattle.machine_steps.specs.Inner.{cutsHolder, stepped, steppedLines, cutWord}
 use Rattle.machine_steps.proofs.Marks.{endedBelow, ended-done, newly, grants-done, line-kept, kept-queued, mark-cut, mark-kept, cut-bit, grant-bit}
 use Rattle.machine_steps.proofs.step_lines.Statement.{statement}
 use Rattle.machine_steps.proofs.step_lines.Tie as tie
@@ -17,7 +17,7 @@ pub record Below (figures seats : List ℕ) (before : List LineRow) (next : List
   pub few : q ≤ 16
   pub lines : next ≡ eachBelow noLine (λ r l. stepped figures seats r l) q before
   pub marks : lost ≡ endedBelow before q
-  pub cut : cuts ≡ wordBelow q (λ i. ends (getD before i noLine))
+  pub cut : cuts ≡ wordBelow q (λ i. cutsHolder (getD before i noLine))
   pub granted : grants ≡ wordBelow q (newly figures seats before)
 
 abbrev Inv-loop : tie.InvT-loop
@@ -31,7 +31,7 @@ unfolding eachBelow stampedBelow wordBelow
 loop-holds c = record { few = omega arith; lines = refl; marks = refl; cut = refl; granted = refl }
 
 -- ── the turn of the loop that a place is in ──
-abbrev turn : tie.After-ends Inv-loop μ-loop → tie.In-loop Inv-loop μ-loop
+abbrev turn : tie.After-cuts-holder Inv-loop μ-loop → tie.In-loop Inv-loop μ-loop
 turn c = c .before .before .before
 
 abbrev start : tie.In-loop Inv-loop μ-loop → tie.Start Inv-loop μ-loop
@@ -50,14 +50,14 @@ add-cuts : tie.Need-add-cuts Inv-loop μ-loop
 add-cuts c =
     let on = c .before .before in
     let l = turn on .before .loop in
-    record { fits = word-fits _ 16 _ (l .inv .cut) (cut-bit _ _ _ (l .q) (l .inv .lines) (on .ends .ensures) (c .bit .ensures)) (omega arith) }
+    record { fits = word-fits _ 16 _ (l .inv .cut) (cut-bit _ _ _ (l .q) (l .inv .lines) (on .cuts-holder .ensures) (c .bit .ensures)) (omega arith) }
 
 add-grants : tie.Need-add-grants Inv-loop μ-loop
 add-grants c =
     let after = c .before .before .before in
     let on = after .before in
     let l = turn on .before .loop in
-    let b = grant-bit _ _ _ (l .q) (l .inv .lines) (on .ends .ensures) (after .step .ensures) (c .bit2 .ensures) in
+    let b = grant-bit _ _ _ (l .q) (l .inv .lines) (on .cuts-holder .ensures) (after .step .ensures) (c .bit2 .ensures) in
     record { fits = word-fits _ 16 _ (l .inv .granted) b (omega arith) }
 
 array-write-lost : tie.Need-array-write-lost Inv-loop μ-loop
@@ -66,22 +66,22 @@ array-write-lost c =
     let on = marked .before .before .before .before .before in
     let t = turn on in
     let l = t .before .loop in
-    let e = kept-queued _ _ _ (l .q) (l .inv .lines) (on .ends .ensures) (marked .if1 .taken) in
+    let e = kept-queued _ _ _ (l .q) (l .inv .lines) (on .cuts-holder .ensures) (marked .if1 .taken) in
     let r = start t .pre .1 (l .q) (t .loop-test .taken) e .ready in
     let k = ap (λ (x : LineRow). slot x 0) (line-kept _ _ _ (l .q) (l .inv .lines)) in
-    omega (arith, c .wide .ensures .0, k, r .placed 0 (r .some))
+    omega (arith, c .wide .ensures .same, k, r .placed 0 (r .some))
 
 loop-again : tie.Need-loop-again Inv-loop μ-loop
 loop-again c =
     let after = c .before .before .before .before in
-    let on = after .before .ends .ensures in
+    let on = after .before .cuts-holder .ensures in
     let l = turn (after .before) .before .loop in
     let i = l .inv in
     record {
       few = omega arith;
       lines = each-step _ _ _ _ (i .lines) (after .step .ensures);
       marks = ⊎-elim
-          (λ t. rw (t .2) (mark-cut _ _ _ (l .q) (i .lines) on (i .marks) (t .0 .taken) (t .1 .ensures .0)))
+          (λ t. rw (t .2) (mark-cut _ _ _ (l .q) (i .lines) on (i .marks) (t .0 .taken) (t .1 .ensures .same)))
           (λ t. rw (t .1) (mark-kept _ _ _ (l .q) (i .lines) on (i .marks) (t .0 .left)))
           (c .if1 .came);
       cut = word-step _ _ (i .cut) (cut-bit _ _ _ (l .q) (i .lines) on (c .before .before .before .bit .ensures));

@@ -2,7 +2,7 @@
 use Rattle.folds.proofs.Ground.{_≡_, sym, ap, _∙_, needs}
 use Rattle.plan.specs.declared.Reading.{Reading}
 use Rattle.plan.specs.declared.ReadAnswer.the-variants.{Accepted}
-use Rattle.plan.specs.Reading.{told, reading}
+use Rattle.plan.specs.Reading.{readOutcome, reading}
 use Rattle.plan_reading.proofs.Laws.{whole-facts, header-clear}
 use Rattle.plan.proofs.Laws.{none-failed, read-refused, read-accepted, given-told}
 use Rattle.plan.proofs.read.Statement.{statement}
@@ -11,7 +11,7 @@ use Rattle.plan.proofs.read.Tie as tie
 returns : tie.Need-returns
 returns c =
     let e = c .refused .ensures ∙ sym (read-refused _ (c .before .before .check .ensures) (c .before .if1 .taken)) in
-    (e, ap (λ (r : Reading). told (r .answer)) e ∙ given-told _)
+    (e, ap (λ (r : Reading). readOutcome (r .answer)) e ∙ given-told _)
 
 counts-at-requires : tie.Need-counts-at-requires
 counts-at-requires c κs = whole-facts _ (none-failed _ (sym (c .before .check .ensures) ∙ c .if1 .left)) .header .long
@@ -24,7 +24,7 @@ returns-2 c =
     let a = c .before .before .before in
     let made : Reading = record { answer = Accepted (c .before .counts-at .result); rows = c .load .result } in
     let e : made ≡ reading (a .before .before .args .file .now) = rw (c .load .ensures, c .before .counts-at .ensures) (sym (read-accepted _ (a .check .ensures) (c .before .before .if1 .left))) in
-    (e, ap (λ (r : Reading). told (r .answer)) e ∙ given-told _)
+    (e, ap (λ (r : Reading). readOutcome (r .answer)) e ∙ given-told _)
 
 pub read-spec : {M : Type 1} → statement M
 read-spec =

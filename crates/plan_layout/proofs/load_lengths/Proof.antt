@@ -37,8 +37,8 @@ loop-again c =
       below = omega arith;
       ok = all-step _ _ (l .ok) (rw (row .start, row .spare, l .end));
       lengths = placed-step _ _ _ (l .lengths) (row .length);
-      end = sum-step _ _ (l .end) (c .wide .ensures .0 ∙ row .length);
-      small = omega (arith, c .wide .ensures .1);
+      end = sum-step _ _ (l .end) (c .wide .ensures .same ∙ row .length);
+      small = omega (arith, c .wide .ensures .low);
     }
 
 returns : tie.Need-returns Inv-loop μ-loop

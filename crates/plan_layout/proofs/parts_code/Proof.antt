@@ -15,13 +15,13 @@ code-read : (c : tie.After-task-code)
     → let a = begun (c .before) .args in c .task-code .result ≡ taskCode edition1 (a .c .tasks) (a .c .processors) (a .tasks .now)
 code-read c =
     let a = begun (c .before) .args in
-    c .task-code .ensures ∙ ap (λ (n : ℕ). taskCode edition1 n (a .c .processors) (a .tasks .now)) (c .before .wide .ensures .0)
+    c .task-code .ensures ∙ ap (λ (n : ℕ). taskCode edition1 n (a .c .processors) (a .tasks .now)) (c .before .wide .ensures .same)
 
 task-code-requires : tie.Need-task-code-requires
 task-code-requires c κs =
     let a = begun c in
     let f = counts-facts (a .args .c) (a .pre .counts) in
-    let n = c .wide .ensures .0 in
+    let n = c .wide .ensures .same in
     record { tasks = omega (arith, f .tasks, n); processors = f .processors; inside = omega (arith, a .pre .tasks, n) }
 
 returns : tie.Need-returns

@@ -20,21 +20,21 @@ begun c = let m = c .before .before .before in m .before .before
 ok-read : (c : tie.After-load-lengths)
     → let a = begun (c .before) .args in c .load-lengths .result .ok ≡ lengthRowsOk edition1 (a .c .resources) (a .resources .now)
 ok-read c =
-    c .load-lengths .ensures .0 ∙ ap (λ (n : ℕ). lengthRowsOk edition1 n (begun (c .before) .args .resources .now)) (c .before .wide .ensures .0)
+    c .load-lengths .ensures .0 ∙ ap (λ (n : ℕ). lengthRowsOk edition1 n (begun (c .before) .args .resources .now)) (c .before .wide .ensures .same)
 
 names-read : (c : tie.After-names-ok)
     → let a = (let l = c .before .before .before .before in begun (l .before)) .args in
     c .names-ok .result ≡ namesOk (a .c .resources) (lengthRows edition1 (a .c .resources) (a .resources .now)) (a .names .now)
 names-read c =
     let l = c .before .before .before .before in
-    let n = l .before .wide .ensures .0 in
+    let n = l .before .wide .ensures .same in
     let a = begun (l .before) .args in
     c .names-ok .ensures ∙ ap₂ (λ (k : ℕ) (x : List ℕ). namesOk k x (a .names .now)) n (l .load-lengths .ensures .1 ∙ ap (λ (k : ℕ). lengthRows edition1 k (a .resources .now)) n)
 
 load-lengths-requires : tie.Need-load-lengths-requires
 load-lengths-requires c κs =
     let a = begun c in
-    omega (arith, ranges a .resources, c .wide .ensures .0, a .pre .resources)
+    omega (arith, ranges a .resources, c .wide .ensures .same, a .pre .resources)
 
 returns : tie.Need-returns
 returns c = sym (starts-fail _ _ _ _ _ (failed (ok-read (c .before .before)) (c .if1 .taken)))
@@ -42,7 +42,7 @@ returns c = sym (starts-fail _ _ _ _ _ (failed (ok-read (c .before .before)) (c 
 names-ok-requires : tie.Need-names-ok-requires
 names-ok-requires c κs =
     let w = c .before .before .before .before in
-    omega (arith, ranges (begun w) .resources, w .wide .ensures .0)
+    omega (arith, ranges (begun w) .resources, w .wide .ensures .same)
 
 returns-2 : tie.Need-returns-2
 returns-2 c =

@@ -29,17 +29,17 @@ add-sums c =
 loop-again : tie.Need-loop-again Inv-loop μ-loop
 loop-again c =
     let row = c .before .before .section-at .ensures in
-    (omega arith, gathered-step _ _ _ _ (c .before .before .before .before .loop .inv .1) (rw (c .before .wide .ensures .0, row)) (rw row))
+    (omega arith, gathered-step _ _ _ _ (c .before .before .before .before .loop .inv .1) (rw (c .before .wide .ensures .same, row)) (rw row))
 
 returns-2 : tie.Need-returns-2 Inv-loop μ-loop
 returns-2 c =
     let l = c .before .before .before .before in
-    code-sums _ _ _ _ (l .loop .i) _ _ false (omega arith) (omega arith) (omega arith) (l .before .before .section-rows-ok .ensures) (l .before .if1 .left) (l .loop .inv .1) (c .before .before .wide2 .ensures .0) (c .before .sums-fit .ensures) (not-true _ (c .if2 .taken))
+    code-sums _ _ _ _ (l .loop .i) _ _ false (omega arith) (omega arith) (omega arith) (l .before .before .section-rows-ok .ensures) (l .before .if1 .left) (l .loop .inv .1) (c .before .before .wide2 .ensures .same) (c .before .sums-fit .ensures) (not-true _ (c .if2 .taken))
 
 returns-3 : tie.Need-returns-3 Inv-loop μ-loop
 returns-3 c =
     let l = c .before .before .before .before in
-    code-sums _ _ _ _ (l .loop .i) _ _ true (omega arith) (omega arith) (omega arith) (l .before .before .section-rows-ok .ensures) (l .before .if1 .left) (l .loop .inv .1) (c .before .before .wide2 .ensures .0) (c .before .sums-fit .ensures) (not-false _ (c .if2 .left))
+    code-sums _ _ _ _ (l .loop .i) _ _ true (omega arith) (omega arith) (omega arith) (l .before .before .section-rows-ok .ensures) (l .before .if1 .left) (l .loop .inv .1) (c .before .before .wide2 .ensures .same) (c .before .sums-fit .ensures) (not-false _ (c .if2 .left))
 
 pub section-code-spec : {M : Type 1} → statement M
 section-code-spec =

@@ -27,7 +27,7 @@ tag-low c =
     omega (arith, w .before .before .before .task-at .ensures .1)
 
 place-low : tie.Need-array-read-fresh-2 Inv-loop μ-loop
-place-low c = omega (arith, c .before .before .wide2 .ensures .1)
+place-low c = omega (arith, c .before .before .wide2 .ensures .low)
 
 loop-again : tie.Need-loop-again Inv-loop μ-loop
 unfolding taskRowsOk
@@ -38,9 +38,9 @@ loop-again c =
     let part : List ℕ = t .before .before .before .before .args .part .now in
     let row = t .task-at .ensures .0 in
     let tag : t .task-at .result .tag ≡ tagKey part (l .i) = ap (λ (r : TaskRow). r .tag) row in
-    let place : w .before .wide .result % 8 * 256 + w .wide2 .result ≡ placeKey part (l .i) = ap₂ (λ (x y : ℕ). x % 8 * 256 + y) (w .before .wide .ensures .0 ∙ ap (λ (r : TaskRow). r .processor) row) (w .wide2 .ensures .0 ∙ ap (λ (r : TaskRow). r .priority) row) in
+    let place : w .before .wide .result % 8 * 256 + w .wide2 .result ≡ placeKey part (l .i) = ap₂ (λ (x y : ℕ). x % 8 * 256 + y) (w .before .wide .ensures .same ∙ ap (λ (r : TaskRow). r .processor) row) (w .wide2 .ensures .same ∙ ap (λ (r : TaskRow). r .priority) row) in
     let low : tagKey part (l .i) < 256 = omega (arith, tag, t .task-at .ensures .1) in
-    let below : placeKey part (l .i) < 2048 = omega (arith, place, w .wide2 .ensures .1) in
+    let below : placeKey part (l .i) < 2048 = omega (arith, place, w .wide2 .ensures .low) in
     record {
       below = omega arith;
       tags = marked-step _ _ _ (l .inv .tags) tag;
@@ -77,6 +77,6 @@ task-code-spec =
     tie.close
     (tie.spec
     Inv-loop μ-loop loop-holds (λ c κs. omega arith) (λ c. omega arith) (λ c κs. search needs) (λ c. omega arith)
-    (λ c κs. search needs) (λ c. omega (arith, c .wide2 .ensures .1)) (λ c κs. search needs) (λ c κs. omega arith)
+    (λ c κs. search needs) (λ c. omega (arith, c .wide2 .ensures .low)) (λ c κs. search needs) (λ c κs. omega arith)
     tag-low place-low tag-low place-low
     (λ c. omega arith) (λ c. omega arith) loop-again returns returns-2 returns-3)

@@ -3,7 +3,7 @@ use Rattle.folds.proofs.Ground.{ℕ, _≡_, ap, ap₂, _∙_, drop, length-drop
 use Rattle.folds.proofs.Parts.{part-rest}
 use Rattle.plan_rules.specs.declared.Counts.{Counts}
 use Rattle.plan_layout.specs.Editions.{edition1, headerLength}
-use Rattle.plan_layout.specs.Layout.{countsOf, resourcesAt, sectionsAt, taskRows, lengthRows, sectionRows, tasksOf, lengthsOf, sectionsOf}
+use Rattle.plan_layout.specs.Layout.{countsOf, resourcesAt, sectionsAt, taskRows, lengthRows, sectionRows, taskRowsOf, lengthsOf, sectionsOf}
 use Rattle.plan_reading.proofs.Laws.{Header, header-facts}
 use Rattle.plan_reading.proofs.load.Statement.{statement}
 use Rattle.plan_reading.proofs.load.Tie as tie
@@ -30,10 +30,10 @@ header : (c : tie.After-sections-at) → Header (start c .args .file .now)
 header c = header-facts _ (start c .pre .0)
 
 tasks-said : (c : tie.After-sections-at) → numbers c .before .wide .result ≡ countsOf (start c .args .file .now) .tasks
-tasks-said c = numbers c .before .wide .ensures .0 ∙ ap (λ (k : Counts). k .tasks) (start c .pre .1)
+tasks-said c = numbers c .before .wide .ensures .same ∙ ap (λ (k : Counts). k .tasks) (start c .pre .1)
 
 resources-said : (c : tie.After-sections-at) → numbers c .wide2 .result ≡ countsOf (start c .args .file .now) .resources
-resources-said c = numbers c .wide2 .ensures .0 ∙ ap (λ (k : Counts). k .resources) (start c .pre .1)
+resources-said c = numbers c .wide2 .ensures .same ∙ ap (λ (k : Counts). k .resources) (start c .pre .1)
 
 resources-begin : (c : tie.After-sections-at) → c .before .resources-at .result ≡ resourcesAt (countsOf (start c .args .file .now))
 resources-begin c = c .before .resources-at .ensures ∙ ap resourcesAt (start c .pre .1)
@@ -63,7 +63,7 @@ lengths-loaded c =
     let s = from-lengths c in
     c .load-lengths .ensures .1 ∙ ap₂ (lengthRows edition1) (resources-said s) (part-rest (s .before .resources-at .result) (start s .args .file .now) ∙ ap (λ (n : ℕ). drop n (start s .args .file .now)) (resources-begin s))
 
-tasks-loaded : (c : tie.After-load-tasks) → c .load-tasks .result ≡ tasksOf (start (from-tasks c) .args .file .now)
+tasks-loaded : (c : tie.After-load-tasks) → c .load-tasks .result ≡ taskRowsOf (start (from-tasks c) .args .file .now)
 tasks-loaded c = c .load-tasks .ensures ∙ ap₂ (taskRows edition1) (tasks-said (from-tasks c)) (part-rest headerLength (start (from-tasks c) .args .file .now))
 
 sections-loaded : (c : tie.After-load-sections) → c .load-sections .result ≡ sectionsOf (start (from-sections c) .args .file .now)

@@ -2,7 +2,7 @@
 use Rattle.folds.proofs.Ground.{ℕ, _+_, refl, ap, _∙_, length, length-take, length-drop, arith, needs}
 use Rattle.plan_rules.proofs.Laws.{InRange, counts-facts}
 use Rattle.plan_layout.specs.Layout.{tasksAt}
-use Rattle.plan_layout.specs.Inner.{taskRow, resourceRow, sectionRow}
+use Rattle.plan_layout.specs.Inner.{taskWidth, resourceWidth, sectionWidth}
 use Rattle.plan_writing.specs.Encode.{headerBytes}
 use Rattle.plan_writing.proofs.Put.{Front, put-front, part-more, rows-part, task-length, resource-length, section-length, file-same}
 use Rattle.plan_writing.proofs.Values.{header-length}
@@ -37,7 +37,7 @@ put-tasks-requires : tie.Need-put-tasks-requires
 put-tasks-requires c κs =
     let o = offsets (c .before .before .before .before) in
     let g = ranges o in
-    record { few = omega arith; tags = rw (c .wide .ensures .0) (begun o .pre .tags); room = simp (length-take, length-drop) (omega arith) }
+    record { few = omega arith; tags = rw (c .wide .ensures .same) (begun o .pre .tags); room = simp (length-take, length-drop) (omega arith) }
 
 put-resources-requires : tie.Need-put-resources-requires
 put-resources-requires c κs =
@@ -70,11 +70,11 @@ returns c =
     let resources = r .before .wide2 in
     let end = names-at .result + length names in
     let header : Front (headerBytes (a .args .c) end) (tasksAt (a .args .c)) (a .args .buf .now) _ = put-front (h .put-header .ensures) (header-length (a .args .c) end) (omega arith) in
-    let f1 = rows-part taskRow _ (task-length (rows .tasks)) (tasks .result) (resources-at .result) header (t .put-tasks .ensures) (omega arith) (omega arith) in
-    let f2 = rows-part resourceRow _ (resource-length (rows .lengths)) (resources .result) (sections-at .result) f1 (r .put-resources .ensures) (omega arith) (omega arith) in
-    let f3 = rows-part sectionRow _ (section-length (rows .sections)) (a .args .c .sections) (names-at .result) f2 (s .put-sections .ensures) (omega arith) (omega arith) in
+    let f1 = rows-part taskWidth _ (task-length (rows .tasks)) (tasks .result) (resources-at .result) header (t .put-tasks .ensures) (omega arith) (omega arith) in
+    let f2 = rows-part resourceWidth _ (resource-length (rows .lengths)) (resources .result) (sections-at .result) f1 (r .put-resources .ensures) (omega arith) (omega arith) in
+    let f3 = rows-part sectionWidth _ (section-length (rows .sections)) (a .args .c .sections) (names-at .result) f2 (s .put-sections .ensures) (omega arith) (omega arith) in
     let f4 = part-more names (length names) end f3 (n .put-bytes .ensures) refl refl (omega arith) in
-    f4 .bytes ∙ file-same (a .args .c) rows names _ (tasks .ensures .0) (resources .ensures .0) (ap (λ (n : ℕ). n + length names) (names-at .ensures))
+    f4 .bytes ∙ file-same (a .args .c) rows names _ (tasks .ensures .same) (resources .ensures .same) (ap (λ (n : ℕ). n + length names) (names-at .ensures))
 
 pub put-file-spec : {M : Type 1} → statement M
 put-file-spec =

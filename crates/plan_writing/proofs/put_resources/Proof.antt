@@ -5,7 +5,7 @@ use Rattle.folds.specs.Bytes.{bytesBelow}
 use Rattle.folds.proofs.Figures.{sum-step}
 use Rattle.plan_rules.specs.Rules.{lengthOf}
 use Rattle.plan_layout.specs.Editions.{edition1}
-use Rattle.plan_layout.specs.Inner.{resourceRow}
+use Rattle.plan_layout.specs.Inner.{resourceWidth}
 use Rattle.plan_writing.specs.Encode.{resourceBytes}
 use Rattle.plan_writing.proofs.Put.{Front, put-front, rows-more, rows-all, resource-length}
 use Rattle.plan_writing.proofs.put_resources.Statement.{statement}
@@ -14,7 +14,7 @@ use Rattle.plan_writing.proofs.put_resources.Tie as tie
 -- the first i rows are written
 record Written (r : ℕ) (lengths before now : List ℕ) (end i : ℕ) : Type 0 where
   below : i ≤ r
-  front : Front (bytesBelow i (resourceBytes edition1 lengths)) (i * resourceRow) before now
+  front : Front (bytesBelow i (resourceBytes edition1 lengths)) (i * resourceWidth) before now
   start : end ≡ sumBelow i (lengthOf lengths)
   small : end ≤ 255 * i
 
@@ -41,8 +41,8 @@ loop-again c =
     record {
       below = omega arith;
       front = rows-more _ _ (resource-length (a .args .t2)) _ (l .inv .front) (rw (l .inv .start) at (b .put-resource .ensures)) (omega arith);
-      start = sum-step _ _ (l .inv .start) (c .wide .ensures .0);
-      small = omega (arith, c .wide .ensures .1);
+      start = sum-step _ _ (l .inv .start) (c .wide .ensures .same);
+      small = omega (arith, c .wide .ensures .low);
     }
 
 same-length : tie.Need-same-length Inv-loop μ-loop

@@ -2,14 +2,14 @@
 use Rattle.folds.proofs.Ground.{_≤_, _-_, _*_, refl, length-take, length-drop, arith}
 use Rattle.folds.specs.Bytes.{bytesBelow}
 use Rattle.plan_layout.specs.Editions.{edition1}
-use Rattle.plan_layout.specs.Inner.{sectionRow}
+use Rattle.plan_layout.specs.Inner.{sectionWidth}
 use Rattle.plan_writing.specs.Encode.{sectionBytes}
 use Rattle.plan_writing.proofs.Put.{Front, put-front, rows-more, rows-all, section-length}
 use Rattle.plan_writing.proofs.put_sections.Statement.{statement}
 use Rattle.plan_writing.proofs.put_sections.Tie as tie
 
 abbrev Inv-loop : tie.InvT-loop
-Inv-loop buf₀ s sections i₀ buf i = (i ≤ s) × Front (bytesBelow i (sectionBytes edition1 sections)) (i * sectionRow) buf₀ buf
+Inv-loop buf₀ s sections i₀ buf i = (i ≤ s) × Front (bytesBelow i (sectionBytes edition1 sections)) (i * sectionWidth) buf₀ buf
 
 abbrev μ-loop : tie.MeasureT-loop
 μ-loop buf₀ s sections i₀ buf i = s - i

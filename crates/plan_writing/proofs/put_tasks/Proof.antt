@@ -2,14 +2,14 @@
 use Rattle.folds.proofs.Ground.{_≤_, _-_, _*_, refl, length-take, length-drop, arith}
 use Rattle.folds.specs.Bytes.{bytesBelow}
 use Rattle.plan_layout.specs.Editions.{edition1}
-use Rattle.plan_layout.specs.Inner.{taskRow}
+use Rattle.plan_layout.specs.Inner.{taskWidth}
 use Rattle.plan_writing.specs.Encode.{taskBytes}
 use Rattle.plan_writing.proofs.Put.{Front, put-front, rows-more, rows-all, task-length, tag-at}
 use Rattle.plan_writing.proofs.put_tasks.Statement.{statement}
 use Rattle.plan_writing.proofs.put_tasks.Tie as tie
 
 abbrev Inv-loop : tie.InvT-loop
-Inv-loop buf₀ n tasks i₀ buf i = (i ≤ n) × Front (bytesBelow i (taskBytes edition1 tasks)) (i * taskRow) buf₀ buf
+Inv-loop buf₀ n tasks i₀ buf i = (i ≤ n) × Front (bytesBelow i (taskBytes edition1 tasks)) (i * taskWidth) buf₀ buf
 
 abbrev μ-loop : tie.MeasureT-loop
 μ-loop buf₀ n tasks i₀ buf i = n - i

@@ -1,7 +1,7 @@
 -- The front of the buffer is the file that was written, and reading it gives the same plan.
 use Rattle.folds.proofs.Ground.{_-_, _≡_, sym, ap, _∙_, take, sub-zero, arith, needs}
 use Rattle.plan.specs.declared.Reading.{Reading}
-use Rattle.plan.specs.Reading.{told as readSaid}
+use Rattle.plan.specs.Reading.{readOutcome}
 use Rattle.plan_writing.specs.Encode.{fileOf}
 use Rattle.plan_writing.proofs.Outcome.{was-written, was-refused, code-clear, wrote, file-front, back-same, back-refused, back-told}
 use Rattle.plan_writing.proofs.read_back.Statement.{statement}
@@ -23,7 +23,7 @@ returns c =
     let k = was-written _ _ _ _ (sym (w .ensures .0) ∙ d .answer .given .1) in
     let front : take (d .answer .given .0 .0 - 0) (w .last .1 .1 .1 .0) ≡ fileOf (a .c) (a .rows) (a .names .now) = rw (sub-zero, k .1, w .ensures .1 .0, wrote _ _ _ _ (k .0) .1) (file-front _ _ _ _) in
     let r = back-same _ _ _ _ _ (c .read .ensures .0) front (k .0) in
-    (r, (w .ensures .1 .0, ap (λ (x : Reading). readSaid (x .answer)) r ∙ back-told _ _ _ _))
+    (r, (w .ensures .1 .0, ap (λ (x : Reading). readOutcome (x .answer)) r ∙ back-told _ _ _ _))
 
 returns-2 : tie.Need-returns-2
 returns-2 c =
@@ -31,7 +31,7 @@ returns-2 c =
     let w = a .before .before .before .before .write in
     let k = was-refused _ _ _ _ (sym (w .ensures .0) ∙ a .answer2 .given .1) in
     let r = c .refused .ensures ∙ sym (back-refused _ _ _ _ (k .0) (k .1)) in
-    (r, (w .ensures .1 .0, ap (λ (x : Reading). readSaid (x .answer)) r ∙ back-told _ _ _ _))
+    (r, (w .ensures .1 .0, ap (λ (x : Reading). readOutcome (x .answer)) r ∙ back-told _ _ _ _))
 
 pub read-back-spec : {M : Type 1} → statement M
 read-back-spec =

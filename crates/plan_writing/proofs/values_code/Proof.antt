@@ -21,7 +21,7 @@ ranges c = let e = c .before .before in counts-facts (e .before .before .before 
 tags-held : (c : tie.Else3)
     → let e = c .before .before .before .before in let f = e .before .before in let a = f .before .before .before .args in
     tagsOk (a .c .tasks) (formatOf edition1 .mostTag) (a .rows .tasks) ≡ true
-tags-held c = rw (c .before .before .wide .ensures .0) at (held (c .before .tags-ok .ensures) (c .if3 .left))
+tags-held c = rw (c .before .before .wide .ensures .same) at (held (c .before .tags-ok .ensures) (c .if3 .left))
 
 returns : tie.Need-returns
 returns c = sym (values-edition _ _ _ (failed (c .before .known .ensures) (c .if1 .taken)))
@@ -35,7 +35,7 @@ tags-ok-requires c κs = omega (arith, ranges (c .before .before) .tasks)
 returns-3 : tie.Need-returns-3
 returns-3 c =
     let e = c .before .before .before .before in
-    sym (values-tags _ _ _ (edition-held (e .before .before)) (counts-held e) (rw (c .before .before .wide .ensures .0) at (failed (c .before .tags-ok .ensures) (c .if3 .taken))))
+    sym (values-tags _ _ _ (edition-held (e .before .before)) (counts-held e) (rw (c .before .before .wide .ensures .same) at (failed (c .before .tags-ok .ensures) (c .if3 .taken))))
 
 put-file-requires : tie.Need-put-file-requires
 put-file-requires c κs =

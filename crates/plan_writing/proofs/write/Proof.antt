@@ -2,7 +2,7 @@
 use Rattle.folds.proofs.Ground.{ℕ, _+_, _<_, _≤_, sym, ap, _∙_, length, arith, needs}
 use Rattle.plan_rules.proofs.Laws.{tags-kept}
 use Rattle.plan_writing.specs.declared.WriteAnswer.the-variants.{Written}
-use Rattle.plan_writing.specs.Encode.{fileLength, told}
+use Rattle.plan_writing.specs.Encode.{fileLength, writeOutcome}
 use Rattle.plan_writing.proofs.Put.{sized}
 use Rattle.plan_writing.proofs.Outcome.{code-values, code-short, code-fits, wrote, kept-back, writing-told}
 use Rattle.plan_writing.proofs.write.Statement.{statement}
@@ -12,7 +12,7 @@ returns : tie.Need-returns
 returns c =
     let e = code-values _ _ _ _ (c .before .values-code .ensures) (c .if1 .taken) in
     let o = kept-back _ _ _ _ e (c .if1 .taken) in
-    (sym (o .0), (sym (o .1), ap told (sym (o .0)) ∙ writing-told _ _ _ _))
+    (sym (o .0), (sym (o .1), ap writeOutcome (sym (o .0)) ∙ writing-told _ _ _ _))
 
 returns-2 : tie.Need-returns-2
 returns-2 c =
@@ -21,7 +21,7 @@ returns-2 c =
     let short : length (a .buf .now) < fileLength (a .c) (a .names .now) = omega (arith, c .before .names-at .ensures, c .if2 .taken) in
     let e = code-short _ _ _ _ (v .values-code .ensures) (c .before .before .if1 .left) short in
     let o = kept-back _ _ _ _ e (λ z. omega arith) in
-    (sym (o .0), (sym (o .1), ap told (sym (o .0)) ∙ writing-told _ _ _ _))
+    (sym (o .0), (sym (o .1), ap writeOutcome (sym (o .0)) ∙ writing-told _ _ _ _))
 
 put-file-requires : tie.Need-put-file-requires
 put-file-requires c κs =
@@ -46,7 +46,7 @@ returns-3 c =
     let e = code-fits _ _ _ _ (v .values-code .ensures) (n .before .if1 .left) fits in
     let o = wrote _ _ _ _ e in
     let r = ap (λ (k : ℕ). Written (k + length (a .names .now))) (n .names-at .ensures) ∙ sym (o .0) in
-    (r, (c .before .before .put-file .ensures ∙ sym (o .1), ap told r ∙ writing-told _ _ _ _))
+    (r, (c .before .before .put-file .ensures ∙ sym (o .1), ap writeOutcome r ∙ writing-told _ _ _ _))
 
 pub write-spec : {M : Type 1} → statement M
 write-spec =

@@ -10,21 +10,21 @@ budget-at-requires : tie.Need-budget-at-requires
 budget-at-requires c κs =
     let w = c .before in
     let h = w .before .before .before .before .pre in
-    budget-place _ _ (h .0 .known) _ (h .0 .resource) (w .wide .ensures .0) _ (h .1) (c .wide2 .ensures .0)
+    budget-place _ _ (h .0 .known) _ (h .0 .resource) (w .wide .ensures .same) _ (h .1) (c .wide2 .ensures .same)
 
 returns : tie.Need-returns
 returns c =
     let b = c .before in
     let w = b .before .before in
     let h = w .before .before .before .before .pre in
-    budget-out _ _ (h .0 .known) _ (h .0 .resource) (w .wide .ensures .0) _ (h .1) (b .before .wide2 .ensures .0) (b .budget-at .ensures) _ _ (c .if1 .taken)
+    budget-out _ _ (h .0 .known) _ (h .0 .resource) (w .wide .ensures .same) _ (h .1) (b .before .wide2 .ensures .same) (b .budget-at .ensures) _ _ (c .if1 .taken)
 
 wait-in-requires : tie.Need-wait-in-requires
 wait-in-requires c κs =
     let b = c .before in
     let w = b .before .before in
     let h = w .before .before .before .before .pre in
-    (h .0 .known, budget-place _ _ (h .0 .known) _ (h .0 .resource) (w .wide .ensures .0) _ (h .1) (b .before .wide2 .ensures .0) .resource)
+    (h .0 .known, budget-place _ _ (h .0 .known) _ (h .0 .resource) (w .wide .ensures .same) _ (h .1) (b .before .wide2 .ensures .same) .resource)
 
 put-line-requires : tie.Need-put-line-requires
 put-line-requires c κs =
@@ -40,7 +40,7 @@ returns-2 c =
     let b = i .before in
     let w = b .before .before in
     let h = w .before .before .before .before .pre in
-    budget-in _ _ (h .0 .known) _ (h .0 .resource) (w .wide .ensures .0) _ (h .1) (b .before .wide2 .ensures .0) (b .budget-at .ensures) (i .if1 .left)
+    budget-in _ _ (h .0 .known) _ (h .0 .resource) (w .wide .ensures .same) _ (h .1) (b .before .wide2 .ensures .same) (b .budget-at .ensures) (i .if1 .left)
     (p .before .before .before .wait-in .ensures .0) (put-wider budgetRoom (p .put-line .ensures) (omega arith))
 
 pub put-budget-at-spec : {M : Type 1} → statement M

@@ -16,14 +16,14 @@ abbrev μ-loop : tie.MeasureT-loop
 loop-holds : tie.Need-loop-holds Inv-loop μ-loop
 loop-holds c =
     let h = c .before .before .before .before .pre in
-    turns-none (omega (arith, c .counts .ensures .0, valid-plan _ (h .known .plan) .processors)) (h .room)
+    turns-none (omega (arith, c .counts .ensures .processors, valid-plan _ (h .known .plan) .processors)) (h .room)
 
 put-budgets-of-requires : tie.Need-put-budgets-of-requires Inv-loop μ-loop
 put-budgets-of-requires c κs =
     let l = c .before .before .before in
     let h = l .before .before .before .before .before .pre in
     let t = c .before .if1 .taken in
-    (record { known = h .known; room = turns-room (l .loop .inv) t }, omega (arith, t, l .before .counts .ensures .0))
+    (record { known = h .known; room = turns-room (l .loop .inv) t }, omega (arith, t, l .before .counts .ensures .processors))
 
 loop-again : tie.Need-loop-again Inv-loop μ-loop
 loop-again c =
@@ -33,7 +33,7 @@ loop-again c =
 
 returns : tie.Need-returns Inv-loop μ-loop
 unfolding budgetLines
-returns c = let l = c .before .before in rw (← l .before .counts .ensures .0) (turns-done (l .loop .inv) (c .if1 .left))
+returns c = let l = c .before .before in rw (← l .before .counts .ensures .processors) (turns-done (l .loop .inv) (c .if1 .left))
 
 pub put-budgets-spec : {M : Type 1} → statement M
 put-budgets-spec =

@@ -9,20 +9,20 @@ use Rattle.print_sheet.proofs.put_hold_at.Tie as tie
 hold-at-requires : tie.Need-hold-at-requires
 hold-at-requires c κs =
     let h = c .before .before .before .before .pre in
-    hold-place _ _ (h .0 .known) _ (h .0 .resource) (c .wide .ensures .0) _ (h .1)
+    hold-place _ _ (h .0 .known) _ (h .0 .resource) (c .wide .ensures .same) _ (h .1)
 
 returns : tie.Need-returns
 returns c =
     let w = c .before .before in
     let h = w .before .before .before .before .pre in
-    hold-out _ _ (h .0 .known) _ (h .0 .resource) (w .wide .ensures .0) _ (h .1) (c .before .hold-at .ensures) _ _ (c .if1 .taken)
+    hold-out _ _ (h .0 .known) _ (h .0 .resource) (w .wide .ensures .same) _ (h .1) (c .before .hold-at .ensures) _ _ (c .if1 .taken)
 
 longest-of-requires : tie.Need-longest-of-requires
 longest-of-requires c κs =
     let i = c .before in
     let w = i .before .before in
     let h = w .before .before .before .before .pre in
-    let e = w .wide .ensures .0 in
+    let e = w .wide .ensures .same in
     sharer _ _ (h .0 .known) _ (h .0 .resource) e _ (h .1) (hold-global _ _ (h .0 .known) _ (h .0 .resource) e _ (h .1) (i .before .hold-at .ensures) (i .if1 .left))
 
 put-line-requires : tie.Need-put-line-requires
@@ -40,7 +40,7 @@ returns-2 c =
     let i = m .before .before in
     let w = i .before .before in
     let h = w .before .before .before .before .pre in
-    hold-in _ _ (h .0 .known) _ (h .0 .resource) (w .wide .ensures .0) _ (h .1) (i .before .hold-at .ensures) (i .if1 .left) (m .before .task .ensures)
+    hold-in _ _ (h .0 .known) _ (h .0 .resource) (w .wide .ensures .same) _ (h .1) (i .before .hold-at .ensures) (i .if1 .left) (m .before .task .ensures)
     (m .longest-of .ensures .0) (m .longest-of .ensures .1) (put-wider holdRoom (p .put-line .ensures) (omega arith))
 
 pub put-hold-at-spec : {M : Type 1} → statement M

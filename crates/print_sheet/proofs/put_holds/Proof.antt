@@ -17,7 +17,7 @@ loop-holds : tie.Need-loop-holds Inv-loop μ-loop
 loop-holds c =
     let k = c .before in
     let h = k .before .before .before .before .pre in
-    turns-none (omega (arith, c .wide .ensures .0, k .counts .ensures .1, valid-plan _ (h .known .plan) .tasks)) (h .room)
+    turns-none (omega (arith, c .wide .ensures .same, k .counts .ensures .tasks, valid-plan _ (h .known .plan) .tasks)) (h .room)
 
 put-holds-of-requires : tie.Need-put-holds-of-requires Inv-loop μ-loop
 put-holds-of-requires c κs =
@@ -25,7 +25,7 @@ put-holds-of-requires c κs =
     let w = l .before in
     let h = w .before .before .before .before .before .pre in
     let t = c .before .loop-test .taken in
-    (record { known = h .known; room = turns-room (l .loop .inv) t }, omega (arith, t, w .wide .ensures .0, w .before .counts .ensures .1))
+    (record { known = h .known; room = turns-room (l .loop .inv) t }, omega (arith, t, w .wide .ensures .same, w .before .counts .ensures .tasks))
 
 loop-again : tie.Need-loop-again Inv-loop μ-loop
 loop-again c =
@@ -38,7 +38,7 @@ unfolding holdLines
 returns c =
     let l = c .before in
     let w = l .before in
-    rw (← w .wide .ensures .0 ∙ w .before .counts .ensures .1) (turns-done (l .loop .inv) (c .loop-test .left))
+    rw (← w .wide .ensures .same ∙ w .before .counts .ensures .tasks) (turns-done (l .loop .inv) (c .loop-test .left))
 
 pub put-holds-spec : {M : Type 1} → statement M
 put-holds-spec =

@@ -24,7 +24,7 @@ loop-holds c =
     let k = c .before in
     let b = k .before .before in
     let h = b .before .before .before .pre in
-    (turns-none (omega (arith, c .wide .ensures .0, k .counts .ensures .1, valid-plan _ (h .0 .known .plan) .tasks)) (h .1), refl)
+    (turns-none (omega (arith, c .wide .ensures .same, k .counts .ensures .tasks, valid-plan _ (h .0 .known .plan) .tasks)) (h .1), refl)
 
 put-requirement-at-requires : tie.Need-put-requirement-at-requires Inv-loop μ-loop
 put-requirement-at-requires c κs =
@@ -36,7 +36,7 @@ put-requirement-at-requires c κs =
     record {
       prepared = h .0;
       room = turns-room (l .loop .inv .0) t;
-      task = omega (arith, t, l .before .wide .ensures .0, k .counts .ensures .1);
+      task = omega (arith, t, l .before .wide .ensures .same, k .counts .ensures .tasks);
     }
 
 loop-again : tie.Need-loop-again Inv-loop μ-loop
@@ -51,7 +51,7 @@ unfolding requirementLines admitted
 returns c =
     let l = c .before .loop in
     let w = c .before .before in
-    let e = w .wide .ensures .0 ∙ w .before .counts .ensures .1 in
+    let e = w .wide .ensures .same ∙ w .before .counts .ensures .tasks in
     record { put = rw (← e) (turns-done (l .inv .0) (c .loop-test .left)); all = all-done _ (l .i) _ (omega (arith, e, c .loop-test .left, l .inv .0 .turn)) (l .inv .1) }
 
 pub put-requirements-spec : {M : Type 1} → statement M

@@ -11,7 +11,7 @@ use Rattle.print_sheet.proofs.put_resource.Tie as tie
 is-global-requires : tie.Need-is-global-requires
 is-global-requires c κs =
     let h = c .before .before .before .before .pre in
-    (h .known, omega (arith, c .wide .ensures .0, h .resource, valid-plan _ (h .known .plan) .resources))
+    (h .known, omega (arith, c .wide .ensures .same, h .resource, valid-plan _ (h .known .plan) .resources))
 
 put-line-requires : tie.Need-put-line-requires
 put-line-requires c κs =
@@ -25,7 +25,7 @@ returns c =
     let p = c .before .before in
     let e = p .before .before .before in
     let g = e .before .is-global in
-    let line = rw (e .either .ensures, either-text (g .result) Global Local, g .ensures, e .before .before .wide .ensures .0) at (p .put-line .ensures) in
+    let line = rw (e .either .ensures, either-text (g .result) Global Local, g .ensures, e .before .before .wide .ensures .same) at (p .put-line .ensures) in
     put-wider resourceRoom line (omega arith)
 
 pub put-resource-spec : {M : Type 1} → statement M

@@ -16,14 +16,14 @@ abbrev μ-loop : tie.MeasureT-loop
 loop-holds : tie.Need-loop-holds Inv-loop μ-loop
 loop-holds c =
     let h = c .before .before .before .before .pre in
-    turns-none (omega (arith, c .counts .ensures .2, valid-plan _ (h .known .plan) .resources)) (h .room)
+    turns-none (omega (arith, c .counts .ensures .resources, valid-plan _ (h .known .plan) .resources)) (h .room)
 
 put-resource-requires : tie.Need-put-resource-requires Inv-loop μ-loop
 put-resource-requires c κs =
     let l = c .before .before .before in
     let h = l .before .before .before .before .before .pre in
     let t = c .before .if1 .taken in
-    record { known = h .known; room = turns-room (l .loop .inv) t; resource = omega (arith, t, l .before .counts .ensures .2) }
+    record { known = h .known; room = turns-room (l .loop .inv) t; resource = omega (arith, t, l .before .counts .ensures .resources) }
 
 loop-again : tie.Need-loop-again Inv-loop μ-loop
 loop-again c =
@@ -33,7 +33,7 @@ loop-again c =
 
 returns : tie.Need-returns Inv-loop μ-loop
 unfolding resourceLines
-returns c = let l = c .before .before in rw (← l .before .counts .ensures .2) (turns-done (l .loop .inv) (c .if1 .left))
+returns c = let l = c .before .before in rw (← l .before .counts .ensures .resources) (turns-done (l .loop .inv) (c .if1 .left))
 
 pub put-resources-spec : {M : Type 1} → statement M
 put-resources-spec =

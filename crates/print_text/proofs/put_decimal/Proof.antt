@@ -1,13 +1,13 @@
 -- The invariant: the buffer with the digits that are left put at `at` is the first buffer with all digits put there.
 use Rattle.folds.proofs.Ground.{ℕ, suc, _+_, _-_, _/_, _%_, _≤_, _<_, _≡_, refl, sym, ap, _∙_, List, _∷_, _++_, length, set, take, drop, length-set, take-append-drop, take-set-le, drop-cons, drop-set-lt, getD-set-same, lt-length-set, append-snoc, add-suc, add-zero, arith, needs}
-use Rattle.print_text.specs.Text.{placesTo, digits, decimal, Put}
+use Rattle.print_text.specs.Text.{placesTo, decimals, decimal, Put}
 use Rattle.print_text.proofs.TextLaws.{digits-length}
 use Rattle.print_text.proofs.put_decimal.Statement.{statement}
 use Rattle.print_text.proofs.put_decimal.Tie as tie
 
 -- m with the last k digits of n put at `at`
 abbrev placed : List ℕ → ℕ → ℕ → ℕ → List ℕ
-placed m at k n = take at m ++ (digits k n ++ drop (at + k) m)
+placed m at k n = take at m ++ (decimals k n ++ drop (at + k) m)
 
 -- a store, and what begins there
 from-store : (m : List ℕ) (i d : ℕ) → i < length m → drop i (set m i d) ≡ d ∷ drop (suc i) m
@@ -15,13 +15,13 @@ from-store m i d l =
     drop-cons (set m i d) i 0 (lt-length-set m i d l) ∙ rw (getD-set-same m i d 0 l, drop-set-lt (suc i) m i d (omega arith))
 
 one-more : (m : List ℕ) (at j k n : ℕ) → k ≡ suc j → at + j < length m → placed (set m (at + j) (48 + n % 10)) at j (n / 10) ≡ placed m at k n
-unfolding digits
+unfolding decimals
 one-more m at j k n e l =
     rw (e, take-set-le at m (at + j) (48 + n % 10) (omega arith), from-store m (at + j) (48 + n % 10) l, add-suc)
-    (ap (λ (r : List ℕ). take at m ++ r) (sym (append-snoc (digits j (n / 10)) (48 + n % 10) (drop (suc (at + j)) m))))
+    (ap (λ (r : List ℕ). take at m ++ r) (sym (append-snoc (decimals j (n / 10)) (48 + n % 10) (drop (suc (at + j)) m))))
 
 none-left : (m : List ℕ) (at k n : ℕ) → k ≡ 0 → placed m at k n ≡ m
-unfolding digits
+unfolding decimals
 none-left m at k n e = rw (e, add-zero) (take-append-drop at m)
 
 all-put : (l m : List ℕ) (at count k n rest : ℕ) → count ≡ placesTo 19 n → k ≡ 0 → placed m at k rest ≡ placed l at count n → Put l m at (decimal n) (at + count)

@@ -7,7 +7,7 @@ use Rattle.bench_hooks.proofs.asking.hold_time_at.Tie as tie
 returns : tie.Need-returns
 unfolding holdNumber
 returns c =
-    rw (c .word .ensures .0, c .before .before .byte .ensures .0, c .before .before .before .hold-times .ensures)
+    rw (c .word .ensures .same, c .before .before .byte .ensures .same, c .before .before .before .hold-times .ensures)
 
 pub hold-time-at-spec : {M : Type 1} → statement M
 hold-time-at-spec =

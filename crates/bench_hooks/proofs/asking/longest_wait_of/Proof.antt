@@ -10,7 +10,7 @@ returns c = longest-given _ _ _ (c .before .before .before .longest-wait .ensure
 returns-2 : tie.Need-returns-2
 returns-2 c =
     let matched = c .before .before in
-    c .byte .ensures .0 ∙ longest-refused _ _ _ (matched .before .before .longest-wait .ensures .0) _ (matched .code .given .1)
+    c .byte .ensures .same ∙ longest-refused _ _ _ (matched .before .before .longest-wait .ensures .0) _ (matched .code .given .1)
 
 pub longest-wait-of-spec : {M : Type 1} → statement M
 longest-wait-of-spec =

@@ -17,7 +17,7 @@ returns-2 c =
 returns-3 : tie.Need-returns-3
 returns-3 c =
     let a = c .before .before .before .before .admission .ensures .0 in
-    c .byte .ensures .0 ∙ refused-number _ a _ (c .before .before .code .given .1)
+    c .byte .ensures .same ∙ refused-number _ a _ (c .before .before .code .given .1)
 
 pub plan-admission-spec : {M : Type 1} → statement M
 plan-admission-spec =

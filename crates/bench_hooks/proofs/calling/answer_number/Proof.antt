@@ -5,15 +5,15 @@ use Rattle.bench_hooks.proofs.calling.answer_number.Statement.{statemen
 use Rattle.bench_hooks.proofs.calling.answer_number.Tie as tie
 
 returns-2 : tie.Need-returns-2
-returns-2 c = rw (c .byte .ensures .0) (sym (ap answerNumber (c .before .before .answer .given .1)))
+returns-2 c = rw (c .byte .ensures .same) (sym (ap answerNumber (c .before .before .answer .given .1)))
 
 returns-3 : tie.Need-returns-3
-returns-3 c = rw (c .word .ensures .0) (sym (ap answerNumber (c .before .before .answer2 .given .1)))
+returns-3 c = rw (c .word .ensures .same) (sym (ap answerNumber (c .before .before .answer2 .given .1)))
 
 returns-5 : tie.Need-returns-5
 returns-5 c =
     let h = c .before in
-    rw (h .word2 .ensures .0, c .word3 .ensures .0) (sym (ap answerNumber (h .before .before .answer3 .given .1)))
+    rw (h .word2 .ensures .same, c .word3 .ensures .same) (sym (ap answerNumber (h .before .before .answer3 .given .1)))
 
 pub answer-number-spec : {M : Type 1} → statement M
 answer-number-spec =

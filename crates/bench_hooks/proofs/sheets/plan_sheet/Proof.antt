@@ -1,6 +1,6 @@
 -- The two parts of the answer, as one number.
 use Rattle.folds.proofs.Ground.{_+_, _*_, _≡_, ap, _∙_, needs}
-use Rattle.print_text.specs.declared.Line.{Line}
+use Rattle.print_text.specs.declared.Handed.{Handed}
 use Rattle.bench_hooks.specs.Sheets.{sheetNumber}
 use Rattle.bench_hooks.proofs.sheets.plan_sheet.Statement.{statement}
 use Rattle.bench_hooks.proofs.sheets.plan_sheet.Tie as tie
@@ -9,7 +9,7 @@ returns : tie.Need-returns
 unfolding sheetNumber
 returns c =
     let s = c .before .before .before .sheet in
-    (rw (c .byte .ensures .0) (ap (λ (r : Line). r .refusal + 256 * r .length) (s .ensures .0)), s .ensures .1 .0)
+    (rw (c .byte .ensures .same) (ap (λ (r : Handed). r .refusal + 256 * r .length) (s .ensures .0)), s .ensures .1 .0)
 
 pub plan-sheet-spec : {M : Type 1} → statement M
 plan-sheet-spec =

@@ -23,8 +23,8 @@ passed c =
       valid = valid-plan _ (p .plan);
       whole = p .sound;
       seats-at = p .seated;
-      task = omega (arith, c .before .before .if1 .left, c .before .before .before .wide .ensures .0, i, n .1);
-      resource = omega (arith, c .if2 .left, n .2);
+      task = omega (arith, c .before .before .if1 .left, c .before .before .before .wide .ensures .same, i, n .tasks);
+      resource = omega (arith, c .if2 .left, n .resources);
     }
 
 returns : tie.Need-returns
@@ -32,7 +32,7 @@ returns c =
     let t = c .before .before in
     let a = start t .args in
     let l : planOf (a .file .now) .tasks ≤ taskNumber (planOf (a .file .now)) (a .tag) =
-    omega (arith, c .if1 .taken, c .before .wide .ensures .0, t .task-number .ensures, t .before .counts .ensures .1) in
+    omega (arith, c .if1 .taken, c .before .wide .ensures .same, t .task-number .ensures, t .before .counts .ensures .tasks) in
     release-unknown _ _ _ _ l
 
 returns-2 : tie.Need-returns-2
@@ -41,8 +41,8 @@ returns-2 c =
     let a = start t .args in
     let n = t .before .counts .ensures in
     let l : taskNumber (planOf (a .file .now)) (a .tag) < planOf (a .file .now) .tasks =
-    omega (arith, c .before .before .if1 .left, c .before .before .before .wide .ensures .0, t .task-number .ensures, n .1) in
-    let r : planOf (a .file .now) .resources ≤ a .q = omega (arith, c .if2 .taken, n .2) in
+    omega (arith, c .before .before .if1 .left, c .before .before .before .wide .ensures .same, t .task-number .ensures, n .tasks) in
+    let r : planOf (a .file .now) .resources ≤ a .q = omega (arith, c .if2 .taken, n .resources) in
     release-past _ _ _ _ l r
 
 element-copy-out-line : tie.Need-element-copy-out-line
@@ -59,23 +59,23 @@ shared-slice-read-first : tie.Need-shared-slice-read-first
 shared-slice-read-first c =
     let held = c .before .before .before .before in
     let a = passed (clear held) in
-    omega (arith, head-seat a (held .if3 .left), c .before .before .wide2 .ensures .0, c .before .wide3 .ensures .0, a .seats-at .long)
+    omega (arith, head-seat a (held .if3 .left), c .before .before .wide2 .ensures .same, c .before .wide3 .ensures .same, a .seats-at .long)
 
 returns-4 : tie.Need-returns-4
 returns-4 c =
     let first = c .before in
     let core = first .before .before in
     let held = core .before .before .before in
-    release-holder (passed (clear held)) (held .if3 .left) (core .before .wide2 .ensures .0) (core .wide3 .ensures .0)
-    (first .wide4 .ensures .0) (found (clear held) .task-number .ensures) (c .if4 .taken)
+    release-holder (passed (clear held)) (held .if3 .left) (core .before .wide2 .ensures .same) (core .wide3 .ensures .same)
+    (first .wide4 .ensures .same) (found (clear held) .task-number .ensures) (c .if4 .taken)
 
 returns-5 : tie.Need-returns-5
 returns-5 c =
     let first = c .before in
     let core = first .before .before in
     let held = core .before .before .before in
-    release-other (passed (clear held)) (held .if3 .left) (core .before .wide2 .ensures .0) (core .wide3 .ensures .0)
-    (first .wide4 .ensures .0) (found (clear held) .task-number .ensures) (c .if4 .left)
+    release-other (passed (clear held)) (held .if3 .left) (core .before .wide2 .ensures .same) (core .wide3 .ensures .same)
+    (first .wide4 .ensures .same) (found (clear held) .task-number .ensures) (c .if4 .left)
 
 pub release-code-spec : {M : Type 1} → statement M
 release-code-spec =

@@ -26,7 +26,7 @@ held c =
       };
       resource = p .resource;
       held = p .held;
-      copy = c .wide .ensures .0;
+      copy = c .wide .ensures .same;
     }
 
 granted-requires : tie.Need-granted-requires

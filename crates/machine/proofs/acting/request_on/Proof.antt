@@ -43,7 +43,7 @@ low-core : (c : tie.After-wide) → c .before .task .result .processor < 8
 low-core c = rw (c .before .task .ensures) (low-processor _ (accepted (found c) .valid) _ (free (found c) .task))
 
 low-resource : (c : tie.After-wide) → c .wide .result < 16
-low-resource c = omega (arith, c .wide .ensures .0, free (found c) .resource, accepted (found c) .valid .resources)
+low-resource c = omega (arith, c .wide .ensures .same, free (found c) .resource, accepted (found c) .valid .resources)
 
 named : (c : tie.After-wide)
     → Named (plan (found c)) (start (found c) .args .tag) (start (found c) .args .q) (found c .task-number .result)
@@ -52,7 +52,7 @@ named c =
     record {
       task = found c .task-number .ensures;
       processor = ap (λ (row : TaskRow). row .processor) (c .before .task .ensures);
-      resource = c .wide .ensures .0;
+      resource = c .wide .ensures .same;
     }
 
 -- ── the needs ──

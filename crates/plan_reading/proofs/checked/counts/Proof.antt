@@ -13,7 +13,12 @@ returns : tie.Need-returns
 unfolding planOf
 returns c =
     let e = c .counts-at .ensures in
-    (ap (λ (k : Counts). k .processors) e, ap (λ (k : Counts). k .tasks) e, ap (λ (k : Counts). k .resources) e, ap (λ (k : Counts). k .sections) e)
+    record {
+      processors = ap (λ (n : Counts). n .processors) e;
+      tasks = ap (λ (n : Counts). n .tasks) e;
+      resources = ap (λ (n : Counts). n .resources) e;
+      sections = ap (λ (n : Counts). n .sections) e;
+    }
 
 pub counts-spec : {M : Type 1} → statement M
 counts-spec = tie.close (tie.spec counts-at-requires returns)

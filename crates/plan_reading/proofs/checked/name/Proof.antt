@@ -29,11 +29,11 @@ start c = rows c .before .before .before
 -- the row's start and length, said of the file
 start-said : (c : tie.After-resource-at) → c .resource-at .result .start ≡ startIn (start c .args .file .now) (start c .args .resource)
 start-said c =
-    c .resource-at .ensures .start ∙ ap₂ (startAt edition1) (part-rest (rows c .resources-at .result) (start c .args .file .now) ∙ ap (λ (n : ℕ). drop n (start c .args .file .now)) (begin (rows c))) (c .before .wide .ensures .0)
+    c .resource-at .ensures .start ∙ ap₂ (startAt edition1) (part-rest (rows c .resources-at .result) (start c .args .file .now) ∙ ap (λ (n : ℕ). drop n (start c .args .file .now)) (begin (rows c))) (c .before .wide .ensures .same)
 
 length-said : (c : tie.After-resource-at) → c .resource-at .result .length ≡ lengthIn (start c .args .file .now) (start c .args .resource)
 length-said c =
-    c .resource-at .ensures .length ∙ ap₂ (lengthAt edition1) (part-rest (rows c .resources-at .result) (start c .args .file .now) ∙ ap (λ (n : ℕ). drop n (start c .args .file .now)) (begin (rows c))) (c .before .wide .ensures .0)
+    c .resource-at .ensures .length ∙ ap₂ (lengthAt edition1) (part-rest (rows c .resources-at .result) (start c .args .file .now) ∙ ap (λ (n : ℕ). drop n (start c .args .file .now)) (begin (rows c))) (c .before .wide .ensures .same)
 
 names-begin : (c : tie.After-names-at) → c .names-at .result ≡ namesAt (countsOf (start (c .before) .args .file .now))
 names-begin c = c .names-at .ensures ∙ ap namesAt (rows (c .before) .before .counts-at .ensures)
@@ -42,13 +42,13 @@ resource-at-requires : tie.Need-resource-at-requires
 resource-at-requires c κs =
     let s = c .before .before in
     let n = asked (s .before .before .before) in
-    simp (part-rest, length-drop) (omega (arith, n .whole .header .ranges .resources, n .whole .header .ends, n .below, begin s, c .wide .ensures .0))
+    simp (part-rest, length-drop) (omega (arith, n .whole .header .ranges .resources, n .whole .header .ends, n .below, begin s, c .wide .ensures .same))
 
 part-result-end : tie.Need-part-result-end
 part-result-end c =
     let n = c .before .before in
     let r = n .before in
-    omega (arith, asked (start r) .fits, names-begin n, start-said r, length-said r, c .wide2 .ensures .0)
+    omega (arith, asked (start r) .fits, names-begin n, start-said r, length-said r, c .wide2 .ensures .same)
 
 returns : tie.Need-returns
 unfolding namePart
@@ -60,7 +60,7 @@ returns c =
     let from : ℕ = n .names-at .result + r .resource-at .result .start in
     name-said _ _ _ (asked (start r))
     (part-span from (w .wide2 .result) f
-    ∙ ap₂ (λ (k : ℕ) (l : List ℕ). take k l) (w .wide2 .ensures .0 ∙ length-said r) (ap₂ (λ (a b : ℕ). drop (a + b) f) (names-begin n) (start-said r)))
+    ∙ ap₂ (λ (k : ℕ) (l : List ℕ). take k l) (w .wide2 .ensures .same ∙ length-said r) (ap₂ (λ (a b : ℕ). drop (a + b) f) (names-begin n) (start-said r)))
 
 pub name-spec : {M : Type 1} → statement M
 name-spec =

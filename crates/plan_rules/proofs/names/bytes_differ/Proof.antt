@@ -34,7 +34,7 @@ loop-again c =
     let l = c .before .before .before .loop .inv in
     record {
       below = omega arith;
-      start = sum-step _ _ (l .start) (c .wide .ensures .0);
+      start = sum-step _ _ (l .start) (c .wide .ensures .same);
       found = all-step _ _ (l .found) (c .before .name-is-new .ensures);
     }
 

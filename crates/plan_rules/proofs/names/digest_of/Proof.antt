@@ -8,7 +8,7 @@ returns : tie.Need-returns
 unfolding digestOf
 returns c =
     let first = c .before .before .before .before in
-    rw (lt-ltb _ _ (first .before .before .if1 .taken), c .wide3 .ensures .0, c .before .before .wide2 .ensures .0, first .wide .ensures .0)
+    rw (lt-ltb _ _ (first .before .before .if1 .taken), c .wide3 .ensures .same, c .before .before .wide2 .ensures .same, first .wide .ensures .same)
 
 returns-2 : tie.Need-returns-2
 unfolding digestOf

@@ -37,7 +37,7 @@ add-at c =
 loop-again : tie.Need-loop-again Inv-loop μ-loop
 loop-again c =
     let l = c .before .before .before .loop .inv in
-    record { below = omega arith; start = sum-step _ _ (l .start) (c .before .wide .ensures .0); found = placed-step _ _ _ (l .found) cc }
+    record { below = omega arith; start = sum-step _ _ (l .start) (c .before .wide .ensures .same); found = placed-step _ _ _ (l .found) cc }
 
 returns : tie.Need-returns Inv-loop μ-loop
 unfolding digestsOf

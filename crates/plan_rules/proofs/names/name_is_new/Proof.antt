@@ -32,7 +32,7 @@ add-other c =
 loop-again : tie.Need-loop-again Inv-loop μ-loop
 loop-again c =
     let l = c .before .before .before .loop .inv in
-    record { below = omega arith; start = sum-step _ _ (l .start) (c .wide .ensures .0); found = all-step _ _ (l .found) cc }
+    record { below = omega arith; start = sum-step _ _ (l .start) (c .wide .ensures .same); found = all-step _ _ (l .found) cc }
 
 returns : tie.Need-returns Inv-loop μ-loop
 unfolding nameNew

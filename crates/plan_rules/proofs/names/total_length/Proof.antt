@@ -23,7 +23,7 @@ loop-holds c = record { below = omega arith; small = omega arith; sum = refl }
 
 loop-again : tie.Need-loop-again Inv-loop μ-loop
 loop-again c =
-    record { below = omega arith; small = omega (arith, c .wide .ensures .1); sum = sum-step _ _ (c .before .before .loop .inv .sum) (c .wide .ensures .0) }
+    record { below = omega arith; small = omega (arith, c .wide .ensures .low); sum = sum-step _ _ (c .before .before .loop .inv .sum) (c .wide .ensures .same) }
 
 returns : tie.Need-returns Inv-loop μ-loop
 returns c = (sum-done _ (c .before .loop .i) _ (omega arith) (c .before .loop .inv .sum), omega arith)
