@@ -14,9 +14,6 @@ Inv-loop file figures terms n i₀ i =
 abbrev μ-loop : tie.MeasureT-loop
 μ-loop file figures terms n i₀ i = n - i
 
-counts-requires : tie.Need-counts-requires Inv-loop μ-loop
-counts-requires c κs = c .before .before .before .pre .known .plan
-
 loop-holds : tie.Need-loop-holds Inv-loop μ-loop
 unfolding allBelow
 loop-holds c = (omega arith, c .wide .ensures .same ∙ c .before .counts .ensures .tasks, refl)
@@ -45,5 +42,5 @@ pub all-pass-spec : {M : Type 1} → statement M
 all-pass-spec =
     tie.close
     (tie.spec
-    Inv-loop μ-loop counts-requires (λ c κs. search needs) loop-holds passes-requires returns (λ c. omega arith)
-    (λ c. omega arith) loop-again returns-2)
+    Inv-loop μ-loop (λ c κs. c .before .before .before .pre .known .plan) (λ c κs. search needs) loop-holds passes-requires
+    returns (λ c. omega arith) (λ c. omega arith) loop-again returns-2)

@@ -5,9 +5,6 @@ use Rattle.analysis.proofs.Users.{user-task, user-resource, user-hold}
 use Rattle.analysis.proofs.hold_time.Statement.{statement}
 use Rattle.analysis.proofs.hold_time.Tie as tie
 
-returns : tie.Need-returns
-returns c = figure-told _ _ (figure-refused _ (c .before .before .before .user-of .ensures .code) (c .if1 .taken))
-
 hold-at-requires : tie.Need-hold-at-requires
 hold-at-requires c κs =
     let u = c .before .before .before .before .before .user-of .ensures .user (c .before .before .if1 .left) in
@@ -23,5 +20,6 @@ pub hold-time-spec : {M : Type 1} → statement M
 hold-time-spec =
     tie.close
     (tie.spec
-    (λ c. search needs) (λ c κs. search needs) returns (λ c. search needs) (λ c κs. search needs) hold-at-requires (λ c. omega arith)
-    returns-2)
+    (λ c. search needs) (λ c κs. search needs)
+    (λ c. figure-told _ _ (figure-refused _ (c .before .before .before .user-of .ensures .code) (c .if1 .taken)))
+    (λ c. search needs) (λ c κs. search needs) hold-at-requires (λ c. omega arith) returns-2)

@@ -5,9 +5,6 @@ use Rattle.analysis.proofs.Told.{checked-file, times-refused, times-giv
 use Rattle.analysis.proofs.hold_times.Statement.{statement}
 use Rattle.analysis.proofs.hold_times.Tie as tie
 
-returns : tie.Need-returns
-returns c = times-refused _ (c .before .check .ensures) (c .if1 .taken)
-
 -- no check refused the file
 checked : (c : tie.Else1) → Checked (c .before .before .before .args .file .now)
 checked c =
@@ -21,5 +18,6 @@ pub hold-times-spec : {M : Type 1} → statement M
 hold-times-spec =
     tie.close
     (tie.spec
-    (λ c κs. search needs) returns (λ c. search needs) (λ c κs. (checked (c .before), refl)) (λ c. search needs)
-    (λ c κs. c .before .before .fill-figures .ensures .figures .long) returns-2)
+    (λ c κs. search needs) (λ c. times-refused _ (c .before .check .ensures) (c .if1 .taken)) (λ c. search needs)
+    (λ c κs. (checked (c .before), refl)) (λ c. search needs) (λ c κs. c .before .before .fill-figures .ensures .figures .long)
+    returns-2)

@@ -15,14 +15,10 @@ loop-holds : tie.Need-loop-holds Inv-loop μ-loop
 unfolding placedBelow
 loop-holds c = (omega arith, refl)
 
-loop-again : tie.Need-loop-again Inv-loop μ-loop
-loop-again c = let l = c .before .before .loop in (omega arith, placed-step (l .x) _ _ (l .inv .1) refl)
-
-returns : tie.Need-returns Inv-loop μ-loop
-returns c = let l = c .before .loop in placed-done 1024 (l .x) _ _ (omega arith) (l .inv .1)
-
 pub holds-of-spec : {M : Type 1} → statement M
 holds-of-spec =
     tie.close
     (tie.spec
-    Inv-loop μ-loop loop-holds (λ c. omega arith) (λ c. omega arith) (λ c. omega arith) (λ c. omega arith) (λ c. omega arith) (λ c. omega arith) loop-again returns)
+    Inv-loop μ-loop loop-holds (λ c. omega arith) (λ c. omega arith) (λ c. omega arith) (λ c. omega arith) (λ c. omega arith)
+    (λ c. omega arith) (λ c. let l = c .before .before .loop in (omega arith, placed-step (l .x) _ _ (l .inv .1) refl))
+    (λ c. let l = c .before .loop in placed-done 1024 (l .x) _ _ (omega arith) (l .inv .1)))

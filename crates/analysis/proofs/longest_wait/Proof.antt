@@ -5,9 +5,6 @@ use Rattle.analysis.proofs.Users.{user-resource}
 use Rattle.analysis.proofs.longest_wait.Statement.{statement}
 use Rattle.analysis.proofs.longest_wait.Tie as tie
 
-returns : tie.Need-returns
-returns c = figure-told _ _ (figure-refused _ (c .before .before .before .user-of .ensures .code) (c .if1 .taken))
-
 longest-of-requires : tie.Need-longest-of-requires
 longest-of-requires c κs =
     let u = c .before .before .before .before .before .user-of .ensures .user (c .before .before .if1 .left) in
@@ -29,4 +26,6 @@ pub longest-wait-spec : {M : Type 1} → statement M
 longest-wait-spec =
     tie.close
     (tie.spec
-    (λ c. search needs) (λ c κs. search needs) returns (λ c. search needs) (λ c κs. search needs) longest-of-requires returns-2)
+    (λ c. search needs) (λ c κs. search needs)
+    (λ c. figure-told _ _ (figure-refused _ (c .before .before .before .user-of .ensures .code) (c .if1 .taken)))
+    (λ c. search needs) (λ c κs. search needs) longest-of-requires returns-2)

@@ -4,17 +4,7 @@ use Rattle.analysis.proofs.Told.{no-processor, no-resource, both-there}
 use Rattle.analysis.proofs.processor_code.Statement.{statement}
 use Rattle.analysis.proofs.processor_code.Tie as tie
 
-counts-requires : tie.Need-counts-requires
-counts-requires c κs = search needs
-
-returns : tie.Need-returns
-returns c = no-processor _ _ _ (omega arith)
-
-returns-2 : tie.Need-returns-2
-returns-2 c = no-resource _ _ _ (omega arith) (omega arith)
-
-returns-3 : tie.Need-returns-3
-returns-3 c = both-there _ _ _ (omega arith) (omega arith)
-
 pub processor-code-spec : {M : Type 1} → statement M
-processor-code-spec = tie.close (tie.spec counts-requires returns returns-2 returns-3)
+processor-code-spec = tie.close (tie.spec
+    (λ c κs. search needs) (λ c. no-processor _ _ _ (omega arith)) (λ c. no-resource _ _ _ (omega arith) (omega arith))
+    (λ c. both-there _ _ _ (omega arith) (omega arith)))

@@ -5,19 +5,16 @@ use Rattle.analysis.proofs.Told.{checked-file, reading-fails, reading-r
 use Rattle.analysis.proofs.requirement.Statement.{statement}
 use Rattle.analysis.proofs.requirement.Tie as tie
 
-check-requires : tie.Need-check-requires
-check-requires c κs = search needs
-
 returns : tie.Need-returns
 unfolding requirementRefusal
 returns c = requirement-told _ _ (requirement-refused _ (reading-fails _ _ (c .before .check .ensures) (c .if1 .taken)) (c .if1 .taken))
-
-requirement-question-requires : tie.Need-requirement-question-requires
-requirement-question-requires c κs = checked-file _ (sym (c .before .check .ensures) ∙ c .if1 .left) (λ i. c .before .before .shared-slice-known .given i .fits)
 
 returns-2 : tie.Need-returns-2
 unfolding requirementRefusal
 returns-2 c = requirement-told _ _ (reading-requirement _ _ _ (c .before .before .check .ensures) (c .before .if1 .left) (c .requirement-question .ensures))
 
 pub requirement-spec : {M : Type 1} → statement M
-requirement-spec = tie.close (tie.spec check-requires returns requirement-question-requires returns-2)
+requirement-spec = tie.close (tie.spec
+    (λ c κs. search needs) returns
+    (λ c κs. checked-file _ (sym (c .before .check .ensures) ∙ c .if1 .left) (λ i. c .before .before .shared-slice-known .given i .fits))
+    returns-2)

@@ -8,12 +8,6 @@ use Rattle.analysis.proofs.Told.{requirement-given, requirement-refused
 use Rattle.analysis.proofs.requirement_question.Statement.{statement}
 use Rattle.analysis.proofs.requirement_question.Tie as tie
 
-returns : tie.Need-returns
-returns c = requirement-refused _ (no-task-asked _ _ (omega arith)) (λ e. omega arith)
-
-count-at-requires : tie.Need-count-at-requires
-count-at-requires c κs = let t = c .before .before .fill-terms .ensures in (t .terms .long, omega (arith, valid-plan _ (t .known .plan) .tasks))
-
 -- ── where the task's global sections are counted ──
 abbrev found : tie.After-count-at → tie.After-task-number
 found c = c .before .before .before .before .before .before .before .before .before .before .before
@@ -41,6 +35,9 @@ pub requirement-question-spec : {M : Type 1} → statement M
 requirement-question-spec =
     tie.close
     (tie.spec
-    (λ c κs. search needs) (λ c κs. search needs) (λ c κs. search needs) returns (λ c. search needs) (λ c κs. search needs)
-    (λ c. search needs) (λ c. search needs) (λ c κs. search needs) (λ c. search needs) count-at-requires returns-2 (λ c. search needs)
-    (λ c. search needs) (λ c κs. (c .before .before .before .before .before .before .fill-terms .ensures, omega arith)) returns-3)
+    (λ c κs. search needs) (λ c κs. search needs) (λ c κs. search needs)
+    (λ c. requirement-refused _ (no-task-asked _ _ (omega arith)) (λ e. omega arith)) (λ c. search needs) (λ c κs. search needs)
+    (λ c. search needs) (λ c. search needs) (λ c κs. search needs) (λ c. search needs)
+    (λ c κs. let t = c .before .before .fill-terms .ensures in (t .terms .long, omega (arith, valid-plan _ (t .known .plan) .tasks)))
+    returns-2 (λ c. search needs) (λ c. search needs)
+    (λ c κs. (c .before .before .before .before .before .before .fill-terms .ensures, omega arith)) returns-3)

@@ -5,19 +5,16 @@ use Rattle.analysis.proofs.Told.{checked-file, reading-fails, reading-h
 use Rattle.analysis.proofs.share_refusal.Statement.{statement}
 use Rattle.analysis.proofs.share_refusal.Tie as tie
 
-check-requires : tie.Need-check-requires
-check-requires c κs = search needs
-
 returns : tie.Need-returns
 unfolding shareRefusal
 returns c = reading-fails _ _ (c .before .check .ensures) (c .if1 .taken)
-
-processor-code-requires : tie.Need-processor-code-requires
-processor-code-requires c κs = checked-file _ (sym (c .before .check .ensures) ∙ c .if1 .left) (λ i. c .before .before .shared-slice-known .given i .fits)
 
 returns-2 : tie.Need-returns-2
 unfolding shareRefusal
 returns-2 c = c .processor-code .ensures ∙ sym (reading-holds _ _ (c .before .before .check .ensures) (c .before .if1 .left))
 
 pub share-refusal-spec : {M : Type 1} → statement M
-share-refusal-spec = tie.close (tie.spec check-requires returns processor-code-requires returns-2)
+share-refusal-spec = tie.close (tie.spec
+    (λ c κs. search needs) returns
+    (λ c κs. checked-file _ (sym (c .before .check .ensures) ∙ c .if1 .left) (λ i. c .before .before .shared-slice-known .given i .fits))
+    returns-2)

@@ -5,9 +5,6 @@ use Rattle.analysis.proofs.Users.{user-unread, user-read}
 use Rattle.analysis.proofs.user_of.Statement.{statement}
 use Rattle.analysis.proofs.user_of.Tie as tie
 
-returns : tie.Need-returns
-returns c = user-unread _ _ _ (c .before .check .ensures) (c .if1 .taken)
-
 fill-figures-requires : tie.Need-fill-figures-requires
 fill-figures-requires c κs = (checked-file _ (sym (c .before .before .check .ensures) ∙ c .before .if1 .left) (λ i. c .before .before .before .before .shared-slice-known .given i .fits), c .before .before .before .before .before .pre)
 
@@ -17,4 +14,6 @@ returns-2 c = user-read _ _ _ (sym (c .before .before .before .before .before .b
 pub user-of-spec : {M : Type 1} → statement M
 user-of-spec =
     tie.close
-    (tie.spec (λ c κs. search needs) returns fill-figures-requires (λ c κs. c .before .before .before .fill-figures .ensures) (λ c. search needs) returns-2)
+    (tie.spec
+    (λ c κs. search needs) (λ c. user-unread _ _ _ (c .before .check .ensures) (c .if1 .taken)) fill-figures-requires
+    (λ c κs. c .before .before .before .fill-figures .ensures) (λ c. search needs) returns-2)

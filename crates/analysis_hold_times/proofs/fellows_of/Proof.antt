@@ -15,35 +15,14 @@ Inv-loop file figures i q n k count₀ sum₀ j₀ count sum j =
 abbrev μ-loop : tie.MeasureT-loop
 μ-loop file figures i q n k count₀ sum₀ j₀ count sum j = n - j
 
-counts-requires : tie.Need-counts-requires Inv-loop μ-loop
-counts-requires c κs = c .before .before .pre .known .plan
-
-wide-requires : tie.Need-wide-requires Inv-loop μ-loop
-wide-requires c κs = tt
-
-task-requires : tie.Need-task-requires Inv-loop μ-loop
-task-requires c κs = let h = c .before .before .before .before .pre in (h .known .plan, h .task)
-
 loop-holds : tie.Need-loop-holds Inv-loop μ-loop
 loop-holds c =
     let a = c .before .before .before .before .before in
     let e = c .before .wide .ensures .same ∙ c .before .before .counts .ensures .tasks in
     (omega arith, e, omega (arith, e, valid-plan _ (a .pre .known .plan) .tasks), ap (λ (r : TaskRow). r .processor) (c .task .ensures), counted-none _ _ _)
 
-task-requires-2 : tie.Need-task-requires-2 Inv-loop μ-loop
-task-requires-2 c κs = (c .before .before .before .before .before .before .before .pre .known .plan, omega arith)
-
 hold-at-requires : tie.Need-hold-at-requires Inv-loop μ-loop
 hold-at-requires c κs = let h = c .before .before .before .before .before .before .before .before .pre in record { long = h .known .figures .long; row = omega arith; resource = h .resource }
-
-flag-requires : tie.Need-flag-requires Inv-loop μ-loop
-flag-requires c κs = tt
-
-add-count : tie.Need-add-count Inv-loop μ-loop
-add-count c = omega (arith, c .before .before .before .before .before .loop .inv .4 .few, c .flag .ensures .1)
-
-chosen-requires : tie.Need-chosen-requires Inv-loop μ-loop
-chosen-requires c κs = tt
 
 loop-again : tie.Need-loop-again Inv-loop μ-loop
 loop-again c =
@@ -68,5 +47,8 @@ pub fellows-of-spec : {M : Type 1} → statement M
 fellows-of-spec =
     tie.close
     (tie.spec
-    Inv-loop μ-loop counts-requires wide-requires task-requires loop-holds task-requires-2 hold-at-requires flag-requires add-count chosen-requires (λ c. search needs) (λ c. search needs) (λ c. omega arith)
-    (λ c. omega arith) loop-again returns)
+    Inv-loop μ-loop (λ c κs. c .before .before .pre .known .plan) (λ c κs. tt)
+    (λ c κs. let h = c .before .before .before .before .pre in (h .known .plan, h .task)) loop-holds
+    (λ c κs. (c .before .before .before .before .before .before .before .pre .known .plan, omega arith)) hold-at-requires
+    (λ c κs. tt) (λ c. omega (arith, c .before .before .before .before .before .loop .inv .4 .few, c .flag .ensures .1))
+    (λ c κs. tt) (λ c. search needs) (λ c. search needs) (λ c. omega arith) (λ c. omega arith) loop-again returns)

@@ -47,9 +47,6 @@ loop-again c =
     let v = valid-plan _ (i .2) in
     (omega arith, i .1, i .2, i .3, i .4, i .5, table-step _ v (l .k) _ (omega (arith, i .1)) (i .6) (c .before .before .before .before .before .before .hold-rows .ensures) (c .before .before .set-row .ensures))
 
-same-length : tie.Need-same-length Inv-loop μ-loop
-same-length c = c .before .loop .inv .6 .long ∙ sym (c .before .before .before .before .before .before .before .before .before .pre .known .sections .long)
-
 returns : tie.Need-returns Inv-loop μ-loop
 returns c =
     let l = c .before .loop in
@@ -60,5 +57,7 @@ pub hold-all-spec : {M : Type 1} → statement M
 hold-all-spec =
     tie.close
     (tie.spec
-    Inv-loop μ-loop (λ c κs. search needs) (λ c κs. search needs) (λ c κs. search needs) loop-holds hold-rows-requires (λ c. omega arith)
-    set-row-requires (λ c. omega arith) (λ c. omega arith) loop-again same-length returns)
+    Inv-loop μ-loop (λ c κs. search needs) (λ c κs. search needs) (λ c κs. search needs) loop-holds hold-rows-requires
+    (λ c. omega arith) set-row-requires (λ c. omega arith) (λ c. omega arith) loop-again
+    (λ c. c .before .loop .inv .6 .long ∙ sym (c .before .before .before .before .before .before .before .before .before .pre .known .sections .long))
+    returns)

@@ -63,17 +63,11 @@ seat c = c .before .before
 own : (c : Own) → Row (sharedOn (planOf (seat c .before .before .before .before .before .before .before .before .before .before .before .args .file .now)) (seat c .before .wide2 .result - 1)) (c .shared-row .result)
 own c = own-row _ _ _ (next (seat c)) (c .shared-row .ensures)
 
-shared-row-requires : tie.Need-shared-row-requires Inv-loop μ-loop
-shared-row-requires c κs = let n = next (c .before) in record { long = n .held .long; task = low _ _ _ n; low = product-high _ _ _ n }
-
 held-row-requires : tie.Need-held-row-requires Inv-loop μ-loop
 held-row-requires c κs =
     let a = c .before in
     let n = next (a .before .before) in
     λ q l. (own-high _ _ _ n (own a) q l, above-high _ _ _ _ _ (n .held) q l)
-
-set-row-requires : tie.Need-set-row-requires Inv-loop μ-loop
-set-row-requires c κs = let n = next (c .before .before .before .before) in (omega (arith, n .held .long, low _ _ _ n), n .held .long)
 
 longer-row-requires : tie.Need-longer-row-requires Inv-loop μ-loop
 longer-row-requires c κs = let n = next (c .before .before .before .before .before .before .before .before) in (c .before .before .before .set-row .ensures .long ∙ n .held .long, low _ _ _ n)
@@ -112,7 +106,19 @@ pub hold-rows-spec : {M : Type 1} → statement M
 hold-rows-spec =
     tie.close
     (tie.spec
-    Inv-loop μ-loop (λ c κs. c .before .before .before .before .pre .plan) (λ c κs. search needs) loop-holds (λ c. omega (arith, c .before .loop .inv .walk .processor)) (λ c. omega (arith, c .before .loop .inv .walk .processor, c .before .loop .inv .all, valid-plan _ (c .before .loop .inv .walk .plan) .tasks)) order-read (λ c κs. search needs)
-    (λ c. c .before .before .before .before .loop .inv .held .long ∙ sym (c .before .before .before .before .before .before .before .before .before .before .before .pre .long)) returns (λ c. omega arith) shared-row-requires held-row-requires
-    set-row-requires longer-row-requires (λ c. omega (arith, low _ _ _ (next (c .before .before .before .before .before .before .before .before .before)))) tops-read (λ c. omega (arith, low _ _ _ (next (c .before .before .before .before .before .before .before .before .before .before)))) (λ c. omega (arith, low _ _ _ (next (c .before .before .before .before .before .before .before .before .before .before)))) tops-read-2
-    above-row-requires (λ c. omega arith) (λ c. omega arith) loop-again (λ c. c .before .loop .inv .held .long ∙ sym (c .before .before .before .before .before .before .before .before .pre .long)) returns-2)
+    Inv-loop μ-loop (λ c κs. c .before .before .before .before .pre .plan) (λ c κs. search needs) loop-holds
+    (λ c. omega (arith, c .before .loop .inv .walk .processor))
+    (λ c. omega (arith, c .before .loop .inv .walk .processor, c .before .loop .inv .all, valid-plan _ (c .before .loop .inv .walk .plan) .tasks))
+    order-read (λ c κs. search needs)
+    (λ c. c .before .before .before .before .loop .inv .held .long ∙ sym (c .before .before .before .before .before .before .before .before .before .before .before .pre .long))
+    returns (λ c. omega arith)
+    (λ c κs. let n = next (c .before) in record { long = n .held .long; task = low _ _ _ n; low = product-high _ _ _ n })
+    held-row-requires
+    (λ c κs. let n = next (c .before .before .before .before) in (omega (arith, n .held .long, low _ _ _ n), n .held .long))
+    longer-row-requires
+    (λ c. omega (arith, low _ _ _ (next (c .before .before .before .before .before .before .before .before .before)))) tops-read
+    (λ c. omega (arith, low _ _ _ (next (c .before .before .before .before .before .before .before .before .before .before))))
+    (λ c. omega (arith, low _ _ _ (next (c .before .before .before .before .before .before .before .before .before .before))))
+    tops-read-2 above-row-requires (λ c. omega arith) (λ c. omega arith) loop-again
+    (λ c. c .before .loop .inv .held .long ∙ sym (c .before .before .before .before .before .before .before .before .pre .long))
+    returns-2)

@@ -14,15 +14,9 @@ Inv-loop file i q n best₀ s₀ best s = (s ≤ n) × (n ≡ planOf file .secti
 abbrev μ-loop : tie.MeasureT-loop
 μ-loop file i q n best₀ s₀ best s = n - s
 
-counts-requires : tie.Need-counts-requires Inv-loop μ-loop
-counts-requires c κs = c .before .pre
-
 loop-holds : tie.Need-loop-holds Inv-loop μ-loop
 unfolding maxBelow
 loop-holds c = (omega arith, c .before .counts .ensures .sections, refl)
-
-section-requires : tie.Need-section-requires Inv-loop μ-loop
-section-requires c κs = (c .before .before .before .before .before .pre, omega arith)
 
 loop-again : tie.Need-loop-again Inv-loop μ-loop
 loop-again c =
@@ -41,5 +35,6 @@ pub longest-on-spec : {M : Type 1} → statement M
 longest-on-spec =
     tie.close
     (tie.spec
-    Inv-loop μ-loop counts-requires (λ c. omega arith) loop-holds section-requires (λ c κs. search needs) (λ c κs. search needs)
+    Inv-loop μ-loop (λ c κs. c .before .pre) (λ c. omega arith) loop-holds
+    (λ c κs. (c .before .before .before .before .before .pre, omega arith)) (λ c κs. search needs) (λ c κs. search needs)
     (λ c κs. search needs) (λ c. omega arith) (λ c. omega arith) loop-again returns)

@@ -15,15 +15,6 @@ loop-holds : tie.Need-loop-holds Inv-loop μ-loop
 unfolding stampedBelow
 loop-holds c = (omega arith, refl)
 
-slice-write-table : tie.Need-slice-write-table Inv-loop μ-loop
-slice-write-table c = rw (c .before .loop .inv .1, stamped-length) (omega arith)
-
-loop-again : tie.Need-loop-again Inv-loop μ-loop
-loop-again c = let l = c .before .loop in (omega arith, stamped-step (l .q) _ _ _ (l .inv .1) refl refl)
-
-same-length : tie.Need-same-length Inv-loop μ-loop
-same-length c = rw (c .before .loop .inv .1, stamped-length)
-
 returns : tie.Need-returns Inv-loop μ-loop
 returns c =
     let l = c .before .loop in
@@ -35,4 +26,6 @@ set-row-spec =
     tie.close
     (tie.spec
     Inv-loop μ-loop loop-holds (λ c. omega arith) (λ c. omega arith) (λ c. omega arith) (λ c. omega arith) (λ c. omega arith)
-    slice-write-table (λ c. omega arith) (λ c. omega arith) loop-again same-length returns)
+    (λ c. rw (c .before .loop .inv .1, stamped-length) (omega arith)) (λ c. omega arith) (λ c. omega arith)
+    (λ c. let l = c .before .loop in (omega arith, stamped-step (l .q) _ _ _ (l .inv .1) refl refl))
+    (λ c. rw (c .before .loop .inv .1, stamped-length)) returns)

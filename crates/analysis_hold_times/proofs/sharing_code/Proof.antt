@@ -5,9 +5,6 @@ use Rattle.analysis_equations.proofs.Laws.{not-used, not-shared}
 use Rattle.analysis_hold_times.proofs.sharing_code.Statement.{statement}
 use Rattle.analysis_hold_times.proofs.sharing_code.Tie as tie
 
-longest-on-requires : tie.Need-longest-on-requires
-longest-on-requires c κs = c .before .pre .plan
-
 returns : tie.Need-returns
 returns c =
     let a = c .before .before .before in
@@ -19,4 +16,4 @@ returns-2 c =
     (not-shared _ (valid-plan _ (a .pre .plan)) _ _ (λ e. c .if1 .left (c .before .longest-on .ensures ∙ e)) (a .pre .zero), omega arith)
 
 pub sharing-code-spec : {M : Type 1} → statement M
-sharing-code-spec = tie.close (tie.spec longest-on-requires returns returns-2)
+sharing-code-spec = tie.close (tie.spec (λ c κs. c .before .pre .plan) returns returns-2)

@@ -13,15 +13,9 @@ Inv-loop file tag n j₀ j = (j ≤ n) × (n ≡ planOf file .tasks) × (allBelo
 abbrev μ-loop : tie.MeasureT-loop
 μ-loop file tag n j₀ j = n - j
 
-counts-requires : tie.Need-counts-requires Inv-loop μ-loop
-counts-requires c κs = c .before .pre
-
 loop-holds : tie.Need-loop-holds Inv-loop μ-loop
 unfolding allBelow
 loop-holds c = (omega arith, c .wide .ensures .same ∙ c .before .counts .ensures .tasks, refl)
-
-task-requires : tie.Need-task-requires Inv-loop μ-loop
-task-requires c κs = (c .before .before .before .before .before .pre, omega arith)
 
 returns : tie.Need-returns Inv-loop μ-loop
 unfolding taskNumber
@@ -48,5 +42,6 @@ pub task-number-spec : {M : Type 1} → statement M
 task-number-spec =
     tie.close
     (tie.spec
-    Inv-loop μ-loop counts-requires (λ c κs. search needs) loop-holds task-requires returns (λ c. omega arith) (λ c. omega arith)
+    Inv-loop μ-loop (λ c κs. c .before .pre) (λ c κs. search needs) loop-holds
+    (λ c κs. (c .before .before .before .before .before .pre, omega arith)) returns (λ c. omega arith) (λ c. omega arith)
     loop-again returns-2)

@@ -34,9 +34,6 @@ hold c =
 returns : tie.Need-returns
 returns c = (unknown-tag _ _ _ (omega arith), c .before .before .task-number .ensures)
 
-returns-2 : tie.Need-returns-2
-returns-2 c = (unknown-resource _ _ _ (omega arith) (omega arith), c .before .before .before .before .task-number .ensures)
-
 hold-at-requires : tie.Need-hold-at-requires
 hold-at-requires c κs =
     let h = c .before .before .before .before .before .before .before .before .before .pre in
@@ -56,5 +53,8 @@ pub user-in-spec : {M : Type 1} → statement M
 user-in-spec =
     tie.close
     (tie.spec
-    (λ c κs. c .before .before .pre .plan) (λ c κs. c .before .before .before .pre .plan) (λ c κs. search needs) returns returns-2 (λ c κs. search needs) hold-at-requires
-    (λ c κs. let a = c .before in record { plan = start a .pre .plan; task = below a; zero = sym (hold a) ∙ c .if3 .taken }) returns-3 returns-4)
+    (λ c κs. c .before .before .pre .plan) (λ c κs. c .before .before .before .pre .plan) (λ c κs. search needs) returns
+    (λ c. (unknown-resource _ _ _ (omega arith) (omega arith), c .before .before .before .before .task-number .ensures))
+    (λ c κs. search needs) hold-at-requires
+    (λ c κs. let a = c .before in record { plan = start a .pre .plan; task = below a; zero = sym (hold a) ∙ c .if3 .taken })
+    returns-3 returns-4)

@@ -50,16 +50,23 @@ loop-again c =
     let x = a-term c in
     record { within = omega arith; all = i .all; few = i .few; asked = i .asked; low = omega (arith, x .high); told = sum-step _ _ (i .told) (x .told) }
 
-returns : tie.Need-returns Inv-loop μ-loop
-returns c = let l = c .before .loop in blocking2-done _ _ (l .j) (omega (arith, l .inv .all)) (l .inv .told)
-
 pub blocking2-of-spec : {M : Type 1} → statement M
 blocking2-of-spec =
     tie.close
     (tie.spec
-    Inv-loop μ-loop (λ c κs. c .before .before .pre .plan) (λ c κs. search needs) (λ c. omega (arith, asked-low (c .before .before .before .before .pre))) (λ c. omega (arith, asked-low (c .before .before .before .before .pre)))
-    (λ c. let h = c .before .before .before .before .before .pre in omega (arith, h .terms .long, asked-low h)) (λ c. omega (arith, asked-low (c .before .before .before .before .before .pre))) (λ c. omega (arith, asked-low (c .before .before .before .before .before .pre)))
-    (λ c. let h = c .before .before .before .before .before .before .pre in omega (arith, h .terms .long, asked-low h)) (λ c. omega (arith, asked-count (c .before .before .before .before .before .before .pre))) (λ c. omega (arith, asked-count (c .before .before .before .before .before .before .pre))) loop-holds (λ c. omega arith) (λ c. omega arith)
-    (λ c. omega (arith, c .before .before .loop .inv .asked .terms .long)) (λ c. omega arith) (λ c. omega (arith, c .before .before .before .loop .inv .asked .terms .long)) (λ c κs. search needs) (λ c. omega arith) (λ c. omega arith)
-    (λ c. omega (arith, c .before .before .before .before .before .loop .inv .asked .terms .long)) (λ c. omega (arith, c .shared-slice-known7 .given (128 + c .before .before .before .before .before .loop .j) .fits)) (λ c κs. search needs) (λ c. omega arith) (λ c. omega (arith, a-term c .high))
-    (λ c. omega (arith, a-term c .high)) (λ c. omega arith) (λ c. omega arith) loop-again returns)
+    Inv-loop μ-loop (λ c κs. c .before .before .pre .plan) (λ c κs. search needs)
+    (λ c. omega (arith, asked-low (c .before .before .before .before .pre)))
+    (λ c. omega (arith, asked-low (c .before .before .before .before .pre)))
+    (λ c. let h = c .before .before .before .before .before .pre in omega (arith, h .terms .long, asked-low h))
+    (λ c. omega (arith, asked-low (c .before .before .before .before .before .pre)))
+    (λ c. omega (arith, asked-low (c .before .before .before .before .before .pre)))
+    (λ c. let h = c .before .before .before .before .before .before .pre in omega (arith, h .terms .long, asked-low h))
+    (λ c. omega (arith, asked-count (c .before .before .before .before .before .before .pre)))
+    (λ c. omega (arith, asked-count (c .before .before .before .before .before .before .pre))) loop-holds (λ c. omega arith)
+    (λ c. omega arith) (λ c. omega (arith, c .before .before .loop .inv .asked .terms .long)) (λ c. omega arith)
+    (λ c. omega (arith, c .before .before .before .loop .inv .asked .terms .long)) (λ c κs. search needs) (λ c. omega arith)
+    (λ c. omega arith) (λ c. omega (arith, c .before .before .before .before .before .loop .inv .asked .terms .long))
+    (λ c. omega (arith, c .shared-slice-known7 .given (128 + c .before .before .before .before .before .loop .j) .fits))
+    (λ c κs. search needs) (λ c. omega arith) (λ c. omega (arith, a-term c .high)) (λ c. omega (arith, a-term c .high))
+    (λ c. omega arith) (λ c. omega arith) loop-again
+    (λ c. let l = c .before .loop in blocking2-done _ _ (l .j) (omega (arith, l .inv .all)) (l .inv .told)))

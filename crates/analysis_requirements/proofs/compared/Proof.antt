@@ -6,19 +6,10 @@ use Rattle.analysis_requirements.proofs.Sides.{comparison-told}
 use Rattle.analysis_requirements.proofs.compared.Statement.{statement}
 use Rattle.analysis_requirements.proofs.compared.Tie as tie
 
-add-minus : tie.Need-add-minus
-add-minus c = search needs
-
-minus-requires : tie.Need-minus-requires
-minus-requires c κs = search needs
-
-at-most-requires : tie.Need-at-most-requires
-at-most-requires c κs = search needs
-
 returns : tie.Need-returns
 returns c =
     let s = c .before .minus in
     comparison-told (toZ-ofZ (c .before .before .fits .tolerance)) (back _ (s .ok)) (s .ensures) (c .at-most .ensures)
 
 pub compared-spec : {M : Type 1} → statement M
-compared-spec = tie.close (tie.spec add-minus minus-requires at-most-requires returns)
+compared-spec = tie.close (tie.spec (λ c. search needs) (λ c κs. search needs) (λ c κs. search needs) returns)

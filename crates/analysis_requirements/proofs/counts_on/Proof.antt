@@ -13,15 +13,9 @@ Inv-loop file i n table₀ s₀ table s = (s ≤ n) × (table ≡ onTable (planO
 abbrev μ-loop : tie.MeasureT-loop
 μ-loop file i n table₀ s₀ table s = n - s
 
-counts-requires : tie.Need-counts-requires Inv-loop μ-loop
-counts-requires c κs = c .before .pre
-
 loop-holds : tie.Need-loop-holds Inv-loop μ-loop
 unfolding gatheredBelow
 loop-holds c = (omega arith, refl)
-
-section-requires : tie.Need-section-requires Inv-loop μ-loop
-section-requires c κs = (c .before .before .before .before .before .pre, rw (← c .before .before .before .counts .ensures .sections) (c .loop-test .taken))
 
 array-read-table : tie.Need-array-read-table Inv-loop μ-loop
 array-read-table c = row-resource _ (c .before .before .before .before .before .before .before .before .before .pre) (c .before .before .before .before .before .before .before .counts .ensures .sections) (c .before .before .before .before .loop-test .taken) (c .before .before .before .section .ensures) (c .wide2 .ensures .same)
@@ -32,9 +26,6 @@ add-table c =
     let own = eqb (c .before .before .wide .result) (a .args .i) in
     omega (arith, valid-plan _ (a .pre) .sections, c .before .before .before .before .before .before .before .counts .ensures .sections, on-more (planOf (a .args .file .now)) (a .args .i) _ own (c .before .before .before .before .before .loop .inv .1) (array-read-table c) (c .before .chosen .ensures))
 
-array-write-table : tie.Need-array-write-table Inv-loop μ-loop
-array-write-table c = array-read-table c
-
 loop-again : tie.Need-loop-again Inv-loop μ-loop
 loop-again c =
     let row = c .before .before .before .section .ensures in (
@@ -42,13 +33,12 @@ loop-again c =
       gathered-step _ _ _ _ (c .before .before .before .before .before .loop .inv .1) (rw (c .wide2 .ensures .same, row)) (rw (c .before .chosen .ensures, c .before .before .wide .ensures .same, row)),
     )
 
-returns : tie.Need-returns Inv-loop μ-loop
-returns c = on-table _ _ (c .before .before .before .counts .ensures .sections) (omega arith) (c .before .loop .inv .1)
-
 pub counts-on-spec : {M : Type 1} → statement M
 counts-on-spec =
     tie.close
     (tie.spec
-    Inv-loop μ-loop counts-requires (λ c. omega arith) loop-holds section-requires (λ c κs. search needs) (λ c κs. search needs)
-    (λ c κs. search needs) (λ c. omega arith) array-read-table add-table array-write-table (λ c. omega arith) (λ c. omega arith)
-    loop-again returns)
+    Inv-loop μ-loop (λ c κs. c .before .pre) (λ c. omega arith) loop-holds
+    (λ c κs. (c .before .before .before .before .before .pre, rw (← c .before .before .before .counts .ensures .sections) (c .loop-test .taken)))
+    (λ c κs. search needs) (λ c κs. search needs) (λ c κs. search needs) (λ c. omega arith) array-read-table add-table
+    (λ c. array-read-table c) (λ c. omega arith) (λ c. omega arith) loop-again
+    (λ c. on-table _ _ (c .before .before .before .counts .ensures .sections) (omega arith) (c .before .loop .inv .1)))

@@ -16,12 +16,6 @@ Inv-loop file terms i n mine count₀ periods₀ times₀ j₀ count periods tim
 abbrev μ-loop : tie.MeasureT-loop
 μ-loop file terms i n mine count₀ periods₀ times₀ j₀ count periods times j = n - j
 
-counts-requires : tie.Need-counts-requires Inv-loop μ-loop
-counts-requires c κs = c .before .before .pre .plan
-
-wide-requires : tie.Need-wide-requires Inv-loop μ-loop
-wide-requires c κs = tt
-
 add-mine : tie.Need-add-mine Inv-loop μ-loop
 add-mine c =
     let a = c .before .before .before .before in
@@ -42,27 +36,6 @@ loop-holds c =
     let a = c .before .before .before .before .before in
     let e = c .before .wide .ensures .same ∙ c .before .before .counts .ensures .tasks in
     (omega arith, e, omega (arith, e, valid-plan _ (a .pre .plan) .tasks), above-none _ _)
-
-shared-slice-read-place : tie.Need-shared-slice-read-place Inv-loop μ-loop
-shared-slice-read-place c = omega (arith, c .before .before .before .before .before .before .before .before .pre .terms .long)
-
-task-requires : tie.Need-task-requires Inv-loop μ-loop
-task-requires c κs = (c .before .before .before .before .before .before .before .before .before .pre .plan, omega arith)
-
-mul-periods : tie.Need-mul-periods Inv-loop μ-loop
-mul-periods c = omega (arith, above-few (c .before .before .before .before .before .loop .inv .3))
-
-array-write-periods : tie.Need-array-write-periods Inv-loop μ-loop
-array-write-periods c = omega (arith, above-few (c .before .before .before .before .before .loop .inv .3))
-
-mul-times : tie.Need-mul-times Inv-loop μ-loop
-mul-times c = omega (arith, above-few (c .before .before .before .before .before .before .loop .inv .3))
-
-array-write-times : tie.Need-array-write-times Inv-loop μ-loop
-array-write-times c = omega (arith, above-few (c .before .before .before .before .before .before .loop .inv .3))
-
-add-count : tie.Need-add-count Inv-loop μ-loop
-add-count c = omega (arith, above-few (c .before .before .before .before .before .before .loop .inv .3))
 
 loop-again : tie.Need-loop-again Inv-loop μ-loop
 loop-again c =
@@ -87,6 +60,13 @@ pub higher-tasks-spec : {M : Type 1} → statement M
 higher-tasks-spec =
     tie.close
     (tie.spec
-    Inv-loop μ-loop counts-requires wide-requires add-mine mul-mine shared-slice-read-mine loop-holds (λ c. omega arith)
-    (λ c. omega arith) shared-slice-read-place task-requires (λ c. omega arith) mul-periods array-write-periods (λ c. omega arith)
-    mul-times array-write-times add-count (λ c. omega arith) (λ c. omega arith) loop-again returns)
+    Inv-loop μ-loop (λ c κs. c .before .before .pre .plan) (λ c κs. tt) add-mine mul-mine shared-slice-read-mine loop-holds
+    (λ c. omega arith) (λ c. omega arith)
+    (λ c. omega (arith, c .before .before .before .before .before .before .before .before .pre .terms .long))
+    (λ c κs. (c .before .before .before .before .before .before .before .before .before .pre .plan, omega arith))
+    (λ c. omega arith) (λ c. omega (arith, above-few (c .before .before .before .before .before .loop .inv .3)))
+    (λ c. omega (arith, above-few (c .before .before .before .before .before .loop .inv .3))) (λ c. omega arith)
+    (λ c. omega (arith, above-few (c .before .before .before .before .before .before .loop .inv .3)))
+    (λ c. omega (arith, above-few (c .before .before .before .before .before .before .loop .inv .3)))
+    (λ c. omega (arith, above-few (c .before .before .before .before .before .before .loop .inv .3))) (λ c. omega arith)
+    (λ c. omega arith) loop-again returns)

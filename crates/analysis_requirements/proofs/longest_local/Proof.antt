@@ -40,9 +40,6 @@ low-resource r =
     let i = r .before .before .before .before .before .loop .inv in
     row-resource _ (i .asked .plan) (i .all) (r .before .before .before .before .loop-test .taken) (r .before .before .before .section .ensures) (r .wide2 .ensures .same)
 
-slice-read-shared : tie.Need-shared-slice-read-is-local Inv-loop μ-loop
-slice-read-shared c = let r = c .before in omega (arith, low-resource r, r .before .before .before .before .before .loop .inv .asked .terms .long)
-
 slice-read-ceiling : tie.Need-shared-slice-read-reaches Inv-loop μ-loop
 slice-read-ceiling c = let r = c .before .before .before in omega (arith, low-resource r, r .before .before .before .before .before .loop .inv .asked .terms .long)
 
@@ -63,15 +60,15 @@ loop-again c =
       told = max-step _ _ (i .told) (rw (c .before .chosen .ensures, shared, reach, c .before .before .before .before .before .before .before .half .ensures .same, r .wide2 .ensures .same, r .before .task2 .ensures, r .before .before .before .before .before .before .task .ensures, r .before .before .wide .ensures .same, r .before .before .before .section .ensures)) (c .longer .ensures);
     }
 
-returns : tie.Need-returns Inv-loop μ-loop
-returns c = let l = c .before .loop in local-done _ _ (l .s) (l .inv .all) (omega arith) (l .inv .told)
-
 pub longest-local-spec : {M : Type 1} → statement M
 longest-local-spec =
     tie.close
     (tie.spec
-    Inv-loop μ-loop (λ c κs. c .before .before .pre .plan) (λ c. omega arith) (λ c κs. let h = c .before .before .before .before .pre in (h .plan, h .task)) loop-holds
+    Inv-loop μ-loop (λ c κs. c .before .before .pre .plan) (λ c. omega arith)
+    (λ c κs. let h = c .before .before .before .before .pre in (h .plan, h .task)) loop-holds
     (λ c κs. let i = c .before .loop .inv in (i .asked .plan, omega (arith, i .all))) (λ c κs. search needs) task-requires
-    (λ c κs. search needs) (λ c. omega arith) (λ c. omega arith) slice-read-shared (λ c κs. search needs) (λ c. omega arith)
-    (λ c. omega arith) slice-read-ceiling (λ c κs. search needs) (λ c κs. search needs) add-s (λ c. omega arith)
-    loop-again returns)
+    (λ c κs. search needs) (λ c. omega arith) (λ c. omega arith)
+    (λ c. let r = c .before in omega (arith, low-resource r, r .before .before .before .before .before .loop .inv .asked .terms .long))
+    (λ c κs. search needs) (λ c. omega arith) (λ c. omega arith) slice-read-ceiling (λ c κs. search needs) (λ c κs. search needs)
+    add-s (λ c. omega arith) loop-again
+    (λ c. let l = c .before .loop in local-done _ _ (l .s) (l .inv .all) (omega arith) (l .inv .told)))

@@ -26,9 +26,6 @@ loop-holds c =
     let e = c .wide .ensures .same ∙ c .before .counts .ensures .tasks in
     record { within = omega arith; all = e; few = omega (arith, e, valid-plan _ (h .0) .tasks); plan = h .0; terms = h .1 }
 
-slice-write-terms : tie.Need-slice-write-terms Inv-loop μ-loop
-slice-write-terms c = omega (arith, c .before .before .before .before .loop .inv .terms .long)
-
 loop-again : tie.Need-loop-again Inv-loop μ-loop
 loop-again c =
     let l = c .before .before .before .before .loop in
@@ -41,9 +38,6 @@ loop-again c =
       terms = terms-place _ (l .j) (l .terms) (i .terms) (omega arith) (rw (c .before .half .ensures .same, c .half2 .ensures .same, c .before .before .task .ensures));
     }
 
-same-length : tie.Need-same-length Inv-loop μ-loop
-same-length c = c .before .loop .inv .terms .long ∙ sym (c .before .before .before .before .before .before .pre .1 .long)
-
 returns : tie.Need-returns Inv-loop μ-loop
 returns c =
     let l = c .before .loop in
@@ -54,6 +48,9 @@ pub put-places-spec : {M : Type 1} → statement M
 put-places-spec =
     tie.close
     (tie.spec
-    Inv-loop μ-loop (λ c κs. c .before .before .pre .0) (λ c κs. search needs) loop-holds (λ c κs. (c .before .loop .inv .plan, omega arith))
-    (λ c κs. search needs) (λ c. omega arith) (λ c κs. search needs) (λ c. omega arith) (λ c. omega arith) (λ c. omega arith)
-    slice-write-terms (λ c. omega arith) (λ c. omega arith) loop-again same-length returns)
+    Inv-loop μ-loop (λ c κs. c .before .before .pre .0) (λ c κs. search needs) loop-holds
+    (λ c κs. (c .before .loop .inv .plan, omega arith)) (λ c κs. search needs) (λ c. omega arith) (λ c κs. search needs)
+    (λ c. omega arith) (λ c. omega arith) (λ c. omega arith)
+    (λ c. omega (arith, c .before .before .before .before .loop .inv .terms .long)) (λ c. omega arith) (λ c. omega arith)
+    loop-again (λ c. c .before .loop .inv .terms .long ∙ sym (c .before .before .before .before .before .before .pre .1 .long))
+    returns)

@@ -54,12 +54,6 @@ below r = omega (arith, r .before .before .before .before .loop .inv .all)
 slice-read-shared : tie.Need-slice-read-shared Inv-loop μ-loop
 slice-read-shared c = let r = c .before in omega (arith, low-resource r, r .before .before .before .before .loop .inv .terms .long)
 
-slice-read-longer : tie.Need-slice-read-longer Inv-loop μ-loop
-slice-read-longer c = let r = c .before .before in omega (arith, low-task r, r .before .before .before .before .loop .inv .terms .long)
-
-slice-read-count : tie.Need-slice-read-count Inv-loop μ-loop
-slice-read-count c = let r = c .before .before .before .before .before in omega (arith, low-task r, r .before .before .before .before .loop .inv .terms .long)
-
 add-count : tie.Need-add-count-2 Inv-loop μ-loop
 add-count c =
     let r = c .before .before .before .before .before in
@@ -93,20 +87,18 @@ loop-again c =
       terms = terms-section _ (valid-plan _ (i .plan)) (l .s) _ _ _ _ (i .terms) (below r) (task-is r) (resource-is r) (length-is r) (c .before .before .before .before .before .chosen .ensures) (c .before .before .before .before .longer .ensures) refl (c .longer2 .ensures);
     }
 
-same-length : tie.Need-same-length Inv-loop μ-loop
-same-length c = c .before .loop .inv .terms .long ∙ sym (c .before .before .before .before .before .before .pre .1 .long)
-
-returns : tie.Need-returns Inv-loop μ-loop
-returns c = let l = c .before .loop in terms-done _ (valid-plan _ (l .inv .plan)) (l .s) (omega (arith, l .inv .all)) (l .inv .terms)
-
 pub put-sections-spec : {M : Type 1} → statement M
 put-sections-spec =
     tie.close
     (tie.spec
     Inv-loop μ-loop (λ c κs. c .before .before .pre .0) (λ c. omega arith) loop-holds
     (λ c κs. let i = c .before .loop .inv in (i .plan, omega (arith, i .all))) (λ c κs. search needs) (λ c κs. search needs)
-    (λ c. omega arith) (λ c. omega arith) slice-read-shared (λ c. omega arith) slice-read-longer (λ c κs. search needs)
-    (λ c κs. search needs) (λ c. omega arith) (λ c. omega arith) slice-read-count add-count (λ c. omega arith) (λ c. omega arith)
-    slice-read-ceiling (λ c. omega arith) (λ c. omega arith) slice-read-place (λ c κs. search needs) (λ c. omega arith)
-    slice-write-longest (λ c. omega arith) (λ c. omega arith) slice-write-count (λ c. omega arith) (λ c. omega arith)
-    slice-write-ceiling (λ c. omega arith) (λ c. omega arith) loop-again same-length returns)
+    (λ c. omega arith) (λ c. omega arith) slice-read-shared (λ c. omega arith)
+    (λ c. let r = c .before .before in omega (arith, low-task r, r .before .before .before .before .loop .inv .terms .long))
+    (λ c κs. search needs) (λ c κs. search needs) (λ c. omega arith) (λ c. omega arith)
+    (λ c. let r = c .before .before .before .before .before in omega (arith, low-task r, r .before .before .before .before .loop .inv .terms .long))
+    add-count (λ c. omega arith) (λ c. omega arith) slice-read-ceiling (λ c. omega arith) (λ c. omega arith) slice-read-place
+    (λ c κs. search needs) (λ c. omega arith) slice-write-longest (λ c. omega arith) (λ c. omega arith) slice-write-count
+    (λ c. omega arith) (λ c. omega arith) slice-write-ceiling (λ c. omega arith) (λ c. omega arith) loop-again
+    (λ c. c .before .loop .inv .terms .long ∙ sym (c .before .before .before .before .before .before .pre .1 .long))
+    (λ c. let l = c .before .loop in terms-done _ (valid-plan _ (l .inv .plan)) (l .s) (omega (arith, l .inv .all)) (l .inv .terms)))

@@ -28,9 +28,6 @@ demand-of-requires-2 c κs =
     let h = c .before .before .before .before .before .before .pre in
     (h .above, omega (arith, h .high))
 
-greater-requires : tie.Need-greater-requires Inv-loop μ-loop
-greater-requires c κs = tt
-
 loop-again : tie.Need-loop-again Inv-loop μ-loop
 loop-again c =
     let l = c .before .before .before .before .loop in
@@ -40,12 +37,10 @@ loop-again c =
       back _ (c .greater .ok) ∙ left-step _ _ _ _ (l .t) (l .inv .0) (l .inv .2) (c .before .before .demand-of2 .ensures .0) x (c .greater .ensures),
     )
 
-returns : tie.Need-returns Inv-loop μ-loop
-returns c = left-done _ _ _ _ _ (c .before .loop .t) (omega arith) (c .before .loop .inv .2)
-
 pub scan-spec : {M : Type 1} → statement M
 scan-spec =
     tie.close
     (tie.spec
     Inv-loop μ-loop demand-of-requires (λ c. omega arith) (λ c κs. omega arith) loop-holds (λ c. omega arith) demand-of-requires-2
-    (λ c. omega arith) (λ c. omega arith) (λ c κs. omega arith) greater-requires (λ c. omega arith) loop-again returns)
+    (λ c. omega arith) (λ c. omega arith) (λ c κs. omega arith) (λ c κs. tt) (λ c. omega arith) loop-again
+    (λ c. left-done _ _ _ _ _ (c .before .loop .t) (omega arith) (c .before .loop .inv .2)))

@@ -11,9 +11,6 @@ returns c =
     let h = c .before .before .before .before .before .pre in
     (waiting-local _ _ _ (flag-off _ (sym (h .prepared .terms .shared _ (h .resource)) ∙ c .if1 .taken)), omega arith)
 
-returns-2 : tie.Need-returns-2
-returns-2 c = (waiting-unused _ _ _ (c .before .before .before .before .before .before .pre .count) (c .if2 .taken), omega arith)
-
 waiting-on-requires : tie.Need-waiting-on-requires
 waiting-on-requires c κs =
     let h = c .before .before .before .before .before .before .pre in
@@ -39,4 +36,6 @@ waiting-at-spec =
     tie.close
     (tie.spec
     (λ c. omega (arith, c .before .before .before .pre .resource)) (λ c. omega (arith, c .before .before .before .pre .resource))
-    (λ c. let h = c .before .before .before .before .pre in omega (arith, h .prepared .terms .long, h .resource)) returns returns-2 waiting-on-requires returns-3)
+    (λ c. let h = c .before .before .before .before .pre in omega (arith, h .prepared .terms .long, h .resource)) returns
+    (λ c. (waiting-unused _ _ _ (c .before .before .before .before .before .before .pre .count) (c .if2 .taken), omega arith))
+    waiting-on-requires returns-3)

@@ -4,9 +4,6 @@ use Rattle.input.proofs.Laws.{told-most, told-still, all-plan}
 use Rattle.input.proofs.read_whole.Statement.{statement}
 use Rattle.input.proofs.read_whole.Tie as tie
 
-returns : tie.Need-returns
-returns c = (all-plan _ _ (omega arith) (λ l. omega (arith, c .if1 .taken)), omega arith)
-
 returns-2 : tie.Need-returns-2
 returns-2 c =
     let n = c .before .plan-length in
@@ -22,6 +19,7 @@ pub read-whole-spec : {M : Type 1} → statement M
 read-whole-spec =
     tie.close
     (tie.spec
-    (λ c. search needs) (λ c. search needs) (λ c. search needs) (λ c κs. search needs) (λ c. search needs) returns
-    (λ c κs. search needs) (λ c. search needs) returns-2 (λ c. search needs) (λ c. search needs) (λ c. search needs)
-    (λ c κs. search needs) (λ c. search needs) (λ c. search needs) returns-3)
+    (λ c. search needs) (λ c. search needs) (λ c. search needs) (λ c κs. search needs) (λ c. search needs)
+    (λ c. (all-plan _ _ (omega arith) (λ l. omega (arith, c .if1 .taken)), omega arith)) (λ c κs. search needs)
+    (λ c. search needs) returns-2 (λ c. search needs) (λ c. search needs) (λ c. search needs) (λ c κs. search needs)
+    (λ c. search needs) (λ c. search needs) returns-3)

@@ -4,12 +4,10 @@ use Rattle.machine.specs.Inner.{cutsIn}
 use Rattle.machine.proofs.cuts_in.Statement.{statement}
 use Rattle.machine.proofs.cuts_in.Tie as tie
 
-returns : tie.Need-returns
-returns c = sym (ap cutsIn (c .before .answer .given .1))
-
 pub cuts-in-spec : {M : Type 1} → statement M
 cuts-in-spec =
     tie.close
     (tie.spec
     (λ c. search needs) (λ c. search needs) (λ c. search needs) (λ c. search needs) (λ c. search needs) (λ c. search needs)
-    returns (λ c. search needs) (λ c. search needs) (λ c. search needs) (λ c. search needs) (λ c. search needs))
+    (λ c. sym (ap cutsIn (c .before .answer .given .1))) (λ c. search needs) (λ c. search needs) (λ c. search needs)
+    (λ c. search needs) (λ c. search needs))

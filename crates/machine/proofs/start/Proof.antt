@@ -5,12 +5,6 @@ use Rattle.machine_state.proofs.FreshLaws.{fresh-sound, fresh-shows}
 use Rattle.machine.proofs.start.Statement.{statement}
 use Rattle.machine.proofs.start.Tie as tie
 
-check-requires : tie.Need-check-requires
-check-requires c κs = search needs
-
-fresh-requires : tie.Need-fresh-requires
-fresh-requires c κs = search needs
-
 returns : tie.Need-returns
 returns c =
     let file = c .before .before .shared-slice-known .given in
@@ -20,4 +14,4 @@ returns c =
     )
 
 pub start-spec : {M : Type 1} → statement M
-start-spec = tie.close (tie.spec check-requires fresh-requires returns)
+start-spec = tie.close (tie.spec (λ c κs. search needs) (λ c κs. search needs) returns)

@@ -36,9 +36,6 @@ loop-again c =
     let l = c .before .before .loop in
     (omega arith, stamped-step (l .u) _ _ _ (l .inv .1) refl refl)
 
-same-length : tie.Need-same-length Inv-loop μ-loop
-same-length c = rw (c .before .loop .inv .1, c .before .before .before .before .before .before .before .pre .empty, stamped-length)
-
 returns : tie.Need-returns Inv-loop μ-loop
 returns c =
     let a = c .before .before .before .before .before .before .before in
@@ -49,4 +46,6 @@ fill-seats-spec =
     tie.close
     (tie.spec
     Inv-loop μ-loop (λ c κs. search needs) (λ c κs. search needs) loop-holds (λ c. omega arith) shared-slice-read-at cast-at
-    (λ c. omega arith) (λ c. omega arith) slice-write-seats (λ c. omega arith) (λ c. omega arith) loop-again same-length returns)
+    (λ c. omega arith) (λ c. omega arith) slice-write-seats (λ c. omega arith) (λ c. omega arith) loop-again
+    (λ c. rw (c .before .loop .inv .1, c .before .before .before .before .before .before .before .pre .empty, stamped-length))
+    returns)

@@ -16,15 +16,10 @@ loop-holds : tie.Need-loop-holds Inv-loop μ-loop
 unfolding placedBelow
 loop-holds c = (omega arith, refl)
 
-loop-again : tie.Need-loop-again Inv-loop μ-loop
-loop-again c = (omega arith, placed-step _ _ _ (c .before .before .loop .inv .1) (rw add-zero))
-
-returns : tie.Need-returns Inv-loop μ-loop
-returns c = placed-done 8 (c .before .loop .k) _ _ (omega arith) (c .before .loop .inv .1)
-
 pub first-seats-spec : {M : Type 1} → statement M
 first-seats-spec =
     tie.close
     (tie.spec
     Inv-loop μ-loop loop-holds (λ c. omega arith) (λ c. omega arith) (λ c. omega arith) (λ c. omega arith) (λ c. omega arith)
-    (λ c. omega arith) (λ c. omega arith) loop-again returns)
+    (λ c. omega arith) (λ c. omega arith) (λ c. (omega arith, placed-step _ _ _ (c .before .before .loop .inv .1) (rw add-zero)))
+    (λ c. placed-done 8 (c .before .loop .k) _ _ (omega arith) (c .before .loop .inv .1)))

@@ -5,12 +5,6 @@ use Rattle.machine_state.proofs.Numbers.{whole-tail}
 use Rattle.machine_state.proofs.free_ok.Statement.{statement}
 use Rattle.machine_state.proofs.free_ok.Tie as tie
 
-eight-requires : tie.Need-eight-requires
-eight-requires c κs = search needs
-
-none-waits-requires : tie.Need-none-waits-requires
-none-waits-requires c κs = search needs
-
 returns : tie.Need-returns
 unfolding freeTest
 returns c =
@@ -19,4 +13,4 @@ returns c =
     rw (number .0, c .before .before .none-waits .ensures, whole-tail (a .line .queue) (number .1) 0 (omega arith) refl)
 
 pub free-ok-spec : {M : Type 1} → statement M
-free-ok-spec = tie.close (tie.spec eight-requires none-waits-requires returns)
+free-ok-spec = tie.close (tie.spec (λ c κs. search needs) (λ c κs. search needs) returns)

@@ -3,8 +3,5 @@ use Rattle.folds.proofs.Ground.{needs}
 use Rattle.machine_state.proofs.fresh.Statement.{statement}
 use Rattle.machine_state.proofs.fresh.Tie as tie
 
-returns : tie.Need-returns
-returns c = rw (c .idle .ensures)
-
 pub fresh-spec : {M : Type 1} → statement M
-fresh-spec = tie.close (tie.spec (λ c κs. search needs) returns)
+fresh-spec = tie.close (tie.spec (λ c κs. search needs) (λ c. rw (c .idle .ensures)))

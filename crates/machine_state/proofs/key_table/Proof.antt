@@ -20,9 +20,6 @@ loop-holds : tie.Need-loop-holds Inv-loop μ-loop
 unfolding placedBelow
 loop-holds c = (omega arith, refl)
 
-array-copy-out-s : tie.Need-array-copy-out-s Inv-loop μ-loop
-array-copy-out-s c = omega (arith, valid-plan _ (c .before .before .before .before .before .before .pre) .tasks)
-
 seat-of-requires : tie.Need-seat-of-requires Inv-loop μ-loop
 seat-of-requires c κs =
     let low = c .before .before .before .before in
@@ -60,5 +57,5 @@ key-table-spec =
     tie.close
     (tie.spec
     Inv-loop μ-loop (λ c κs. search needs) (λ c κs. search needs) loop-holds (λ c κs. search needs) (λ c. omega arith)
-    array-copy-out-s seat-of-requires (λ c. omega arith) array-write-keys (λ c. omega arith) (λ c. omega arith) loop-again
-    returns)
+    (λ c. omega (arith, valid-plan _ (c .before .before .before .before .before .before .pre) .tasks)) seat-of-requires
+    (λ c. omega arith) array-write-keys (λ c. omega arith) (λ c. omega arith) loop-again returns)

@@ -22,20 +22,16 @@ line-ok-requires c κs =
     let turn = c .before .before .before in
     (turn .before .before .pre, omega arith)
 
-returns : tie.Need-returns Inv-loop μ-loop
-returns c = all-left 16 (c .before .before .before .before .loop .q) _ (omega arith) (failed (c .before .line-ok .ensures) (c .if1 .taken))
-
 loop-again : tie.Need-loop-again Inv-loop μ-loop
 loop-again c =
     let l = c .before .before .before .before .loop in
     (omega arith, all-more (l .q) _ (l .inv .1) (held (c .before .line-ok .ensures) (c .if1 .left)))
 
-returns-2 : tie.Need-returns-2 Inv-loop μ-loop
-returns-2 c = all-done 16 (c .before .loop .q) _ (omega arith) (sym (c .before .loop .inv .1))
-
 pub lines-ok-spec : {M : Type 1} → statement M
 lines-ok-spec =
     tie.close
     (tie.spec
-    Inv-loop μ-loop loop-holds (λ c. omega arith) (λ c. omega arith) line-ok-requires returns (λ c. omega arith)
-    (λ c. omega arith) loop-again returns-2)
+    Inv-loop μ-loop loop-holds (λ c. omega arith) (λ c. omega arith) line-ok-requires
+    (λ c. all-left 16 (c .before .before .before .before .loop .q) _ (omega arith) (failed (c .before .line-ok .ensures) (c .if1 .taken)))
+    (λ c. omega arith) (λ c. omega arith) loop-again
+    (λ c. all-done 16 (c .before .loop .q) _ (omega arith) (sym (c .before .loop .inv .1))))

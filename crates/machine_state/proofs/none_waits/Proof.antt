@@ -16,15 +16,10 @@ loop-holds : tie.Need-loop-holds Inv-loop μ-loop
 unfolding allBelow
 loop-holds c = (omega arith, refl)
 
-loop-again : tie.Need-loop-again Inv-loop μ-loop
-loop-again c = (omega arith, all-step _ _ (c .before .before .loop .inv .1) (rw add-zero))
-
-returns : tie.Need-returns Inv-loop μ-loop
-returns c = all-done _ (c .before .loop .k) _ (omega arith) (c .before .loop .inv .1)
-
 pub none-waits-spec : {M : Type 1} → statement M
 none-waits-spec =
     tie.close
     (tie.spec
     Inv-loop μ-loop loop-holds (λ c. omega arith) (λ c. omega arith) (λ c. omega arith) (λ c. omega arith) (λ c. omega arith)
-    (λ c. omega arith) loop-again returns)
+    (λ c. omega arith) (λ c. (omega arith, all-step _ _ (c .before .before .loop .inv .1) (rw add-zero)))
+    (λ c. all-done _ (c .before .loop .k) _ (omega arith) (c .before .loop .inv .1)))

@@ -4,15 +4,9 @@ use Rattle.machine_state.specs.Inner.{stateTest}
 use Rattle.machine_state.proofs.passes.Statement.{statement}
 use Rattle.machine_state.proofs.passes.Tie as tie
 
-tasks-ok-requires : tie.Need-tasks-ok-requires
-tasks-ok-requires c κs = search needs
-
-lines-ok-requires : tie.Need-lines-ok-requires
-lines-ok-requires c κs = search needs
-
 returns : tie.Need-returns
 unfolding stateTest
 returns c = rw (c .before .tasks-ok .ensures, c .lines-ok .ensures)
 
 pub passes-spec : {M : Type 1} → statement M
-passes-spec = tie.close (tie.spec tasks-ok-requires lines-ok-requires returns)
+passes-spec = tie.close (tie.spec (λ c κs. search needs) (λ c κs. search needs) returns)

@@ -4,24 +4,6 @@ use Rattle.machine_state.proofs.Numbers.{part-tail}
 use Rattle.machine_state.proofs.tail_ok.Statement.{statement}
 use Rattle.machine_state.proofs.tail_ok.Tie as tie
 
-eight-requires : tie.Need-eight-requires
-eight-requires c κs = search needs
-
-sub-taken : tie.Need-sub-taken
-sub-taken c = search needs
-
-byte-requires : tie.Need-byte-requires
-byte-requires c κs = search needs
-
-mul-result : tie.Need-mul-result
-mul-result c = search needs
-
-sub-result : tie.Need-sub-result
-sub-result c = search needs
-
-shr-result : tie.Need-shr-result
-shr-result c = search needs
-
 returns : tie.Need-returns
 returns c =
     let start = c .before .before in
@@ -31,4 +13,6 @@ returns c =
 pub tail-ok-spec : {M : Type 1} → statement M
 tail-ok-spec =
     tie.close
-    (tie.spec eight-requires sub-taken byte-requires mul-result sub-result shr-result returns)
+    (tie.spec
+    (λ c κs. search needs) (λ c. search needs) (λ c κs. search needs) (λ c. search needs) (λ c. search needs) (λ c. search needs)
+    returns)

@@ -39,9 +39,6 @@ returns : tie.Need-returns
 unfolding taskTest
 returns c = rw (eq-eqb _ _ (c .before .if1 .taken)) (c .is-idle .ensures)
 
-sub-result : tie.Need-sub-result
-sub-result c = back-low _ _ refl
-
 returns-2 : tie.Need-returns-2
 unfolding taskTest
 returns-2 c =
@@ -54,5 +51,5 @@ pub task-ok-spec : {M : Type 1} → statement M
 task-ok-spec =
     tie.close
     (tie.spec
-    (λ c κs. search needs) returns (λ c. search needs) (λ c. search needs) (λ c. search needs) (λ c. search needs) (λ c. search needs)
-    (λ c κs. search needs) (λ c. search needs) sub-result (λ c. search needs) returns-2)
+    (λ c κs. search needs) returns (λ c. search needs) (λ c. search needs) (λ c. search needs) (λ c. search needs)
+    (λ c. search needs) (λ c κs. search needs) (λ c. search needs) (λ c. back-low _ _ refl) (λ c. search needs) returns-2)

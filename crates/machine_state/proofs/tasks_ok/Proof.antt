@@ -29,12 +29,10 @@ loop-again c =
     let l = c .before .before .before .before .loop in
     (omega arith, omega arith, all-step (l .u) _ (l .inv .2) (c .task-ok .ensures))
 
-returns : tie.Need-returns Inv-loop μ-loop
-returns c = all-done 64 (c .before .loop .u) _ (omega arith) (c .before .loop .inv .2)
-
 pub tasks-ok-spec : {M : Type 1} → statement M
 tasks-ok-spec =
     tie.close
     (tie.spec
     Inv-loop μ-loop loop-holds (λ c. omega arith) (λ c. omega arith) (λ c. omega arith) (λ c. omega arith) task-ok-requires
-    (λ c. omega arith) (λ c. omega arith) (λ c. omega arith) (λ c. omega arith) loop-again returns)
+    (λ c. omega arith) (λ c. omega arith) (λ c. omega arith) (λ c. omega arith) loop-again
+    (λ c. all-done 64 (c .before .loop .u) _ (omega arith) (c .before .loop .inv .2)))

@@ -12,9 +12,6 @@ Inv-loop figures seats q k base sum₀ j₀ sum j = Counted figures seats q k j 
 abbrev μ-loop : tie.MeasureT-loop
 μ-loop figures seats q k base sum₀ j₀ sum j = 64 - j
 
-loop-holds : tie.Need-loop-holds Inv-loop μ-loop
-loop-holds c = counted-none _ _ _ _
-
 -- who sits on the seat that the loop reads
 sits : (c : tie.After-wide2 Inv-loop μ-loop)
     → let a = c .before .before .before .before .before .before .before .args in
@@ -57,6 +54,6 @@ pub ahead-of-spec : {M : Type 1} → statement M
 ahead-of-spec =
     tie.close
     (tie.spec
-    Inv-loop μ-loop (λ c. search needs) (λ c κs. search needs) (λ c. search needs) (λ c. search needs) loop-holds
-    (λ c. search needs) (λ c. search needs) (λ c κs. search needs) (λ c. search needs) returns (λ c. omega arith)
-    hold-at-requires (λ c. search needs) add-sum (λ c. search needs) (λ c. search needs) loop-again returns-2)
+    Inv-loop μ-loop (λ c. search needs) (λ c κs. search needs) (λ c. search needs) (λ c. search needs) (λ c. counted-none _ _ _ _)
+    (λ c. search needs) (λ c. search needs) (λ c κs. search needs) (λ c. search needs) returns (λ c. omega arith) hold-at-requires
+    (λ c. search needs) add-sum (λ c. search needs) (λ c. search needs) loop-again returns-2)

@@ -19,12 +19,10 @@ hold-at-requires c κs =
     let low = q .tables .seats-low _ (seat-within (q .resource) (q .core) (p .place)) in
     record { long = q .tables .figures-long; row = omega (arith, sits c, low); resource = q .resource }
 
-returns : tie.Need-returns
-returns c = rw (c .hold-at .ensures, sits (c .before))
-
 pub hold-of-spec : {M : Type 1} → statement M
 hold-of-spec =
     tie.close
     (tie.spec
     (λ c. search needs) (λ c κs. search needs) (λ c. search needs) (λ c. search needs) (λ c. search needs) (λ c. search needs)
-    (λ c κs. search needs) (λ c. omega (arith, sits c, c .before .before .before .before .before .pre .taken)) hold-at-requires returns)
+    (λ c κs. search needs) (λ c. omega (arith, sits c, c .before .before .before .before .before .pre .taken)) hold-at-requires
+    (λ c. rw (c .hold-at .ensures, sits (c .before))))

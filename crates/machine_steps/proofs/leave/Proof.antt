@@ -8,13 +8,10 @@ array-write-marks c =
     let p = c .before .before .before .before .before .before .pre in
     omega (arith, p .resource, p .ready .placed 0 (p .ready .some), c .wide .ensures)
 
-returns : tie.Need-returns
-returns c = rw (c .pass .ensures, c .before .lower .ensures, c .before .before .before .before .wide .ensures .same)
-
 pub leave-spec : {M : Type 1} → statement M
 leave-spec =
     tie.close
     (tie.spec
     (λ c. search needs) (λ c. search needs) (λ c. search needs) (λ c. search needs) (λ c κs. search needs) (λ c. search needs)
     array-write-marks (λ c. search needs) (λ c κs. search needs) (λ c κs. search needs) (λ c. search needs) (λ c. search needs)
-    returns)
+    (λ c. rw (c .pass .ensures, c .before .lower .ensures, c .before .before .before .before .wide .ensures .same)))

@@ -18,9 +18,6 @@ loop-holds : tie.Need-loop-holds Inv-loop μ-loop
 unfolding eachBelow
 loop-holds c = (omega arith, refl)
 
-shared-slice-read-queue : tie.Need-shared-slice-read-queue Inv-loop μ-loop
-shared-slice-read-queue c = omega (arith, c .before .before .before .before .before .before .pre .keys-long)
-
 cast-queue : tie.Need-cast-queue Inv-loop μ-loop
 cast-queue c =
     let u = c .before .before .before .loop .u in
@@ -32,12 +29,6 @@ shared-slice-read-on c =
     let a = c .before .before .before .before .before .before .before in
     omega (arith, a .pre .ended-long, a .pre .keys-low u (omega arith))
 
-fall-requires : tie.Need-fall-requires Inv-loop μ-loop
-fall-requires c κs = tt
-
-loop-again : tie.Need-loop-again Inv-loop μ-loop
-loop-again c = (omega arith, each-step noStanding _ _ _ (c .before .before .before .before .before .loop .inv .1) (c .fall .ensures))
-
 returns : tie.Need-returns Inv-loop μ-loop
 unfolding lowered
 returns c = each-done noStanding _ 64 (c .before .loop .u) _ (omega arith) (c .before .loop .inv .1)
@@ -46,6 +37,8 @@ pub lower-spec : {M : Type 1} → statement M
 lower-spec =
     tie.close
     (tie.spec
-    Inv-loop μ-loop loop-holds (λ c. omega arith) (λ c. omega arith) (λ c. omega arith) shared-slice-read-queue cast-queue
-    shared-slice-read-on fall-requires (λ c. omega arith) (λ c. omega arith) (λ c. omega arith) (λ c. omega arith) loop-again
+    Inv-loop μ-loop loop-holds (λ c. omega arith) (λ c. omega arith) (λ c. omega arith)
+    (λ c. omega (arith, c .before .before .before .before .before .before .pre .keys-long)) cast-queue shared-slice-read-on
+    (λ c κs. tt) (λ c. omega arith) (λ c. omega arith) (λ c. omega arith) (λ c. omega arith)
+    (λ c. (omega arith, each-step noStanding _ _ _ (c .before .before .before .before .before .loop .inv .1) (c .fall .ensures)))
     returns)

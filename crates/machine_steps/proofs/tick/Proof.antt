@@ -5,9 +5,6 @@ use Rattle.machine_steps.proofs.Marks.{rows-kept}
 use Rattle.machine_steps.proofs.tick.Statement.{statement}
 use Rattle.machine_steps.proofs.tick.Tie as tie
 
-step-lines-requires : tie.Need-step-lines-requires
-step-lines-requires c κs = let p = c .before .before .before .before .pre in (p .0 .tables, p .1)
-
 lower-requires : tie.Need-lower-requires
 lower-requires c κs =
     let stepped = c .before .before .before .before .before .before in
@@ -31,4 +28,6 @@ returns-2 c =
     }
 
 pub tick-spec : {M : Type 1} → statement M
-tick-spec = tie.close (tie.spec step-lines-requires (λ c. search needs) lower-requires returns returns-2)
+tick-spec = tie.close (tie.spec
+    (λ c κs. let p = c .before .before .before .before .pre in (p .0 .tables, p .1)) (λ c. search needs) lower-requires returns
+    returns-2)

@@ -9,18 +9,11 @@ Inv-loop buf₀ used end i₀ buf i = (used ≤ i) × (i ≤ end) × (length buf
 abbrev μ-loop : tie.MeasureT-loop
 μ-loop buf₀ used end i₀ buf i = end - i
 
-loop-holds : tie.Need-loop-holds Inv-loop μ-loop
-loop-holds c = (omega arith, omega (arith, c .pre .0), refl)
-
-loop-again : tie.Need-loop-again Inv-loop μ-loop
-loop-again c = let l = c .before .before .loop in (omega arith, omega arith, simp length-set (l .inv .2))
-
-same-length : tie.Need-same-length Inv-loop μ-loop
-same-length c = c .before .loop .inv .2
-
 pub keep-spec : {M : Type 1} → statement M
 keep-spec =
     tie.close
     (tie.spec
-    Inv-loop μ-loop loop-holds (λ c. omega arith) (λ c. omega arith) (λ c. omega arith) (λ c. omega arith) (λ c. omega arith)
-    loop-again (λ c. omega arith) same-length (λ c. omega arith))
+    Inv-loop μ-loop (λ c. (omega arith, omega (arith, c .pre .0), refl)) (λ c. omega arith) (λ c. omega arith) (λ c. omega arith)
+    (λ c. omega arith) (λ c. omega arith)
+    (λ c. let l = c .before .before .loop in (omega arith, omega arith, simp length-set (l .inv .2))) (λ c. omega arith)
+    (λ c. c .before .loop .inv .2) (λ c. omega arith))

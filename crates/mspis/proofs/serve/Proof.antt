@@ -31,9 +31,6 @@ made c =
     let more = leb-true 3 (n - i .used) (and-parts (i .written) (leb 3 (n - i .used)) (c .before .before .before .before .before .before .before .before .before .before .before .loop-test .taken) .1) in
     (λ z. h .some z (omega (arith, part)), omega (arith, h .written .within, part, i .inv .0))
 
-part-write-all-end : tie.Need-part-write-all-end Inv-loop μ-loop
-part-write-all-end c = let w = c .before .before .before .lines .ensures .written in omega (arith, w .fits, w .long)
-
 loop-less : tie.Need-loop-less Inv-loop μ-loop
 loop-less c =
     let m = made c in
@@ -49,7 +46,9 @@ loop-again c =
 pub serve-spec : {M : Type 1} → statement M
 serve-spec =
     tie.close
-    (tie.spec Inv-loop μ-loop
-    (λ c. (omega arith, refl)) (λ c. c .loop .inv .0) (λ c. c .before .loop .inv .0) (λ c. c .before .loop .inv .0)
-    (λ c. search needs) (λ c κs. search needs) (λ c. search needs) (λ c. search needs) part-write-all-end (λ c κs. search needs)
-    (λ c. let m = made c in omega (arith, m .1)) loop-less loop-again (λ c. c .before .loop .inv .1) (λ c. c .before .loop .inv .0))
+    (tie.spec
+    Inv-loop μ-loop (λ c. (omega arith, refl)) (λ c. c .loop .inv .0) (λ c. c .before .loop .inv .0)
+    (λ c. c .before .loop .inv .0) (λ c. search needs) (λ c κs. search needs) (λ c. search needs) (λ c. search needs)
+    (λ c. let w = c .before .before .before .lines .ensures .written in omega (arith, w .fits, w .long)) (λ c κs. search needs)
+    (λ c. let m = made c in omega (arith, m .1)) loop-less loop-again (λ c. c .before .loop .inv .1)
+    (λ c. c .before .loop .inv .0))

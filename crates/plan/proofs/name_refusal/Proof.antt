@@ -12,9 +12,6 @@ returns : tie.Need-returns
 unfolding nameRefusal
 returns c = rw (← c .before .check .ensures, ne-eqb _ _ (c .if1 .taken))
 
-counts-at-requires : tie.Need-counts-at-requires
-counts-at-requires c κs = whole-facts _ (none-failed _ (sym (c .before .check .ensures) ∙ c .if1 .left)) .header .long
-
 returns-2 : tie.Need-returns-2
 unfolding nameRefusal
 returns-2 c =
@@ -33,4 +30,6 @@ returns-3 c =
 
 pub name-refusal-spec : {M : Type 1} → statement M
 name-refusal-spec =
-    tie.close (tie.spec (λ c κs. search needs) returns counts-at-requires returns-2 returns-3)
+    tie.close (tie.spec
+    (λ c κs. search needs) returns
+    (λ c κs. whole-facts _ (none-failed _ (sym (c .before .check .ensures) ∙ c .if1 .left)) .header .long) returns-2 returns-3)

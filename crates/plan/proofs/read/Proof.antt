@@ -13,12 +13,6 @@ returns c =
     let e = c .refused .ensures ∙ sym (read-refused _ (c .before .before .check .ensures) (c .before .if1 .taken)) in
     (e, ap (λ (r : Reading). readOutcome (r .answer)) e ∙ given-told _)
 
-counts-at-requires : tie.Need-counts-at-requires
-counts-at-requires c κs = whole-facts _ (none-failed _ (sym (c .before .check .ensures) ∙ c .if1 .left)) .header .long
-
-load-requires : tie.Need-load-requires
-load-requires c κs = (header-clear _ (none-failed _ (sym (c .before .before .check .ensures) ∙ c .before .if1 .left)), c .counts-at .ensures)
-
 returns-2 : tie.Need-returns-2
 returns-2 c =
     let a = c .before .before .before in
@@ -29,4 +23,8 @@ returns-2 c =
 pub read-spec : {M : Type 1} → statement M
 read-spec =
     tie.close
-    (tie.spec (λ c κs. search needs) (λ c κs. search needs) returns counts-at-requires load-requires returns-2)
+    (tie.spec
+    (λ c κs. search needs) (λ c κs. search needs) returns
+    (λ c κs. whole-facts _ (none-failed _ (sym (c .before .check .ensures) ∙ c .if1 .left)) .header .long)
+    (λ c κs. (header-clear _ (none-failed _ (sym (c .before .before .check .ensures) ∙ c .before .if1 .left)), c .counts-at .ensures))
+    returns-2)

@@ -3,8 +3,6 @@ use Rattle.folds.proofs.Ground.{needs}
 use Rattle.plan.proofs.refused.Statement.{statement}
 use Rattle.plan.proofs.refused.Tie as tie
 
-returns : tie.Need-returns
-returns c = rw (c .no-section .ensures, c .before .no-task .ensures)
-
 pub refused-spec : {M : Type 1} → statement M
-refused-spec = tie.close (tie.spec (λ c κs. search needs) (λ c κs. search needs) returns)
+refused-spec = tie.close (tie.spec
+    (λ c κs. search needs) (λ c κs. search needs) (λ c. rw (c .no-section .ensures, c .before .no-task .ensures)))

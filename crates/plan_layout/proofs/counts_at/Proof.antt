@@ -4,11 +4,9 @@ use Rattle.plan_layout.proofs.Laws.{counts-fields}
 use Rattle.plan_layout.proofs.counts_at.Statement.{statement}
 use Rattle.plan_layout.proofs.counts_at.Tie as tie
 
-returns : tie.Need-returns
-returns c = rw (c .half-at .ensures) (sym (counts-fields _))
-
 pub counts-at-spec : {M : Type 1} → statement M
 counts-at-spec =
     tie.close
     (tie.spec
-    (λ c. search needs) (λ c. search needs) (λ c. search needs) (λ c. search needs) (λ c κs. search needs) returns)
+    (λ c. search needs) (λ c. search needs) (λ c. search needs) (λ c. search needs) (λ c κs. search needs)
+    (λ c. rw (c .half-at .ensures) (sym (counts-fields _))))

@@ -24,12 +24,9 @@ task-code-requires c κs =
     let n = c .wide .ensures .same in
     record { tasks = omega (arith, f .tasks, n); processors = f .processors; inside = omega (arith, a .pre .tasks, n) }
 
-returns : tie.Need-returns
-returns c = sym (tasks-fail _ _ _ _ _ (code-read (c .before)) (c .if1 .taken))
-
-returns-2 : tie.Need-returns-2
-returns-2 c = c .rest-code .ensures ∙ sym (tasks-hold _ _ _ _ _ (code-read (c .before .before)) (c .before .if1 .left))
-
 pub parts-code-spec : {M : Type 1} → statement M
 parts-code-spec =
-    tie.close (tie.spec (λ c κs. search needs) task-code-requires returns (λ c κs. search needs) returns-2)
+    tie.close (tie.spec
+    (λ c κs. search needs) task-code-requires (λ c. sym (tasks-fail _ _ _ _ _ (code-read (c .before)) (c .if1 .taken)))
+    (λ c κs. search needs)
+    (λ c. c .rest-code .ensures ∙ sym (tasks-hold _ _ _ _ _ (code-read (c .before .before)) (c .before .if1 .left))))

@@ -36,9 +36,6 @@ load-lengths-requires c κs =
     let a = begun c in
     omega (arith, ranges a .resources, c .wide .ensures .same, a .pre .resources)
 
-returns : tie.Need-returns
-returns c = sym (starts-fail _ _ _ _ _ (failed (ok-read (c .before .before)) (c .if1 .taken)))
-
 names-ok-requires : tie.Need-names-ok-requires
 names-ok-requires c κs =
     let w = c .before .before .before .before in
@@ -65,5 +62,6 @@ pub rest-code-spec : {M : Type 1} → statement M
 rest-code-spec =
     tie.close
     (tie.spec
-    (λ c κs. search needs) load-lengths-requires returns names-ok-requires returns-2 (λ c. search needs) section-code-requires
-    returns-3)
+    (λ c κs. search needs) load-lengths-requires
+    (λ c. sym (starts-fail _ _ _ _ _ (failed (ok-read (c .before .before)) (c .if1 .taken)))) names-ok-requires returns-2
+    (λ c. search needs) section-code-requires returns-3)

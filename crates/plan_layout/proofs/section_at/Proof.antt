@@ -4,12 +4,9 @@ use Rattle.plan_layout.proofs.Laws.{section-fields}
 use Rattle.plan_layout.proofs.section_at.Statement.{statement}
 use Rattle.plan_layout.proofs.section_at.Tie as tie
 
-returns : tie.Need-returns
-returns c = rw (c .half-at .ensures) (sym (section-fields _ _))
-
 pub section-at-spec : {M : Type 1} → statement M
 section-at-spec =
     tie.close
     (tie.spec
     (λ c. search needs) (λ c. search needs) (λ c. search needs) (λ c. search needs) (λ c. search needs) (λ c κs. search needs)
-    returns)
+    (λ c. rw (c .half-at .ensures) (sym (section-fields _ _))))

@@ -11,9 +11,6 @@ Inv-loop tasks part s n r sums₀ i₀ sums i = (i ≤ s) × (sums ≡ sumsBelow
 abbrev μ-loop : tie.MeasureT-loop
 μ-loop tasks part s n r sums₀ i₀ sums i = s - i
 
-returns : tie.Need-returns Inv-loop μ-loop
-returns c = code-rows _ _ _ _ _ (c .before .section-rows-ok .ensures) (c .if1 .taken)
-
 loop-holds : tie.Need-loop-holds Inv-loop μ-loop
 unfolding gatheredBelow
 loop-holds c = (omega arith, refl)
@@ -45,6 +42,7 @@ pub section-code-spec : {M : Type 1} → statement M
 section-code-spec =
     tie.close
     (tie.spec
-    Inv-loop μ-loop (λ c κs. omega arith) returns loop-holds (λ c κs. omega arith) (λ c κs. omega arith) (λ c. omega arith)
-    (λ c. omega arith) array-read-sums add-sums (λ c. omega arith) (λ c. omega arith)
-    (λ c. omega arith) loop-again (λ c κs. omega arith) (λ c κs. omega arith) returns-2 returns-3)
+    Inv-loop μ-loop (λ c κs. omega arith) (λ c. code-rows _ _ _ _ _ (c .before .section-rows-ok .ensures) (c .if1 .taken))
+    loop-holds (λ c κs. omega arith) (λ c κs. omega arith) (λ c. omega arith) (λ c. omega arith) array-read-sums add-sums
+    (λ c. omega arith) (λ c. omega arith) (λ c. omega arith) loop-again (λ c κs. omega arith) (λ c κs. omega arith) returns-2
+    returns-3)

@@ -4,9 +4,6 @@ use Rattle.plan_layout.proofs.Laws.{task-fields}
 use Rattle.plan_layout.proofs.task_at.Statement.{statement}
 use Rattle.plan_layout.proofs.task_at.Tie as tie
 
-cast-t9 : tie.Need-cast-t9
-cast-t9 c = omega (arith, c .shared-slice-known3 .given (c .before .before .before .args .i * 8 + 1))
-
 returns : tie.Need-returns
 returns c =
     let read = c .before .before .before in (
@@ -18,5 +15,6 @@ pub task-at-spec : {M : Type 1} → statement M
 task-at-spec =
     tie.close
     (tie.spec
-    (λ c. search needs) (λ c. search needs) (λ c. search needs) (λ c. search needs) cast-t9 (λ c. search needs)
+    (λ c. search needs) (λ c. search needs) (λ c. search needs) (λ c. search needs)
+    (λ c. omega (arith, c .shared-slice-known3 .given (c .before .before .before .args .i * 8 + 1))) (λ c. search needs)
     (λ c. search needs) (λ c. search needs) (λ c κs. search needs) (λ c. search needs) (λ c κs. search needs) returns)

@@ -18,11 +18,10 @@ file-code-requires c κs =
     let h = header-facts _ (a .pre .0) in
     rw (a .pre .1) (h .counts, h .ends)
 
-returns : tie.Need-returns
-returns c = rw (part-rest, c .before .before .names-at .ensures, c .before .before .before .before .pre .1) at (c .file-code .ensures)
-
 pub rows-code-spec : {M : Type 1} → statement M
 rows-code-spec =
     tie.close
     (tie.spec
-    (λ c κs. search needs) (λ c. omega (arith, names-inside c)) (λ c. omega (arith, names-inside c)) (λ c. search needs) file-code-requires returns)
+    (λ c κs. search needs) (λ c. omega (arith, names-inside c)) (λ c. omega (arith, names-inside c)) (λ c. search needs)
+    file-code-requires
+    (λ c. rw (part-rest, c .before .before .names-at .ensures, c .before .before .before .before .pre .1) at (c .file-code .ensures)))

@@ -17,9 +17,6 @@ Inv-loop buf₀ bytes k₀ buf k = Copied bytes buf₀ buf k
 abbrev μ-loop : tie.MeasureT-loop
 μ-loop buf₀ bytes k₀ buf k = length bytes - k
 
-loop-holds : tie.Need-loop-holds Inv-loop μ-loop
-loop-holds c = record { below = omega arith; front = refl; kept = refl }
-
 loop-again : tie.Need-loop-again Inv-loop μ-loop
 loop-again c =
     let a = c .before .before .before in
@@ -29,9 +26,6 @@ loop-again c =
       front = rw (l .inv .front) (one-more (a .args .buf .now) (a .args .bytes .now) (l .k) (omega arith) (omega arith));
       kept = simp length-set (l .inv .kept);
     }
-
-same-length : tie.Need-same-length Inv-loop μ-loop
-same-length c = c .before .loop .inv .kept
 
 returns : tie.Need-returns Inv-loop μ-loop
 returns c =
@@ -43,5 +37,5 @@ pub put-bytes-spec : {M : Type 1} → statement M
 put-bytes-spec =
     tie.close
     (tie.spec
-    Inv-loop μ-loop loop-holds (λ c. omega arith) (λ c. omega arith) (λ c. omega arith) (λ c. omega arith) loop-again same-length
-    returns)
+    Inv-loop μ-loop (λ c. record { below = omega arith; front = refl; kept = refl }) (λ c. omega arith) (λ c. omega arith)
+    (λ c. omega arith) (λ c. omega arith) loop-again (λ c. c .before .loop .inv .kept) returns)

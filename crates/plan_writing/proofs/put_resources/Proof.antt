@@ -28,9 +28,6 @@ loop-holds : tie.Need-loop-holds Inv-loop μ-loop
 unfolding bytesBelow sumBelow
 loop-holds c = record { below = omega arith; front = put-front refl refl (omega arith); start = refl; small = omega arith }
 
-put-resource-requires : tie.Need-put-resource-requires Inv-loop μ-loop
-put-resource-requires c κs = (simp (length-take, length-drop) (omega arith), omega arith)
-
 loop-again : tie.Need-loop-again Inv-loop μ-loop
 unfolding resourceBytes
 loop-again c =
@@ -45,16 +42,11 @@ loop-again c =
       small = omega (arith, c .wide .ensures .low);
     }
 
-same-length : tie.Need-same-length Inv-loop μ-loop
-same-length c = c .before .loop .inv .front .kept
-
-returns : tie.Need-returns Inv-loop μ-loop
-returns c = rows-all _ _ _ _ (omega arith) (c .before .loop .inv .front)
-
 pub put-resources-spec : {M : Type 1} → statement M
 put-resources-spec =
     tie.close
     (tie.spec
     Inv-loop μ-loop loop-holds (λ c. omega arith) (λ c. omega arith) (λ c. omega arith) (λ c. omega arith) (λ c. omega arith)
-    put-resource-requires (λ c κs. omega arith) (λ c. omega arith) (λ c. omega arith) (λ c. omega arith) loop-again same-length
-    returns)
+    (λ c κs. (simp (length-take, length-drop) (omega arith), omega arith)) (λ c κs. omega arith) (λ c. omega arith)
+    (λ c. omega arith) (λ c. omega arith) loop-again (λ c. c .before .loop .inv .front .kept)
+    (λ c. rows-all _ _ _ _ (omega arith) (c .before .loop .inv .front)))

@@ -18,9 +18,6 @@ loop-holds : tie.Need-loop-holds Inv-loop μ-loop
 unfolding bytesBelow
 loop-holds c = (omega arith, put-front refl refl (omega arith))
 
-put-section-requires : tie.Need-put-section-requires Inv-loop μ-loop
-put-section-requires c κs = simp (length-take, length-drop) (omega arith)
-
 loop-again : tie.Need-loop-again Inv-loop μ-loop
 unfolding sectionBytes
 loop-again c =
@@ -28,15 +25,10 @@ loop-again c =
     let l = p .before .before .before .before in
     (omega arith, rows-more _ _ (section-length (l .before .before .args .t2)) _ (l .loop .inv .1) (p .put-section .ensures) (omega arith))
 
-same-length : tie.Need-same-length Inv-loop μ-loop
-same-length c = c .before .loop .inv .1 .kept
-
-returns : tie.Need-returns Inv-loop μ-loop
-returns c = rows-all _ _ _ _ (omega arith) (c .before .loop .inv .1)
-
 pub put-sections-spec : {M : Type 1} → statement M
 put-sections-spec =
     tie.close
     (tie.spec
     Inv-loop μ-loop loop-holds (λ c. omega arith) (λ c. omega arith) (λ c. omega arith) (λ c. omega arith) (λ c. omega arith)
-    (λ c. omega arith) put-section-requires (λ c. omega arith) (λ c. omega arith) loop-again same-length returns)
+    (λ c. omega arith) (λ c κs. simp (length-take, length-drop) (omega arith)) (λ c. omega arith) (λ c. omega arith) loop-again
+    (λ c. c .before .loop .inv .1 .kept) (λ c. rows-all _ _ _ _ (omega arith) (c .before .loop .inv .1)))

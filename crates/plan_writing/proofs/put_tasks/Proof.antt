@@ -30,15 +30,10 @@ loop-again c =
     let l = p .before .before .before .before in
     (omega arith, rows-more _ _ (task-length (l .before .before .args .t2)) _ (l .loop .inv .1) (p .put-task .ensures) (omega arith))
 
-same-length : tie.Need-same-length Inv-loop μ-loop
-same-length c = c .before .loop .inv .1 .kept
-
-returns : tie.Need-returns Inv-loop μ-loop
-returns c = rows-all _ _ _ _ (omega arith) (c .before .loop .inv .1)
-
 pub put-tasks-spec : {M : Type 1} → statement M
 put-tasks-spec =
     tie.close
     (tie.spec
     Inv-loop μ-loop loop-holds (λ c. omega arith) (λ c. omega arith) (λ c. omega arith) (λ c. omega arith) (λ c. omega arith)
-    (λ c. omega arith) put-task-requires (λ c. omega arith) (λ c. omega arith) loop-again same-length returns)
+    (λ c. omega arith) put-task-requires (λ c. omega arith) (λ c. omega arith) loop-again (λ c. c .before .loop .inv .1 .kept)
+    (λ c. rows-all _ _ _ _ (omega arith) (c .before .loop .inv .1)))

@@ -23,15 +23,6 @@ tags-held : (c : tie.Else3)
     tagsOk (a .c .tasks) (formatOf edition1 .mostTag) (a .rows .tasks) ≡ true
 tags-held c = rw (c .before .before .wide .ensures .same) at (held (c .before .tags-ok .ensures) (c .if3 .left))
 
-returns : tie.Need-returns
-returns c = sym (values-edition _ _ _ (failed (c .before .known .ensures) (c .if1 .taken)))
-
-returns-2 : tie.Need-returns-2
-returns-2 c = sym (values-counts _ _ _ (edition-held (c .before .before)) (failed (c .before .counts-ok .ensures) (c .if2 .taken)))
-
-tags-ok-requires : tie.Need-tags-ok-requires
-tags-ok-requires c κs = omega (arith, ranges (c .before .before) .tasks)
-
 returns-3 : tie.Need-returns-3
 returns-3 c =
     let e = c .before .before .before .before in
@@ -63,6 +54,8 @@ pub values-code-spec : {M : Type 1} → statement M
 values-code-spec =
     tie.close
     (tie.spec
-    (λ c κs. search needs) returns (λ c κs. search needs) returns-2 (λ c κs. search needs) tags-ok-requires returns-3
-    (λ c. search needs) (λ c. search needs) (λ c. search needs) (λ c. search needs) put-file-requires (λ c. search needs)
-    file-code-requires returns-4)
+    (λ c κs. search needs) (λ c. sym (values-edition _ _ _ (failed (c .before .known .ensures) (c .if1 .taken))))
+    (λ c κs. search needs)
+    (λ c. sym (values-counts _ _ _ (edition-held (c .before .before)) (failed (c .before .counts-ok .ensures) (c .if2 .taken))))
+    (λ c κs. search needs) (λ c κs. omega (arith, ranges (c .before .before) .tasks)) returns-3 (λ c. search needs)
+    (λ c. search needs) (λ c. search needs) (λ c. search needs) put-file-requires (λ c. search needs) file-code-requires returns-4)

@@ -9,15 +9,9 @@ returns : tie.Need-returns
 unfolding endLine
 returns c = no-line _ (rw (eq-eqb _ 0 (c .if1 .taken)))
 
-refused-line-requires : tie.Need-refused-line-requires
-refused-line-requires c κs = search needs
-
-same-length : tie.Need-same-length
-same-length c = search needs
-
 returns-2 : tie.Need-returns-2
 unfolding endLine
 returns-2 c = rw (ne-eqb _ 0 (c .before .before .before .before .if1 .left)) (c .before .before .refused-line .ensures)
 
 pub end-line-spec : {M : Type 1} → statement M
-end-line-spec = tie.close (tie.spec returns refused-line-requires same-length returns-2)
+end-line-spec = tie.close (tie.spec returns (λ c κs. search needs) (λ c. search needs) returns-2)

@@ -33,12 +33,6 @@ returns c =
     let a = start (l .before) .args in
     rw (c .none-made .ensures) (told-none _ _ (a .calls .now) _ (l .before .state-code .ensures) (l .lines-code .ensures) (c .before .if1 .taken))
 
-loop-holds : tie.Need-loop-holds Inv-loop μ-loop
-loop-holds c = (c .before .before .before .before .before .look .ensures .0, written-none _ _ _ _, not-begun)
-
-sub-loop-2 : tie.Need-sub-loop-2 Inv-loop μ-loop
-sub-loop-2 c = rw (c .loop .inv .1 .long) (c .loop .inv .1 .fits)
-
 bytes-at-requires : tie.Need-bytes-at-requires Inv-loop μ-loop
 bytes-at-requires c κs =
     record { least = omega arith; most = omega arith; whole = call-left (turn c .before .loop .inv .1) (turn c .loop-test .taken) }
@@ -48,9 +42,6 @@ put-call-requires c κs =
     let t = turn (c .before) in
     let i = t .before .loop .inv in
     (i .0, room-left (i .1) (t .loop-test .taken))
-
-add-used : tie.Need-add-used Inv-loop μ-loop
-add-used c = omega (arith, small (turn (made c .before)))
 
 loop-less : tie.Need-loop-less Inv-loop μ-loop
 loop-less c =
@@ -77,7 +68,10 @@ returns-2 c =
 pub lines-spec : {M : Type 1} → statement M
 lines-spec =
     tie.close
-    (tie.spec Inv-loop μ-loop
-    (λ c. search needs) (λ c κs. search needs) (λ c. search needs) (λ c κs. search needs) (λ c κs. search needs) (λ c κs. search needs)
-    returns loop-holds (λ c. c .loop .inv .1 .within) sub-loop-2 (λ c. search needs) bytes-at-requires put-call-requires add-used
-    loop-less loop-again (λ c. c .before .loop .inv .1 .long) returns-2)
+    (tie.spec
+    Inv-loop μ-loop (λ c. search needs) (λ c κs. search needs) (λ c. search needs) (λ c κs. search needs) (λ c κs. search needs)
+    (λ c κs. search needs) returns
+    (λ c. (c .before .before .before .before .before .look .ensures .0, written-none _ _ _ _, not-begun))
+    (λ c. c .loop .inv .1 .within) (λ c. rw (c .loop .inv .1 .long) (c .loop .inv .1 .fits)) (λ c. search needs) bytes-at-requires
+    put-call-requires (λ c. omega (arith, small (turn (made c .before)))) loop-less loop-again
+    (λ c. c .before .loop .inv .1 .long) returns-2)

@@ -20,24 +20,6 @@ put-line-requires-4 : tie.Need-put-line-requires-4
 put-line-requires-4 c κs =
     let i = c .before .before in ((rw (i .enum-told2 .given .1) at (i .before .before .before .before .pre .0), tt), search needs)
 
-returns : tie.Need-returns
-returns c = let p = c .before .before in rw (p .before .before .before .enum-told .given .1) (put-wider 96 (p .put-line .ensures) (omega arith))
-
-returns-2 : tie.Need-returns-2
-returns-2 c = let p = c .before .before in rw (p .before .before .before .before .answer .given .1) (put-wider 96 (p .put-line2 .ensures) (omega arith))
-
-returns-3 : tie.Need-returns-3
-returns-3 c = let p = c .before .before in rw (p .before .before .before .before .answer2 .given .1) (put-wider 96 (p .put-line3 .ensures) (omega arith))
-
-returns-4 : tie.Need-returns-4
-returns-4 c = let p = c .before .before in rw (p .before .before .before .enum-told2 .given .1) (put-wider 96 (p .put-line4 .ensures) (omega arith))
-
-returns-5 : tie.Need-returns-5
-returns-5 c = let p = c .before .before in rw (p .before .before .before .before .answer3 .given .1) (put-wider 96 (p .put-line5 .ensures) (omega arith))
-
-returns-6 : tie.Need-returns-6
-returns-6 c = let p = c .before .before in rw (p .before .before .before .answer4 .given .1) (p .put-refused .ensures)
-
 pub put-answer-spec : {M : Type 1} → statement M
 put-answer-spec =
     tie.close
@@ -45,6 +27,15 @@ put-answer-spec =
     (λ c. search needs) (λ c. search needs) put-line-requires (λ c. search needs) (λ c. search needs) (λ c. search needs)
     (λ c. search needs) put-line-requires-2 (λ c. search needs) (λ c. search needs) (λ c. search needs) put-line-requires-3
     (λ c. search needs) (λ c. search needs) put-line-requires-4 (λ c. search needs) (λ c. search needs) (λ c. search needs)
-    (λ c. search needs) (λ c κs. search needs) (λ c. search needs) (λ c κs. search needs)
-    (λ c. search needs) returns (λ c. search needs) returns-2 (λ c. search needs) returns-3 (λ c. search needs) returns-4
-    (λ c. search needs) returns-5 (λ c. search needs) returns-6)
+    (λ c. search needs) (λ c κs. search needs) (λ c. search needs) (λ c κs. search needs) (λ c. search needs)
+    (λ c. let p = c .before .before in rw (p .before .before .before .enum-told .given .1) (put-wider 96 (p .put-line .ensures) (omega arith)))
+    (λ c. search needs)
+    (λ c. let p = c .before .before in rw (p .before .before .before .before .answer .given .1) (put-wider 96 (p .put-line2 .ensures) (omega arith)))
+    (λ c. search needs)
+    (λ c. let p = c .before .before in rw (p .before .before .before .before .answer2 .given .1) (put-wider 96 (p .put-line3 .ensures) (omega arith)))
+    (λ c. search needs)
+    (λ c. let p = c .before .before in rw (p .before .before .before .enum-told2 .given .1) (put-wider 96 (p .put-line4 .ensures) (omega arith)))
+    (λ c. search needs)
+    (λ c. let p = c .before .before in rw (p .before .before .before .before .answer3 .given .1) (put-wider 96 (p .put-line5 .ensures) (omega arith)))
+    (λ c. search needs)
+    (λ c. let p = c .before .before in rw (p .before .before .before .answer4 .given .1) (p .put-refused .ensures)))

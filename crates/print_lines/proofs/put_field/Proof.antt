@@ -24,28 +24,21 @@ put-word-requires : tie.Need-put-word-requires
 put-word-requires c κs =
     let i = c .before .before in omega (arith, rw (i .field4 .given .1) at (i .before .before .before .before .pre .1))
 
-returns : tie.Need-returns
-returns c = let p = c .before .before in rw (p .before .before .before .field .given .1) (p .put-number .ensures)
-
 returns-2 : tie.Need-returns-2
 returns-2 c =
     let p = c .before .before in
     let i = p .before .before .before in
     rw (i .field2 .given .1) (put-held (λ z. fieldText [] (Signed z)) (i .field2 .given .0 .0) (search needs) (p .put-signed .ensures))
 
-returns-3 : tie.Need-returns-3
-returns-3 c = let p = c .before .before in rw (p .before .before .before .field3 .given .1) (p .put-name .ensures)
-
-returns-4 : tie.Need-returns-4
-returns-4 c = let p = c .before .before in rw (p .before .before .before .field4 .given .1) (p .put-word .ensures)
-
-returns-5 : tie.Need-returns-5
-returns-5 c = rw (c .enum-told .given .1) (put-in 0 (put-none _ _) (omega arith))
-
 pub put-field-spec : {M : Type 1} → statement M
 put-field-spec =
     tie.close
     (tie.spec
     (λ c. search needs) put-number-requires (λ c. search needs) put-signed-requires (λ c. search needs) put-name-requires
-    (λ c. search needs) put-word-requires (λ c. search needs) (λ c. search needs) returns (λ c. search needs) returns-2
-    (λ c. search needs) returns-3 (λ c. search needs) returns-4 returns-5)
+    (λ c. search needs) put-word-requires (λ c. search needs) (λ c. search needs)
+    (λ c. let p = c .before .before in rw (p .before .before .before .field .given .1) (p .put-number .ensures))
+    (λ c. search needs) returns-2 (λ c. search needs)
+    (λ c. let p = c .before .before in rw (p .before .before .before .field3 .given .1) (p .put-name .ensures))
+    (λ c. search needs)
+    (λ c. let p = c .before .before in rw (p .before .before .before .field4 .given .1) (p .put-word .ensures))
+    (λ c. rw (c .enum-told .given .1) (put-in 0 (put-none _ _) (omega arith))))

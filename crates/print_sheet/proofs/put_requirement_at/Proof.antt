@@ -8,9 +8,6 @@ use Rattle.print_sheet.proofs.put_requirement_at.Tie as tie
 low : (a : tie.Start) → a .args .i < 64
 low a = omega (arith, valid-plan _ (a .pre .prepared .known .plan) .tasks, a .pre .task)
 
-count-at-requires : tie.Need-count-at-requires
-count-at-requires c κs = let a = c .before .before .before .before in (a .pre .prepared .terms .long, low a)
-
 returns : tie.Need-returns
 returns c =
     let n = c .before in
@@ -32,4 +29,5 @@ pub put-requirement-at-spec : {M : Type 1} → statement M
 put-requirement-at-spec =
     tie.close
     (tie.spec
-    count-at-requires returns (λ c κs. search needs) (λ c κs. search needs) (λ c κs. search needs) (λ c. search needs) returns-2)
+    (λ c κs. let a = c .before .before .before .before in (a .pre .prepared .terms .long, low a)) returns (λ c κs. search needs)
+    (λ c κs. search needs) (λ c κs. search needs) (λ c. search needs) returns-2)

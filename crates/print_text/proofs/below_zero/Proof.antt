@@ -54,20 +54,7 @@ module _ (z : ℤ) (e : ltZ z (pos 0) ≡ true) (f : SFits w64 z) where
   how-far : natAbs (toZ w64 (ofZ w64 far)) + 1 ≡ natAbs z
   how-far = rw far-back (up-again z e)
 
-add-result : tie.Need-add-result
-add-result c = up-fits _ (c .pre) (c .fits .z)
-
-sub-result : tie.Need-sub-result
-sub-result c = far-fits _ (c .pre) (c .fits .z)
-
-cast-result : tie.Need-cast-result
-cast-result c = far-casts _ (c .pre) (c .fits .z)
-
-add-result-2 : tie.Need-add-result-2
-add-result-2 c = one-more _ (c .pre) (c .fits .z)
-
-returns : tie.Need-returns
-returns c = how-far _ (c .pre) (c .fits .z)
-
 pub below-zero-spec : {M : Type 1} → statement M
-below-zero-spec = tie.close (tie.spec add-result sub-result cast-result add-result-2 returns)
+below-zero-spec = tie.close (tie.spec
+    (λ c. up-fits _ (c .pre) (c .fits .z)) (λ c. far-fits _ (c .pre) (c .fits .z)) (λ c. far-casts _ (c .pre) (c .fits .z))
+    (λ c. one-more _ (c .pre) (c .fits .z)) (λ c. how-far _ (c .pre) (c .fits .z)))

@@ -9,16 +9,10 @@ returns c =
     let a = c .before .before .before .args in
     short-line (a .line .now) (a .out .now) (omega (arith, c .if1 .taken))
 
-put-requires : tie.Need-put-requires
-put-requires c κs = search needs
-
-same-length : tie.Need-same-length
-same-length c = search needs
-
 returns-2 : tie.Need-returns-2
 returns-2 c =
     let a = c .before .before .before .before .before .before .before .args in
     long-line (a .line .now) (a .out .now) (omega (arith, c .before .before .before .before .if1 .left)) (c .before .before .put .ensures)
 
 pub hand-over-spec : {M : Type 1} → statement M
-hand-over-spec = tie.close (tie.spec returns put-requires same-length returns-2)
+hand-over-spec = tie.close (tie.spec returns (λ c κs. search needs) (λ c. search needs) returns-2)

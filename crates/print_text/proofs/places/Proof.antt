@@ -23,15 +23,6 @@ Inv-loop n count₀ rest₀ count rest = Counted n count rest
 abbrev μ-loop : tie.MeasureT-loop
 μ-loop n count₀ rest₀ count rest = rest
 
-loop-holds : tie.Need-loop-holds Inv-loop μ-loop
-loop-holds c = record { left = 19; most = omega arith; fits = omega arith; same = omega arith }
-
-add-count : tie.Need-add-count Inv-loop μ-loop
-add-count c = omega arith
-
-loop-less : tie.Need-loop-less Inv-loop μ-loop
-loop-less c = omega arith
-
 loop-again : tie.Need-loop-again Inv-loop μ-loop
 loop-again c =
     let i = c .before .loop .inv in
@@ -44,4 +35,6 @@ returns c =
 
 pub places-spec : {M : Type 1} → statement M
 places-spec =
-    tie.close (tie.spec Inv-loop μ-loop loop-holds add-count loop-less loop-again returns)
+    tie.close (tie.spec
+    Inv-loop μ-loop (λ c. record { left = 19; most = omega arith; fits = omega arith; same = omega arith }) (λ c. omega arith)
+    (λ c. omega arith) loop-again returns)

@@ -17,9 +17,6 @@ Inv-loop buf₀ at text k₀ buf k = (k ≤ length text) × (buf ≡ paste buf�
 abbrev μ-loop : tie.MeasureT-loop
 μ-loop buf₀ at text k₀ buf k = length text - k
 
-loop-holds : tie.Need-loop-holds Inv-loop μ-loop
-loop-holds c = (omega arith, paste-zero (c .args .buf .now) (c .args .at) (c .args .text .now), refl)
-
 loop-again : tie.Need-loop-again Inv-loop μ-loop
 loop-again c =
     let a = c .before .before .before in
@@ -28,9 +25,6 @@ loop-again c =
       rw (l .inv .1) (one-more (a .args .buf .now) (a .args .text .now) (a .args .at) (l .k) (omega arith) (omega arith)),
       simp length-set (l .inv .2),
     )
-
-same-length : tie.Need-same-length Inv-loop μ-loop
-same-length c = c .before .loop .inv .2
 
 returns : tie.Need-returns Inv-loop μ-loop
 returns c =
@@ -42,5 +36,6 @@ pub put-spec : {M : Type 1} → statement M
 put-spec =
     tie.close
     (tie.spec
-    Inv-loop μ-loop loop-holds (λ c. omega arith) (λ c. omega arith) (λ c. omega arith) (λ c. omega arith) (λ c. omega arith)
-    loop-again (λ c. omega arith) same-length returns)
+    Inv-loop μ-loop (λ c. (omega arith, paste-zero (c .args .buf .now) (c .args .at) (c .args .text .now), refl))
+    (λ c. omega arith) (λ c. omega arith) (λ c. omega arith) (λ c. omega arith) (λ c. omega arith) loop-again (λ c. omega arith)
+    (λ c. c .before .loop .inv .2) returns)

@@ -47,9 +47,6 @@ returns c =
     let a = i .before .before in
     minus (a .args .z) (a .fits .z) (i .if1 .taken) (b .below-zero .ensures) (p .put .ensures) (d .put-decimal .ensures)
 
-cast-put-decimal : tie.Need-cast-put-decimal
-cast-put-decimal c = casts _ (c .before .before .before .fits .z) (c .before .if1 .left)
-
 returns-2 : tie.Need-returns-2
 returns-2 c =
     let i = c .before .before .before .before in
@@ -61,4 +58,5 @@ put-signed-spec =
     tie.close
     (tie.spec
     (λ c. search needs) (λ c κs. search needs) (λ c κs. search needs) (λ c κs. search needs) (λ c. search needs) returns
-    cast-put-decimal (λ c κs. search needs) (λ c. search needs) returns-2)
+    (λ c. casts _ (c .before .before .before .fits .z) (c .before .if1 .left)) (λ c κs. search needs) (λ c. search needs)
+    returns-2)

@@ -4,9 +4,6 @@ use Rattle.bench_hooks.proofs.Numbers.{longest-given, longest-refused}
 use Rattle.bench_hooks.proofs.asking.longest_wait_of.Statement.{statement}
 use Rattle.bench_hooks.proofs.asking.longest_wait_of.Tie as tie
 
-returns : tie.Need-returns
-returns c = longest-given _ _ _ (c .before .before .before .longest-wait .ensures .0) _ (c .before .n .given .1)
-
 returns-2 : tie.Need-returns-2
 returns-2 c =
     let matched = c .before .before in
@@ -17,4 +14,4 @@ longest-wait-of-spec =
     tie.close
     (tie.spec
     (λ c κs. search needs) (λ c. search needs) (λ c. search needs) (λ c. search needs) (λ c. search needs) (λ c κs. search needs)
-    returns returns-2)
+    (λ c. longest-given _ _ _ (c .before .before .before .longest-wait .ensures .0) _ (c .before .n .given .1)) returns-2)

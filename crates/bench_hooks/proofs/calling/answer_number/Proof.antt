@@ -4,12 +4,6 @@ use Rattle.bench_hooks.specs.Calling.{answerNumber}
 use Rattle.bench_hooks.proofs.calling.answer_number.Statement.{statement}
 use Rattle.bench_hooks.proofs.calling.answer_number.Tie as tie
 
-returns-2 : tie.Need-returns-2
-returns-2 c = rw (c .byte .ensures .same) (sym (ap answerNumber (c .before .before .answer .given .1)))
-
-returns-3 : tie.Need-returns-3
-returns-3 c = rw (c .word .ensures .same) (sym (ap answerNumber (c .before .before .answer2 .given .1)))
-
 returns-5 : tie.Need-returns-5
 returns-5 c =
     let h = c .before in
@@ -22,5 +16,7 @@ answer-number-spec =
     (λ c. search needs) (λ c. search needs) (λ c κs. search needs) (λ c. search needs) (λ c. search needs) (λ c. search needs)
     (λ c. search needs) (λ c. search needs) (λ c. search needs) (λ c κs. search needs) (λ c. search needs) (λ c. search needs)
     (λ c. search needs) (λ c. search needs) (λ c κs. search needs) (λ c. search needs) (λ c. search needs) (λ c κs. search needs)
-    (λ c. search needs) (λ c. search needs) (λ c. search needs) (λ c κs. search needs) (λ c. search needs) returns-2 returns-3
-    (λ c. search needs) returns-5 (λ c. search needs))
+    (λ c. search needs) (λ c. search needs) (λ c. search needs) (λ c κs. search needs) (λ c. search needs)
+    (λ c. rw (c .byte .ensures .same) (sym (ap answerNumber (c .before .before .answer .given .1))))
+    (λ c. rw (c .word .ensures .same) (sym (ap answerNumber (c .before .before .answer2 .given .1)))) (λ c. search needs)
+    returns-5 (λ c. search needs))

@@ -5,9 +5,6 @@ use Rattle.bench_hooks.specs.Calling.{answerNumber}
 use Rattle.bench_hooks.proofs.calling.bytes_number.Statement.{statement}
 use Rattle.bench_hooks.proofs.calling.bytes_number.Tie as tie
 
-returns : tie.Need-returns
-returns c = rw (decoded-no-call _ (c .before .before .decode .ensures) (c .if1 .taken)) refl
-
 returns-2 : tie.Need-returns-2
 returns-2 c =
     let i = c .before .before in
@@ -15,4 +12,6 @@ returns-2 c =
 
 pub bytes-number-spec : {M : Type 1} → statement M
 bytes-number-spec =
-    tie.close (tie.spec (λ c κs. search needs) returns (λ c κs. search needs) (λ c κs. search needs) returns-2)
+    tie.close (tie.spec
+    (λ c κs. search needs) (λ c. rw (decoded-no-call _ (c .before .before .decode .ensures) (c .if1 .taken)) refl)
+    (λ c κs. search needs) (λ c κs. search needs) returns-2)

@@ -45,12 +45,6 @@ returns-2 c =
     let r : planOf (a .file .now) .resources ≤ a .q = omega (arith, c .if2 .taken, n .resources) in
     release-past _ _ _ _ l r
 
-element-copy-out-line : tie.Need-element-copy-out-line
-element-copy-out-line c = let a = passed c in omega (arith, a .resource, a .valid .resources)
-
-returns-3 : tie.Need-returns-3
-returns-3 c = release-free (passed (c .before .before .before)) (c .if3 .taken)
-
 -- ── where the resource is held ──
 abbrev clear : tie.Else3 → tie.Else2
 clear c = c .before .before .before
@@ -82,6 +76,7 @@ release-code-spec =
     tie.close
     (tie.spec
     (λ c κs. search needs) (λ c κs. search needs) (λ c κs. search needs) returns returns-2 (λ c. search needs)
-    element-copy-out-line returns-3 (λ c κs. search needs) (λ c. search needs) (λ c. search needs) (λ c κs. search needs)
-    (λ c. search needs) (λ c. search needs) shared-slice-read-first (λ c κs. search needs) (λ c. search needs) returns-4
-    returns-5)
+    (λ c. let a = passed c in omega (arith, a .resource, a .valid .resources))
+    (λ c. release-free (passed (c .before .before .before)) (c .if3 .taken)) (λ c κs. search needs) (λ c. search needs)
+    (λ c. search needs) (λ c κs. search needs) (λ c. search needs) (λ c. search needs) shared-slice-read-first
+    (λ c κs. search needs) (λ c. search needs) returns-4 returns-5)

@@ -20,9 +20,6 @@ clear c = sym (asked c .user-in .ensures .0) ∙ c .if1 .left
 low : (c : tie.Else1) → asked c .user-in .result .task < 64
 low c = omega (arith, asked c .user-in .ensures .1, use-task _ _ _ (clear c), valid-plan _ (start (asked c) .pre .0 .plan) .tasks)
 
-returns : tie.Need-returns
-returns c = use-refused _ _ _ _ (c .before .before .user-in .ensures .0) (c .if1 .taken)
-
 returns-2 : tie.Need-returns-2
 returns-2 c =
     let else = c .before .before .before in
@@ -39,4 +36,5 @@ pub request-code-spec : {M : Type 1} → statement M
 request-code-spec =
     tie.close
     (tie.spec
-    (λ c κs. search needs) returns (λ c. omega (arith, low c)) (λ c. omega (arith, low c)) (λ c κs. search needs) returns-2 returns-3)
+    (λ c κs. search needs) (λ c. use-refused _ _ _ _ (c .before .before .user-in .ensures .0) (c .if1 .taken))
+    (λ c. omega (arith, low c)) (λ c. omega (arith, low c)) (λ c κs. search needs) returns-2 returns-3)

@@ -4,9 +4,6 @@ use Rattle.plan.proofs.Laws.{accepted-checked}
 use Rattle.machine.proofs.surveyed.look.Statement.{statement}
 use Rattle.machine.proofs.surveyed.look.Tie as tie
 
-returns : tie.Need-returns
-returns c = (record { refusal = c .before .check .ensures; known = λ z. absurd (c .if1 .taken z) }, λ d. refl)
-
 fill-figures-requires : tie.Need-fill-figures-requires
 fill-figures-requires c κs =
     let i = c .before in
@@ -22,4 +19,7 @@ returns-2 c =
     (record { refusal = sym (i .if1 .left) ∙ i .before .check .ensures; known = λ z. h .fill-figures .ensures }, λ d. absurd (d refl))
 
 pub look-spec : {M : Type 1} → statement M
-look-spec = tie.close (tie.spec (λ c κs. search needs) returns fill-figures-requires (λ c. search needs) returns-2)
+look-spec = tie.close (tie.spec
+    (λ c κs. search needs)
+    (λ c. (record { refusal = c .before .check .ensures; known = λ z. absurd (c .if1 .taken z) }, λ d. refl))
+    fill-figures-requires (λ c. search needs) returns-2)

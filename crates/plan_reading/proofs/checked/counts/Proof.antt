@@ -6,9 +6,6 @@ use Rattle.plan_reading.proofs.Laws.{whole-facts}
 use Rattle.plan_reading.proofs.checked.counts.Statement.{statement}
 use Rattle.plan_reading.proofs.checked.counts.Tie as tie
 
-counts-at-requires : tie.Need-counts-at-requires
-counts-at-requires c κs = whole-facts _ (c .before .pre .none) .header .long
-
 returns : tie.Need-returns
 unfolding planOf
 returns c =
@@ -21,4 +18,4 @@ returns c =
     }
 
 pub counts-spec : {M : Type 1} → statement M
-counts-spec = tie.close (tie.spec counts-at-requires returns)
+counts-spec = tie.close (tie.spec (λ c κs. whole-facts _ (c .before .pre .none) .header .long) returns)

@@ -7,9 +7,6 @@ use Rattle.plan_reading.proofs.Laws.{whole-facts, plan-sections}
 use Rattle.plan_reading.proofs.checked.section.Statement.{statement}
 use Rattle.plan_reading.proofs.checked.section.Tie as tie
 
-counts-at-requires : tie.Need-counts-at-requires
-counts-at-requires c κs = whole-facts _ (c .before .pre .0 .none) .header .long
-
 -- where the section rows begin, and that they lie in the file
 begin : (c : tie.After-sections-at) → c .sections-at .result ≡ sectionsAt (countsOf (c .before .before .before .args .file .now))
 begin c = c .sections-at .ensures ∙ ap sectionsAt (c .before .counts-at .ensures)
@@ -31,5 +28,5 @@ pub section-spec : {M : Type 1} → statement M
 section-spec =
     tie.close
     (tie.spec
-    counts-at-requires (λ c κs. search needs) (λ c. omega (arith, inside c)) (λ c. omega (arith, inside c)) (λ c. search needs) section-at-requires
-    returns)
+    (λ c κs. whole-facts _ (c .before .pre .0 .none) .header .long) (λ c κs. search needs) (λ c. omega (arith, inside c))
+    (λ c. omega (arith, inside c)) (λ c. search needs) section-at-requires returns)

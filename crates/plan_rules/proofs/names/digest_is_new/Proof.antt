@@ -16,9 +16,6 @@ loop-holds : tie.Need-loop-holds Inv-loop μ-loop
 unfolding allBelow
 loop-holds c = (omega arith, refl)
 
-loop-again : tie.Need-loop-again Inv-loop μ-loop
-loop-again c = (omega arith, all-step _ _ (c .before .loop .inv .1) refl)
-
 returns : tie.Need-returns Inv-loop μ-loop
 unfolding numberNew
 returns c = all-done _ (c .before .loop .j) _ (omega arith) (c .before .loop .inv .1)
@@ -28,4 +25,4 @@ digest-is-new-spec =
     tie.close
     (tie.spec
     Inv-loop μ-loop (λ c. omega arith) (λ c. omega arith) loop-holds (λ c. omega arith) (λ c. omega arith) (λ c. omega arith)
-    (λ c. omega arith) loop-again returns)
+    (λ c. omega arith) (λ c. (omega arith, all-step _ _ (c .before .loop .inv .1) refl)) returns)

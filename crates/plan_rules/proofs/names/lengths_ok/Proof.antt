@@ -17,9 +17,6 @@ loop-holds : tie.Need-loop-holds Inv-loop μ-loop
 unfolding allBelow
 loop-holds c = (omega arith, refl)
 
-loop-again : tie.Need-loop-again Inv-loop μ-loop
-loop-again c = (omega arith, all-step _ _ (c .before .loop .inv .1) refl)
-
 returns : tie.Need-returns Inv-loop μ-loop
 unfolding lengthsOk
 returns c = all-done _ (c .before .loop .i) _ (omega arith) (c .before .loop .inv .1)
@@ -28,4 +25,5 @@ pub lengths-ok-spec : {M : Type 1} → statement M
 lengths-ok-spec =
     tie.close
     (tie.spec
-    Inv-loop μ-loop loop-holds (λ c. omega arith) (λ c. omega arith) (λ c. omega arith) (λ c. omega arith) loop-again returns)
+    Inv-loop μ-loop loop-holds (λ c. omega arith) (λ c. omega arith) (λ c. omega arith) (λ c. omega arith)
+    (λ c. (omega arith, all-step _ _ (c .before .loop .inv .1) refl)) returns)

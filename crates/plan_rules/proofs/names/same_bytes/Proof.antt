@@ -20,9 +20,6 @@ returns : tie.Need-returns Inv-loop μ-loop
 unfolding sameBytes
 returns c = all-left _ (c .before .before .before .before .loop .k) _ (omega arith) (ne-eqb _ _ (c .if1 .taken))
 
-loop-again : tie.Need-loop-again Inv-loop μ-loop
-loop-again c = (omega arith, all-more _ _ (c .before .before .before .before .loop .inv .1) (eq-eqb _ _ (c .if1 .left)))
-
 returns-2 : tie.Need-returns-2 Inv-loop μ-loop
 unfolding sameBytes
 returns-2 c = all-done _ (c .before .loop .k) _ (omega arith) (sym (c .before .loop .inv .1))
@@ -32,4 +29,5 @@ same-bytes-spec =
     tie.close
     (tie.spec
     Inv-loop μ-loop loop-holds (λ c. omega arith) (λ c. omega arith) (λ c. omega arith) (λ c. omega arith) returns
-    (λ c. omega arith) (λ c. omega arith) loop-again returns-2)
+    (λ c. omega arith) (λ c. omega arith)
+    (λ c. (omega arith, all-more _ _ (c .before .before .before .before .loop .inv .1) (eq-eqb _ _ (c .if1 .left)))) returns-2)
