@@ -12,7 +12,7 @@ use Rattle.analysis_equations.specs.Blocking.{globalCount}
 use Rattle.analysis_equations.specs.Requirement.{asks, met, admitted}
 use Rattle.analysis_equations.specs.Questions.{taskNumber, processorCode, requirementCode}
 use Rattle.analysis_equations.proofs.Laws.{asks-not, asks-some}
-use Rattle.analysis_hold_times.specs.Figures.{Figures}
+use Rattle.analysis_figures.specs.Figures.{Figures}
 use Rattle.analysis_requirements.specs.declared.Requirement.{Requirement}
 use Rattle.analysis_requirements.specs.Figures.{requirementOf}
 use Rattle.analysis.specs.declared.Figure.{Figure}

@@ -6,8 +6,8 @@ use Rattle.plan_reading.proofs.Laws.{valid-plan}
 use Rattle.analysis_equations.specs.HoldTimes.{holdTime}
 use Rattle.analysis_equations.specs.Questions.{taskNumber, useCode}
 use Rattle.analysis_equations.proofs.Laws.{Sharing, use-clear, hold-shared}
-use Rattle.analysis_hold_times.specs.Figures.{holdCell, Known}
-use Rattle.analysis_hold_times.specs.declared.User.{User}
+use Rattle.analysis_figures.specs.Figures.{holdCell, Known}
+use Rattle.analysis_figures.specs.declared.User.{User}
 use Rattle.analysis.specs.Answers.{holdRefusal}
 use Rattle.analysis.specs.Inner.{Uses, Found}
 use Rattle.analysis.proofs.Told.{reading-fails, reading-holds}

@@ -6,8 +6,8 @@ use mathlib.Core.Path.{_≡_}
 use Rattle.plan_reading.specs.Plan.{planOf, Checked}
 use Rattle.analysis_equations.specs.Sharing.{uses, global}
 use Rattle.analysis_equations.specs.Questions.{taskNumber}
-use Rattle.analysis_hold_times.specs.Figures.{Known}
-use Rattle.analysis_hold_times.specs.declared.User.{User}
+use Rattle.analysis_figures.specs.Figures.{Known}
+use Rattle.analysis_figures.specs.declared.User.{User}
 use Rattle.analysis.specs.Answers.{holdRefusal}
 
 -- task i of a checked plan uses q, which is global; the table is that of the plan

@@ -1,6 +1,6 @@
 // The questions about a plan file: hold time, longest wait, budget, wait time, requirement and admission. Each takes any bytes and refuses by
 // number what it does not accept.
-use analysis_hold_times::User;
+use analysis_figures::User;
 use analysis_requirements::Requirement;
 ghost use mathlib.Core.Path.{_≡_};
 ghost use mathlib.Core.Bool.{cond, not, _||_};
@@ -14,7 +14,7 @@ ghost use Rattle.plan_reading.specs.Plan.{planOf, Checked};
 ghost use Rattle.analysis_equations.specs.HoldTimes.{budget, waitTime};
 ghost use Rattle.analysis_equations.specs.Requirement.{asks, met, admitted};
 ghost use Rattle.analysis_equations.specs.Questions.{processorCode, requirementCode};
-ghost use Rattle.analysis_hold_times.specs.Figures.{figureCount};
+ghost use Rattle.analysis_figures.specs.Figures.{figureCount};
 ghost use Rattle.analysis_requirements.specs.Terms.{Prepared};
 ghost use Rattle.analysis.specs.Inner.{Share, Found};
 ghost use Rattle.analysis.specs.Answers.{figure, figureOutcome, holdRefusal, holdFigure, longestFigure, shareRefusal, budgetOf, waitOf};
@@ -64,7 +64,7 @@ fn user_of(file: &[u8], tag: u16, q: u8, figures: &mut [u16]) -> User
         return User { code, task: 0 };
     }
     analysis_hold_times::fill_figures(file, figures);
-    analysis_hold_times::user_in(file, figures, tag, q)
+    analysis_figures::user_in(file, figures, tag, q)
 }
 
 // The hold time of a resource by the task with this tag.
@@ -72,12 +72,12 @@ pub fn hold_time(file: &[u8], tag: u16, resource: u8) -> Figure
     ensures { λ r. ⌜ r ≡ figure (holdRefusal (now (file .entry)) tag resource) (holdFigure (now (file .entry)) tag resource) ⌝ }
     ensures { λ r. ⌜ figureOutcome r ≡ outcome (holdRefusal (now (file .entry)) tag resource) (holdFigure (now (file .entry)) tag resource ∷ []) ⌝ }
 {
-    let mut figures = [0u16; analysis_hold_times::FIGURES];
+    let mut figures = [0u16; analysis_figures::FIGURES];
     let user = user_of(file, tag, resource, &mut figures);
     if user.code != 0 {
         return Figure::Refused(user.code);
     }
-    let hold = analysis_hold_times::hold_at(&figures, user.task, folds::wide(resource));
+    let hold = analysis_figures::hold_at(&figures, user.task, folds::wide(resource));
     Figure::Given(hold as u32)
 }
 
@@ -86,7 +86,7 @@ pub fn longest_wait(file: &[u8], tag: u16, resource: u8) -> Figure
     ensures { λ r. ⌜ r ≡ figure (holdRefusal (now (file .entry)) tag resource) (longestFigure (now (file .entry)) tag resource) ⌝ }
     ensures { λ r. ⌜ figureOutcome r ≡ outcome (holdRefusal (now (file .entry)) tag resource) (longestFigure (now (file .entry)) tag resource ∷ []) ⌝ }
 {
-    let mut figures = [0u16; analysis_hold_times::FIGURES];
+    let mut figures = [0u16; analysis_figures::FIGURES];
     let user = user_of(file, tag, resource, &mut figures);
     if user.code != 0 {
         return Figure::Refused(user.code);
@@ -100,11 +100,11 @@ fn shares_of(file: &[u8], k: u8, q: u8) -> BudgetAndWait
     requires { ⌜ Share (now file) k q ⌝ }
     ensures { λ r. ⌜ (r .budget ≡ budget (planOf (now (file .entry))) k q) × (r .wait ≡ waitTime (planOf (now (file .entry))) k q) ⌝ }
 {
-    let mut figures = [0u16; analysis_hold_times::FIGURES];
+    let mut figures = [0u16; analysis_figures::FIGURES];
     analysis_hold_times::fill_figures(file, &mut figures);
     let at = folds::wide(q);
-    let budget = analysis_hold_times::budget_at(&figures, folds::wide(k), at);
-    let wait = analysis_hold_times::wait_in(file, &figures, k, at);
+    let budget = analysis_figures::budget_at(&figures, folds::wide(k), at);
+    let wait = analysis_figures::wait_in(file, &figures, k, at);
     BudgetAndWait { budget, wait }
 }
 
@@ -166,11 +166,11 @@ fn requirement_question(file: &[u8], tag: u16) -> RequirementAnswer
     ensures { λ r. ⌜ r ≡ requirementGiven (requirementCode (planOf (now (file .entry))) tag) (requirementFigures (now (file .entry)) tag) ⌝ }
 {
     let counts = plan_reading::checked::counts(file);
-    let i = analysis_hold_times::task_number(file, tag);
+    let i = analysis_figures::task_number(file, tag);
     if folds::wide(counts.tasks) <= i {
         return RequirementAnswer::Refused(refusals::UNKNOWN_TAG);
     }
-    let mut figures = [0u16; analysis_hold_times::FIGURES];
+    let mut figures = [0u16; analysis_figures::FIGURES];
     analysis_hold_times::fill_figures(file, &mut figures);
     let mut terms = [0u16; analysis_requirements::TERMS];
     analysis_requirements::fill_terms(file, &figures, &mut terms);
@@ -226,7 +226,7 @@ fn decided(file: &[u8]) -> bool
     requires { ⌜ Checked (now file) ⌝ }
     ensures { λ r. ⌜ r ≡ admitted (planOf (now (file .entry))) ⌝ }
 {
-    let mut figures = [0u16; analysis_hold_times::FIGURES];
+    let mut figures = [0u16; analysis_figures::FIGURES];
     analysis_hold_times::fill_figures(file, &mut figures);
     let mut terms = [0u16; analysis_requirements::TERMS];
     analysis_requirements::fill_terms(file, &figures, &mut terms);
@@ -270,7 +270,7 @@ pub fn hold_times(file: &[u8]) -> HoldTimes
             refusal: code,
         };
     }
-    let mut figures = [0u16; analysis_hold_times::FIGURES];
+    let mut figures = [0u16; analysis_figures::FIGURES];
     analysis_hold_times::fill_figures(file, &mut figures);
     HoldTimes {
         times: holds_of(&figures),

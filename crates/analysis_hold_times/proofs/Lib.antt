@@ -5,5 +5,3 @@ pub mod Longest
 pub mod Tops
 pub mod Holding
 pub mod Tables
-pub mod Waits
-pub mod Counting

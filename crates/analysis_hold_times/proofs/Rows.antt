@@ -4,7 +4,7 @@ use Rattle.folds.specs.Bytes.{placedBelow}
 use Rattle.folds.proofs.Arrays.{by-eq, placed-length, placed-at, placed-step, stampedBelow, stamped-length}
 use Rattle.plan_reading.specs.Plan.{Plan}
 use Rattle.analysis_equations.specs.HoldTimes.{holdAt, budget}
-use Rattle.analysis_hold_times.specs.Figures.{holdCell, budgetCell, Figures}
+use Rattle.analysis_figures.specs.Figures.{holdCell, budgetCell, Figures}
 use Rattle.analysis_hold_times.specs.Inner.{cell, Row, Put}
 
 -- what a choice is at most
@@ -20,13 +20,6 @@ plus-same u e = rw e
 
 pub minus-same : (u : ℕ) {x y : ℕ} → x ≡ y → u - x ≡ u - y
 minus-same u e = rw e
-
--- a table's figures for resource q, whose number is r
-pub hold-of : (p : Plan) (t : List ℕ) {j q r : ℕ} → Figures p t → r ≡ q → j < 64 → q < 16 → getD t (holdCell j r) 0 ≡ holdAt p j q
-hold-of p t {j} {q} c e a b = rw e (c .hold j q a b)
-
-pub budget-of : (p : Plan) (t : List ℕ) {k l q r : ℕ} → Figures p t → l ≡ k → r ≡ q → k < 8 → q < 16 → getD t (budgetCell l r) 0 ≡ budget p k q
-budget-of p t {k} {l} {q} c f e a b = rw (f, e) (c .budget k q a b)
 
 -- ── a row made cell by cell ──
 

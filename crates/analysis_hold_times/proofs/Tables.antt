@@ -8,7 +8,7 @@ use Rattle.plan_reading.specs.Plan.{Plan, Valid}
 use Rattle.analysis_equations.specs.Sharing.{processorOf, sectionOn, uses, usedOn}
 use Rattle.analysis_equations.specs.HoldTimes.{longestOn, holdAt, budget, userOn}
 use Rattle.analysis_equations.proofs.Laws.{budget-unused}
-use Rattle.analysis_hold_times.specs.Figures.{Figures}
+use Rattle.analysis_figures.specs.Figures.{Figures}
 use Rattle.analysis_hold_times.specs.Inner.{cell, Sections, Held, Put, Row}
 use Rattle.analysis_hold_times.proofs.Holding.{Begun}
 

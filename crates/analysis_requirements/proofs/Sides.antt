@@ -10,7 +10,7 @@ use Rattle.analysis_equations.specs.Blocking.{ceilDiv, countOn, blocking1, bloc
 use Rattle.analysis_equations.specs.Requirement.{tolerance, slack, met}
 use Rattle.analysis_equations.specs.Bounds.{mostBudget, mostFellowHolds, mostTurns, mostWaiting}
 use Rattle.analysis_equations.proofs.Laws.{ceil-bound, used-at, budget-low, budget-high, count-on-high, fellow-high, uses-count, waiting-high, tolerance-mag}
-use Rattle.analysis_hold_times.specs.Figures.{Figures, budgetCell}
+use Rattle.analysis_figures.specs.Figures.{Figures, budgetCell}
 use Rattle.analysis_requirements.specs.declared.Requirement.{Requirement}
 use Rattle.analysis_requirements.specs.Figures.{requirementOf}
 use Rattle.analysis_requirements.specs.Inner.{waitingAt, comparison}

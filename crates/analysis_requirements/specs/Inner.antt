@@ -14,7 +14,7 @@ use Rattle.plan_reading.specs.Plan.{Plan, planOf, Checked}
 use Rattle.analysis_equations.specs.Sharing.{priorityOf, globalBy, global, uses, higher}
 use Rattle.analysis_equations.specs.Blocking.{ceilDiv, countOn, waitingOn}
 use Rattle.analysis_equations.specs.Bounds.{mostPeriod}
-use Rattle.analysis_hold_times.specs.Figures.{Sharer}
+use Rattle.analysis_figures.specs.Figures.{Sharer}
 use Rattle.analysis_requirements.specs.declared.Requirement.{Requirement}
 use Rattle.analysis_requirements.specs.Terms.{longestCell, placeCell, countCell, ceilingCell, sharedCell, termCount, placeOf, Terms, Prepared}
 

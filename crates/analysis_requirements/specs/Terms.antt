@@ -9,7 +9,7 @@ use Rattle.sizes.specs.Sizes.{mostTasks, mostResources}
 use Rattle.plan_reading.specs.Plan.{Plan, planOf}
 use Rattle.analysis_equations.specs.Sharing.{processorOf, priorityOf, global}
 use Rattle.analysis_equations.specs.Blocking.{globalCount, ceiling, longestGlobal}
-use Rattle.analysis_hold_times.specs.Figures.{Known}
+use Rattle.analysis_figures.specs.Figures.{Known}
 
 -- where the longest global section of task j stands
 abbrev pub longestCell : ℕ → ℕ

@@ -11,7 +11,7 @@ ghost use Rattle.plan_reading.specs.Plan.{planOf, Checked};
 ghost use Rattle.analysis_equations.specs.Blocking.{countOn, longestLocal, blocking1, blocking2, waitingOn, waitingSide};
 ghost use Rattle.analysis_equations.specs.Requirement.{tolerance};
 ghost use Rattle.analysis_equations.specs.Bounds.{mostWaiting, mostPeriod, mostDemand};
-ghost use Rattle.analysis_hold_times.specs.Figures.{Known};
+ghost use Rattle.analysis_figures.specs.Figures.{Known};
 ghost use Rattle.analysis_requirements.specs.Figures.{requirementOf};
 ghost use Rattle.analysis_requirements.specs.Terms.{countCell, termCount, Terms, Prepared};
 ghost use Rattle.analysis_requirements.specs.Inner.{TermsBelow, Asked, Counted, Waiter, waitingAt, Row, Above, Timed, Scanned, demandOf, comparison};
@@ -60,7 +60,7 @@ fn put_shared(file: &[u8], figures: &[u16], terms: &mut [u16])
 {
     let mut q = 0;
     while q < sizes::RESOURCES {
-        let shared = analysis_hold_times::is_global(file, figures, q);
+        let shared = analysis_figures::is_global(file, figures, q);
         terms[SHARED + q] = folds::chosen(shared, 1, 0);
         q += 1;
     }
@@ -196,9 +196,9 @@ fn waiting_on(file: &[u8], figures: &[u16], count: u16, i: usize, q: usize) -> u
 {
     let task = plan_reading::checked::task(file, i);
     let k = task.processor;
-    let budget = analysis_hold_times::budget_at(figures, folds::wide(k), q) as u32;
-    let wait = analysis_hold_times::wait_in(file, figures, k, q);
-    let fellows = analysis_hold_times::fellows_of(file, figures, i, q);
+    let budget = analysis_figures::budget_at(figures, folds::wide(k), q) as u32;
+    let wait = analysis_figures::wait_in(file, figures, k, q);
+    let fellows = analysis_figures::fellows_of(file, figures, i, q);
     let times = (2 * fellows.holds + (budget - 1)) / budget;
     count as u64 * times as u64 * wait as u64
 }

@@ -3,7 +3,7 @@
 ghost use mathlib.Core.Path.{_≡_};
 ghost use lib.ListN.{length};
 ghost use Rattle.plan_reading.specs.Plan.{planOf};
-ghost use Rattle.analysis_hold_times.specs.Figures.{Sharer};
+ghost use Rattle.analysis_figures.specs.Figures.{Sharer};
 ghost use Rattle.machine_rules.specs.Longest.{fellows, longestWait};
 
 // How many fellows a task has on a resource, and how long it waits at most.
@@ -18,8 +18,8 @@ pub fn longest_of(file: &[u8], figures: &[u16], i: usize, q: usize) -> Longest
     ensures { λ r. ⌜ (r .fellows ≡ length (fellows (planOf (now (file .entry))) i q)) × (r .wait ≡ longestWait (planOf (now (file .entry))) i q) ⌝ }
 {
     let task = plan_reading::checked::task(file, i);
-    let wait = analysis_hold_times::wait_in(file, figures, task.processor, q);
-    let found = analysis_hold_times::fellows_of(file, figures, i, q);
+    let wait = analysis_figures::wait_in(file, figures, task.processor, q);
+    let found = analysis_figures::fellows_of(file, figures, i, q);
     let count = found.count;
     Longest {
         fellows: count,

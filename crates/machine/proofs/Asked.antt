@@ -11,7 +11,7 @@ use Rattle.machine_rules.specs.declared.Answer.{Answer}
 use Rattle.machine_rules.specs.declared.Answer.the-variants.{Granted, Waits}
 use Rattle.machine_rules.specs.declared.Call.the-variants.{Request}
 use Rattle.machine_rules.specs.Machine.{View, busy, requestCode, requestAnswer}
-use Rattle.analysis_hold_times.specs.Figures.{Figures}
+use Rattle.analysis_figures.specs.Figures.{Figures}
 use Rattle.machine_state.specs.declared.State.{State}
 use Rattle.machine_state.specs.Shows.{standing, lineAt, shows, noneInLine}
 use Rattle.machine_state.specs.Sound.{sound}

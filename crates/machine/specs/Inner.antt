@@ -9,7 +9,7 @@ use lib.ListN.{length, getD}
 use Rattle.sizes.specs.Sizes.{mostResources}
 use Rattle.plan.specs.Acceptance.{refusal}
 use Rattle.plan_reading.specs.Plan.{Plan, planOf, Checked}
-use Rattle.analysis_hold_times.specs.Figures.{Known}
+use Rattle.analysis_figures.specs.Figures.{Known}
 use Rattle.machine_rules.specs.declared.Call.{Call}
 use Rattle.machine_rules.specs.declared.Answer.{Answer}
 use Rattle.machine_rules.specs.declared.Answer.the-variants.{Granted, Waits, Next, Free, Ticked, Refused}

@@ -10,7 +10,7 @@ ghost use mathlib.Core.Bool.{true};
 ghost use Prim.Native.Nat.{ℕ};
 ghost use Rattle.plan.specs.Acceptance.{refusal};
 ghost use Rattle.plan_reading.specs.Plan.{planOf};
-ghost use Rattle.analysis_hold_times.specs.Figures.{Known};
+ghost use Rattle.analysis_figures.specs.Figures.{Known};
 ghost use Rattle.machine_rules.specs.declared.Call.the-variants.{Request, Release, Tick};
 ghost use Rattle.machine_rules.specs.Machine.{requestCode, releaseCode, callCode};
 ghost use Rattle.machine_state.specs.Shows.{shows};
@@ -33,7 +33,7 @@ fn request_code(file: &[u8], figures: &[u16], state: State, tag: u16, q: u8) -> 
     requires { ⌜ (Known (now file) (now figures)) × (sound (planOf (now file)) state ≡ true) ⌝ }
     ensures { λ r. ⌜ r ≡ requestCode (planOf (now (file .entry))) (shows (planOf (now (file .entry))) state) tag q ⌝ }
 {
-    let user = analysis_hold_times::user_in(file, figures, tag, q);
+    let user = analysis_figures::user_in(file, figures, tag, q);
     if user.code != 0 {
         return user.code;
     }
@@ -51,7 +51,7 @@ fn release_code(file: &[u8], seats: &[u8], state: State, tag: u16, q: u8) -> u8
     ensures { λ r. ⌜ r ≡ releaseCode (planOf (now (file .entry))) (shows (planOf (now (file .entry))) state) tag q ⌝ }
 {
     let counts = plan_reading::checked::counts(file);
-    let i = analysis_hold_times::task_number(file, tag);
+    let i = analysis_figures::task_number(file, tag);
     if folds::wide(counts.tasks) <= i {
         return refusals::UNKNOWN_TAG;
     }
@@ -87,7 +87,7 @@ fn request_on(file: &[u8], figures: &[u16], seats: &[u8], state: State, tag: u16
     requires { ⌜ Asks (now file) state (now figures) (now seats) tag q ⌝ }
     ensures { λ r. ⌜ Acted (planOf (now (file .entry))) state (Request tag q) r ⌝ }
 {
-    let i = analysis_hold_times::task_number(file, tag);
+    let i = analysis_figures::task_number(file, tag);
     let row = plan_reading::checked::task(file, i);
     let k = row.processor;
     let r = folds::wide(q);
@@ -100,7 +100,7 @@ fn request_on(file: &[u8], figures: &[u16], seats: &[u8], state: State, tag: u16
             state: next,
         };
     }
-    let wait = analysis_hold_times::wait_in(file, figures, k, r);
+    let wait = analysis_figures::wait_in(file, figures, k, r);
     Reply {
         answer: Answer::Waits(ahead.count, ahead.holds + (ahead.count as u32 + 1) * wait),
         state: next,

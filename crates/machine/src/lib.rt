@@ -57,7 +57,7 @@ pub fn call(file: &[u8], state: State, call: Call) -> Reply
     ensures { λ r. ⌜ Next (now (file .entry)) state call (r .state) ⌝ }
     ensures { λ r. ⌜ answerOutcome (r .answer) ≡ replyOutcome (now (file .entry)) state call ⌝ }
 {
-    let mut figures = [0u16; analysis_hold_times::FIGURES];
+    let mut figures = [0u16; analysis_figures::FIGURES];
     let code = surveyed::look(file, &mut figures);
     surveyed::call(file, code, &figures, state, call)
 }

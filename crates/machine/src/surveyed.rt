@@ -7,7 +7,7 @@ use machine_state::State;
 ghost use mathlib.Core.Path.{_≡_};
 ghost use mathlib.Core.Logic.{_≢_};
 ghost use lib.ListN.{replicate};
-ghost use Rattle.analysis_hold_times.specs.Figures.{figureCount};
+ghost use Rattle.analysis_figures.specs.Figures.{figureCount};
 ghost use Rattle.machine.specs.Replies.{stateRefusal, reply, Next};
 ghost use Rattle.machine.specs.Inner.{Surveyed};
 

@@ -8,7 +8,7 @@ use Rattle.plan_reading.specs.Plan.{Plan, Valid}
 use Rattle.analysis_equations.specs.Sharing.{processorOf}
 use Rattle.analysis_equations.specs.HoldTimes.{holdAt, budget}
 use Rattle.machine_rules.specs.Machine.{terms}
-use Rattle.analysis_hold_times.specs.Figures.{holdCell, Figures}
+use Rattle.analysis_figures.specs.Figures.{holdCell, Figures}
 use Rattle.queue_ranks.specs.Ranks.{taskRanked}
 use Rattle.folds.proofs.Searches.{on-eq, on-le, find-is}
 use Rattle.queue_ranks.proofs.Ranked.{Ranked, task-rank, task-first, sole, ranks-few, full}

@@ -9,7 +9,7 @@ use Rattle.folds.proofs.Arrays.{by-eq, placed-length, placed-later, placed-at, 
 use Rattle.folds.proofs.Searches.{on-le}
 use Rattle.plan_reading.specs.Plan.{Plan, Valid}
 use Rattle.analysis_equations.specs.Sharing.{processorOf}
-use Rattle.analysis_hold_times.specs.Figures.{Figures}
+use Rattle.analysis_figures.specs.Figures.{Figures}
 use Rattle.machine_state.specs.declared.Standing.{Standing}
 use Rattle.machine_state.specs.Shows.{standing, rank}
 use Rattle.machine_state.specs.Inner.{seat, noSeat, seatCount, keyOf, Keys, Seats, Sized}

@@ -12,7 +12,7 @@ use Rattle.plan_reading.specs.Plan.{Plan, planOf, Checked}
 use Rattle.analysis_equations.specs.Sharing.{processorOf}
 use Rattle.machine_state.specs.declared.Standing.{Standing}
 use Rattle.machine_state.specs.Shows.{noLine, standing, slot, rank}
-use Rattle.analysis_hold_times.specs.Figures.{figureCount, holdCell, budgetCell}
+use Rattle.analysis_figures.specs.Figures.{figureCount, holdCell, budgetCell}
 use Rattle.machine_state.specs.declared.LineRow.{LineRow}
 use Rattle.machine_state.specs.declared.State.{State}
 use Rattle.machine_state.specs.Sound.{sound}

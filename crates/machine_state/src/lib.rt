@@ -8,7 +8,7 @@ ghost use lib.Dec.{eqb};
 ghost use Rattle.folds.specs.Below.{allBelow};
 ghost use Rattle.folds.specs.Bytes.{number, placedBelow};
 ghost use Rattle.plan_reading.specs.Plan.{planOf, Checked};
-ghost use Rattle.analysis_hold_times.specs.Figures.{Known};
+ghost use Rattle.analysis_figures.specs.Figures.{Known};
 ghost use Rattle.machine_state.specs.Shows.{freshState, noLine, standing, noneInLine, inLineAt, movedUp};
 ghost use Rattle.machine_state.specs.Inner.{seat, seatCount, Keys, Seats, taskTest, firstSeat, tailTest, queueTest, clockTest, freeTest, lineTest, stateTest};
 ghost use Rattle.machine_state.specs.Inner.{tasksTest, linesTest, InQueue, Unseated, SeatSized, Sized, TaskSeat, QueueRow, HeadRow, SeatedState};
@@ -249,8 +249,8 @@ fn clock_ok(line: LineRow, figures: &[u16], seats: &[u8], q: usize) -> bool
     let queue = line.queue;
     let head = folds::wide(queue[0]);
     let first = folds::wide(seats[(q * 8 + head) * 64]) - 1;
-    let most = analysis_hold_times::hold_at(figures, first, q);
-    let budget = analysis_hold_times::budget_at(figures, head, q);
+    let most = analysis_figures::hold_at(figures, first, q);
+    let budget = analysis_figures::budget_at(figures, head, q);
     (1 <= left) & (left <= most) & (left <= rest) & (rest <= budget)
 }
 

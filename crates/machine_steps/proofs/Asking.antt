@@ -14,7 +14,7 @@ use Rattle.folds.proofs.Searches.{on-le, find-is}
 use Rattle.machine_steps.proofs.Ready.{seat-task}
 use Rattle.queue_ranks.proofs.Lists.{list-snoc, list-length}
 use Rattle.queue_ranks.proofs.Ranked.{task-rank, ranks-few, full}
-use Rattle.analysis_hold_times.specs.Figures.{holdCell, Figures}
+use Rattle.analysis_figures.specs.Figures.{holdCell, Figures}
 use Rattle.machine_state.specs.declared.Standing.{Standing}
 use Rattle.machine_state.specs.declared.LineRow.{LineRow}
 use Rattle.machine_state.specs.declared.State.{State}

@@ -1,7 +1,7 @@
 -- What the functions rely on, from a sound state and its tables.
 use Rattle.folds.proofs.Ground.{ℕ, _+_, _<_, _≤_, cond, _≡_, _∙_, List, ltb, length, getD, arith, lt-ltb}
 use Rattle.plan_reading.specs.Plan.{Plan, Valid}
-use Rattle.analysis_hold_times.specs.Figures.{Figures}
+use Rattle.analysis_figures.specs.Figures.{Figures}
 use Rattle.queue_ranks.specs.Ranks.{taskRanked}
 use Rattle.queue_ranks.proofs.Ranked.{seated, sole, full}
 use Rattle.machine_state.specs.declared.State.{State}

@@ -11,7 +11,7 @@ use Rattle.folds.specs.Below.{findBelow, sumBelow}
 use Rattle.folds.specs.Each.{eachBelow}
 use Rattle.folds.specs.Words.{wordBelow}
 use Rattle.folds.proofs.Arrays.{stampedBelow}
-use Rattle.analysis_hold_times.specs.Figures.{figureCount, holdCell, budgetCell}
+use Rattle.analysis_figures.specs.Figures.{figureCount, holdCell, budgetCell}
 use Rattle.machine_state.specs.declared.Standing.{Standing}
 use Rattle.machine_state.specs.declared.LineRow.{LineRow}
 use Rattle.machine_state.specs.declared.State.{State}

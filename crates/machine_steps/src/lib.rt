@@ -53,7 +53,7 @@ pub fn ahead_of(figures: &[u16], seats: &[u8], q: usize, k: u8) -> Ahead
                 holds: sum,
             };
         }
-        sum += analysis_hold_times::hold_at(figures, sits - 1, q) as u32;
+        sum += analysis_figures::hold_at(figures, sits - 1, q) as u32;
         j += 1;
     }
     Ahead {
@@ -95,8 +95,8 @@ pub fn join(mut state: State, figures: &[u16], q: u8, i: usize, k: u8, ahead: u8
     state.tasks[i] = row;
     if ahead == 0 {
         let r = folds::wide(q);
-        let hold = analysis_hold_times::hold_at(figures, i, r);
-        let budget = analysis_hold_times::budget_at(figures, folds::wide(k), r);
+        let hold = analysis_figures::hold_at(figures, i, r);
+        let budget = analysis_figures::budget_at(figures, folds::wide(k), r);
         let line = state.lines[r];
         state.lines[r] = push(line, k, hold, budget);
     }
@@ -140,7 +140,7 @@ fn hold_of(figures: &[u16], seats: &[u8], q: usize, k: u8, j: usize) -> u16
     ensures { λ r. ⌜ r ≡ holdOf (now (figures .entry)) (now (seats .entry)) q k j ⌝ }
 {
     let sits = folds::wide(seats[(q * 8 + folds::wide(k)) * 64 + j]);
-    analysis_hold_times::hold_at(figures, sits - 1, q)
+    analysis_figures::hold_at(figures, sits - 1, q)
 }
 
 // The head of a queue of c begins, once the first task of processor `gone` left.
@@ -162,7 +162,7 @@ fn begin(queue: [u8; 8], c: u8, gone: u8, figures: &[u16], seats: &[u8], q: usiz
         queued: c,
         queue,
         hold_left: hold_of(figures, seats, q, k, behind as usize),
-        budget_left: analysis_hold_times::budget_at(figures, folds::wide(k), q),
+        budget_left: analysis_figures::budget_at(figures, folds::wide(k), q),
     }
 }
 

@@ -104,7 +104,7 @@ pub fn call_line(file: &[u8], state: State, bytes: CallBytes, out: &mut [u8]) ->
     ensures { λ r. ⌜ now (out .exit) ≡ bufferUnless (stateRefusal (now (file .entry)) state) (callLine (now (file .entry)) state bytes) (now (out .entry)) ⌝ }
     ensures { λ r. ⌜ StateBeside (r .line .refusal) state (r .state) (AfterBytes (now (file .entry)) state (callIn bytes)) ⌝ }
 {
-    let mut figures = [0u16; analysis_hold_times::FIGURES];
+    let mut figures = [0u16; analysis_figures::FIGURES];
     let code = machine::surveyed::look(file, &mut figures);
     let first = machine::surveyed::state_code(file, code, &figures, state);
     if first != 0 {
@@ -153,7 +153,7 @@ fn none_made(refusal: u8, state: State) -> Batch
 pub fn lines(file: &[u8], state: State, calls: &[u8], out: &mut [u8]) -> Batch
     ensures { λ r. ⌜ Batched (now (file .entry)) state (now (calls .entry)) (now (out .entry)) (now (out .exit)) r ⌝ }
 {
-    let mut figures = [0u16; analysis_hold_times::FIGURES];
+    let mut figures = [0u16; analysis_figures::FIGURES];
     let code = machine::surveyed::look(file, &mut figures);
     let first = machine::surveyed::state_code(file, code, &figures, state);
     let refusal = lines_code(first, calls.len(), out.len());

@@ -13,7 +13,7 @@ use Rattle.analysis_equations.specs.Sharing.{uses, usedOn, global}
 use Rattle.analysis_equations.specs.HoldTimes.{holdTime, holdAt, budget, waitTime}
 use Rattle.analysis_equations.specs.Blocking.{globalCount}
 use Rattle.analysis_equations.proofs.Laws.{asks-not, asks-some, budget-zero, hold-zero, shared-use}
-use Rattle.analysis_hold_times.specs.Figures.{holdCell, budgetCell, Known, Sharer, Place}
+use Rattle.analysis_figures.specs.Figures.{holdCell, budgetCell, Known, Sharer, Place}
 use Rattle.analysis_requirements.specs.declared.Requirement.{Requirement}
 use Rattle.analysis_requirements.specs.Figures.{requirementOf}
 use Rattle.machine_rules.specs.Longest.{fellows, longestWait}

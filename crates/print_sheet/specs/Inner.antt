@@ -7,7 +7,7 @@ use lib.ListN.{length}
 use Rattle.print_text.specs.Text.{PutIn}
 use Rattle.plan_reading.specs.Plan.{planOf}
 use Rattle.analysis_equations.specs.Requirement.{asks, met, admitted}
-use Rattle.analysis_hold_times.specs.Figures.{Known}
+use Rattle.analysis_figures.specs.Figures.{Known}
 use Rattle.analysis_requirements.specs.Terms.{Prepared}
 use Rattle.print_sheet.specs.declared.Required.{Required}
 use Rattle.print_sheet.specs.Sheet.{requirementAt, requirementLines}

@@ -34,7 +34,7 @@ fn put_resource(buf: &mut [u8], at: usize, file: &[u8], figures: &[u16], q: u8) 
     requires { ⌜ Cell (now file) (now figures) (now buf) at resourceRoom q ⌝ }
     ensures { λ r. ⌜ PutIn (now (buf .entry)) (now (buf .exit)) at resourceRoom (resourceAt (now (file .entry)) q) r ⌝ }
 {
-    let shared = analysis_hold_times::is_global(file, figures, folds::wide(q));
+    let shared = analysis_figures::is_global(file, figures, folds::wide(q));
     let name = Field::Name(q);
     let reach = print_lines::either(shared, Word::Global, Word::Local);
     put_line(
@@ -67,11 +67,11 @@ fn put_budget_at(buf: &mut [u8], at: usize, file: &[u8], figures: &[u16], k: u8,
     ensures { λ r. ⌜ PutIn (now (buf .entry)) (now (buf .exit)) at budgetRoom (budgetAt (now (file .entry)) k q) r ⌝ }
 {
     let column = folds::wide(q);
-    let budget = analysis_hold_times::budget_at(figures, folds::wide(k), column);
+    let budget = analysis_figures::budget_at(figures, folds::wide(k), column);
     if budget == 0 {
         return at;
     }
-    let wait = analysis_hold_times::wait_in(file, figures, k, column);
+    let wait = analysis_figures::wait_in(file, figures, k, column);
     let core = Field::Number(k as u64);
     let name = Field::Name(q);
     let most = Field::Number(budget as u64);
@@ -121,7 +121,7 @@ fn put_hold_at(buf: &mut [u8], at: usize, file: &[u8], figures: &[u16], i: usize
     ensures { λ r. ⌜ PutIn (now (buf .entry)) (now (buf .exit)) at holdRoom (holdLineAt (now (file .entry)) i q) r ⌝ }
 {
     let column = folds::wide(q);
-    let hold = analysis_hold_times::hold_at(figures, i, column);
+    let hold = analysis_figures::hold_at(figures, i, column);
     if hold == 0 {
         return at;
     }
@@ -293,7 +293,7 @@ fn put_plan_sheet(buf: &mut [u8], file: &[u8]) -> usize
     requires { ⌜ (Checked (now file)) × (mostSheet ≤ length (now buf)) ⌝ }
     ensures { λ r. ⌜ PutIn (now (buf .entry)) (now (buf .exit)) 0 mostSheet (planSheet (now (file .entry))) r ⌝ }
 {
-    let mut figures = [0u16; analysis_hold_times::FIGURES];
+    let mut figures = [0u16; analysis_figures::FIGURES];
     analysis_hold_times::fill_figures(file, &mut figures);
     put_parts(buf, file, &figures)
 }

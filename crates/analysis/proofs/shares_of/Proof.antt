@@ -2,7 +2,7 @@
 use Rattle.folds.proofs.Ground.{ap, _∙_, arith, needs}
 use Rattle.plan_reading.proofs.Laws.{valid-plan}
 use Rattle.analysis_equations.specs.HoldTimes.{waitTime}
-use Rattle.analysis_hold_times.proofs.Rows.{budget-of}
+use Rattle.analysis_figures.proofs.Cells.{budget-of}
 use Rattle.analysis.proofs.shares_of.Statement.{statement}
 use Rattle.analysis.proofs.shares_of.Tie as tie
 

@@ -1,7 +1,7 @@
 -- The invariant: the flags of the resources below `q` are in place.
 use Rattle.folds.proofs.Ground.{ℕ, _≤_, _-_, Bool, cond, _≡_, sym, ap, _∙_, length-replicate, arith, needs}
 use Rattle.plan_reading.specs.Plan.{planOf}
-use Rattle.analysis_hold_times.specs.Figures.{Known}
+use Rattle.analysis_figures.specs.Figures.{Known}
 use Rattle.analysis_requirements.specs.Inner.{TermsBelow}
 use Rattle.analysis_requirements.proofs.Terms.{terms-none, terms-shared}
 use Rattle.analysis_requirements.proofs.put_shared.Statement.{statement}

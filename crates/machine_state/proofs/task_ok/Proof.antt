@@ -1,7 +1,7 @@
 -- A task in the first place has its own seat looked at twice.
 use Rattle.folds.proofs.Ground.{ℕ, _+_, _*_, _-_, _/_, _%_, _≤_, Bool, true, false, _&&_, _||_, _≡_, refl, sym, ap, _∙_, List, eqb, leb, ltb, getD, arith, eq-eqb, ne-eqb, eqb-true, ltb-true, ltb-false, le-leb, needs}
 use mir.Val.{boolByte}
-use Rattle.analysis_hold_times.specs.Figures.{holdCell}
+use Rattle.analysis_figures.specs.Figures.{holdCell}
 use Rattle.machine_state.specs.Inner.{noSeat, taskTest}
 use Rattle.machine_state.proofs.task_ok.Statement.{statement}
 use Rattle.machine_state.proofs.task_ok.Tie as tie

@@ -5,8 +5,8 @@ use Rattle.folds.proofs.Figures.{max-step, max-done}
 use Rattle.plan_reading.specs.Plan.{planOf}
 use Rattle.analysis_equations.specs.Sharing.{sectionOn}
 use Rattle.analysis_equations.specs.HoldTimes.{longestOn}
-use Rattle.analysis_hold_times.proofs.longest_on.Statement.{statement}
-use Rattle.analysis_hold_times.proofs.longest_on.Tie as tie
+use Rattle.analysis_figures.proofs.longest_on.Statement.{statement}
+use Rattle.analysis_figures.proofs.longest_on.Tie as tie
 
 abbrev Inv-loop : tie.InvT-loop
 Inv-loop file i q n best₀ s₀ best s = (s ≤ n) × (n ≡ planOf file .sections) × (best ≡ maxBelow s (λ k. cond (sectionOn (planOf file) i q k) (planOf file .section k .length) 0))

@@ -3,9 +3,9 @@ use Rattle.folds.proofs.Ground.{_*_, _-_, _≤_, _≡_, refl, arith, needs}
 use Rattle.folds.specs.Below.{sumBelow}
 use Rattle.plan_reading.specs.Plan.{planOf}
 use Rattle.plan_reading.proofs.Laws.{valid-plan}
-use Rattle.analysis_hold_times.proofs.Waits.{othersBelow, others-step, others-done}
-use Rattle.analysis_hold_times.proofs.wait_in.Statement.{statement}
-use Rattle.analysis_hold_times.proofs.wait_in.Tie as tie
+use Rattle.analysis_figures.proofs.Waits.{othersBelow, others-step, others-done}
+use Rattle.analysis_figures.proofs.wait_in.Statement.{statement}
+use Rattle.analysis_figures.proofs.wait_in.Tie as tie
 
 abbrev Inv-loop : tie.InvT-loop
 Inv-loop file figures k q m sum₀ l₀ sum l = (l ≤ m) × (m ≤ 8) × (sum ≡ othersBelow (planOf file) k q l) × (sum ≤ l * 65535)

@@ -4,9 +4,9 @@ use Rattle.plan_reading.specs.Plan.{Valid, planOf}
 use Rattle.plan_reading.proofs.Laws.{valid-plan}
 use Rattle.analysis_equations.specs.HoldTimes.{holdAt}
 use Rattle.analysis_equations.proofs.Laws.{unknown-tag, unknown-resource, use-told, shared-use}
-use Rattle.analysis_hold_times.proofs.Rows.{hold-of}
-use Rattle.analysis_hold_times.proofs.user_in.Statement.{statement}
-use Rattle.analysis_hold_times.proofs.user_in.Tie as tie
+use Rattle.analysis_figures.proofs.Cells.{hold-of}
+use Rattle.analysis_figures.proofs.user_in.Statement.{statement}
+use Rattle.analysis_figures.proofs.user_in.Tie as tie
 
 -- ── where the task and the resource are there ──
 abbrev start : tie.After-hold-at → tie.Start

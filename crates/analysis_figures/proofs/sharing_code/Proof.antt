@@ -2,8 +2,8 @@
 use Rattle.folds.proofs.Ground.{sym, _∙_, arith}
 use Rattle.plan_reading.proofs.Laws.{valid-plan}
 use Rattle.analysis_equations.proofs.Laws.{not-used, not-shared}
-use Rattle.analysis_hold_times.proofs.sharing_code.Statement.{statement}
-use Rattle.analysis_hold_times.proofs.sharing_code.Tie as tie
+use Rattle.analysis_figures.proofs.sharing_code.Statement.{statement}
+use Rattle.analysis_figures.proofs.sharing_code.Tie as tie
 
 returns : tie.Need-returns
 returns c =

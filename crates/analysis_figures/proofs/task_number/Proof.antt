@@ -4,8 +4,8 @@ use Rattle.folds.specs.Below.{allBelow}
 use Rattle.folds.proofs.Tests.{all-more, find-at, find-none}
 use Rattle.plan_reading.specs.Plan.{planOf}
 use Rattle.analysis_equations.specs.Questions.{taskNumber}
-use Rattle.analysis_hold_times.proofs.task_number.Statement.{statement}
-use Rattle.analysis_hold_times.proofs.task_number.Tie as tie
+use Rattle.analysis_figures.proofs.task_number.Statement.{statement}
+use Rattle.analysis_figures.proofs.task_number.Tie as tie
 
 abbrev Inv-loop : tie.InvT-loop
 Inv-loop file tag n j₀ j = (j ≤ n) × (n ≡ planOf file .tasks) × (allBelow j (λ k. not (eqb (planOf file .task k .tag) tag)) ≡ true)

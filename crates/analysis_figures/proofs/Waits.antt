@@ -4,7 +4,7 @@ use Rattle.folds.specs.Below.{sumBelow}
 use Rattle.folds.proofs.Figures.{sum-step, sum-done}
 use Rattle.plan_reading.specs.Plan.{Plan}
 use Rattle.analysis_equations.specs.HoldTimes.{budget, waitTime}
-use Rattle.analysis_hold_times.specs.Figures.{budgetCell, Figures}
+use Rattle.analysis_figures.specs.Figures.{budgetCell, Figures}
 
 module _ (p : Plan) (k q : ℕ) where
   -- the sum of the budgets on q of the processors below l that are not k

@@ -6,8 +6,8 @@ use Rattle.plan_reading.specs.Plan.{planOf}
 use Rattle.plan_reading.proofs.Laws.{valid-plan}
 use Rattle.analysis_equations.specs.HoldTimes.{holdAt}
 use Rattle.analysis_equations.proofs.Laws.{global-at, global-not}
-use Rattle.analysis_hold_times.proofs.is_global.Statement.{statement}
-use Rattle.analysis_hold_times.proofs.is_global.Tie as tie
+use Rattle.analysis_figures.proofs.is_global.Statement.{statement}
+use Rattle.analysis_figures.proofs.is_global.Tie as tie
 
 abbrev Inv-loop : tie.InvT-loop
 Inv-loop file figures q n i₀ i =

@@ -4,9 +4,9 @@ use Rattle.plan_rules.specs.declared.TaskRow.{TaskRow}
 use Rattle.plan_reading.specs.Plan.{planOf}
 use Rattle.plan_reading.proofs.Laws.{valid-plan}
 use Rattle.analysis_equations.specs.Sharing.{processorOf}
-use Rattle.analysis_hold_times.proofs.Counting.{Counted, counted-none, counted-more, counted-all}
-use Rattle.analysis_hold_times.proofs.fellows_of.Statement.{statement}
-use Rattle.analysis_hold_times.proofs.fellows_of.Tie as tie
+use Rattle.analysis_figures.proofs.Counting.{Counted, counted-none, counted-more, counted-all}
+use Rattle.analysis_figures.proofs.fellows_of.Statement.{statement}
+use Rattle.analysis_figures.proofs.fellows_of.Tie as tie
 
 abbrev Inv-loop : tie.InvT-loop
 Inv-loop file figures i q n k count₀ sum₀ j₀ count sum j =

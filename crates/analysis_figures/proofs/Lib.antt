@@ -1,0 +1,3 @@
+pub mod Cells
+pub mod Waits
+pub mod Counting
