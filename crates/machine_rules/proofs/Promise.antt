@@ -25,8 +25,8 @@ module _ (p : Plan) where
   told-waits i q (line h b []) a m new e = absurd (true≢false cc)
   told-waits i q (line h b (x ∷ rest)) a m new e =
       record {
-        waits = rw (entered-stands (terms p q) i h b (x ∷ rest), entered-waits (terms p q) i h b x rest new);
-        bound = ap (limit (terms p q) i) (entered-ahead (terms p q) i h b (x ∷ rest) new) ∙ cc;
+        waits = rw (entered-stands (terms p q) i (line h b (x ∷ rest)), entered-waits (terms p q) i h b x rest new);
+        bound = ap (limit (terms p q) i) (entered-ahead (terms p q) i (line h b (x ∷ rest)) new) ∙ cc;
       }
 
   request-waits : (s : View) (tag q a m : ℕ) → answer p s (Request tag q) ≡ Waits a m → WaitsIn (taskNumber p tag) q (step p s (Request tag q) .lines q) m

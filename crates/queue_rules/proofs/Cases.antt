@@ -3,6 +3,10 @@ use Rattle.folds.proofs.Ground.{ℕ, _≤_, Bool, true, false, cond, _||_, true
 use Rattle.queue_rules.specs.Rules.{Terms, Turn, turn, Line, goOn, sendBack, leave}
 
 -- a proof for each outcome of a test
+pub on-test : (b : Bool) {C : Type 0} → (b ≡ true → C) → (b ≡ false → C) → C
+on-test true f g = f refl
+on-test false f g = g refl
+
 pub by-test : {A : Type 0} (R : A → Type 0) (b : Bool) {x y : A} → (b ≡ true → R x) → (b ≡ false → R y) → R (cond b x y)
 by-test R true f g = f refl
 by-test R false f g = g refl

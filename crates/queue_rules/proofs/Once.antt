@@ -7,6 +7,7 @@ use Rattle.folds.proofs.Arrays.{by-eq}
 use Rattle.queue_rules.specs.Rules.{Terms, Turn, turn, Line, line, among, standsIn, tasksOf, queueOf, aheadOf, sumOf, begin, join, entered, leave, released, ticked, limit}
 use Rattle.queue_rules.proofs.Cases.{by-test, by-leave, or-no}
 use Rattle.queue_rules.proofs.Sound.{among-last, but, but-lt, Owns, Proper, nobody, stands}
+use Rattle.queue_rules.proofs.FirstCome.{entered-queue, begun-queue}
 use Rattle.queue_rules.proofs.Lists.{list-sum, sum-ones}
 
 -- no task is in the list twice
@@ -41,19 +42,15 @@ module _ (t : Terms) where
       let n = or-no (among v (u ∷ us)) (standsIn v rest) a in
       by-test EachOnce (eqb k (t .processor v)) (λ e. next (once-last v (n .0) o) r) (λ e. next o (each-join v (n .1) r))
 
-  each-begin : {q : List Turn} → EachOnce q → EachOnce (queueOf (begin t q))
-  each-begin empty = empty
-  each-begin (next o r) = next o r
-
   each-leave : (b : ℕ) {q : List Turn} → EachOnce q → EachOnce (queueOf (leave t b q))
   each-leave b empty = empty
-  each-leave b (next {us = []} o r) = each-begin r
+  each-leave b (next {us = []} {rest = rest} o r) = rw (begun-queue t rest) r
   each-leave b (next {k = k} {u = u} {us = v ∷ vs} {rest = rest} o r) =
-      by-leave t (λ l. EachOnce (queueOf l)) b k u v vs rest (λ _. next (once-rest o) r) (each-begin (each-last k v vs (once-rest o) r))
+      by-leave t (λ l. EachOnce (queueOf l)) b k u v vs rest (λ _. next (once-rest o) r)
+      (rw (begun-queue t (rest ++ (turn k v vs ∷ []))) (each-last k v vs (once-rest o) r))
 
   pub each-entered : (i : ℕ) (l : Line) → standsIn i (queueOf l) ≡ false → EachOnce (queueOf l) → EachOnce (queueOf (entered t i l))
-  each-entered i (line h b []) a o = each-begin (each-join i {q = []} a o)
-  each-entered i (line h b (x ∷ rest)) a o = each-join i a o
+  each-entered i l a o = rw (entered-queue t i l) (each-join i a o)
 
   pub each-released : (l : Line) → EachOnce (queueOf l) → EachOnce (queueOf (released t l))
   each-released (line h b queue) o = each-leave b o

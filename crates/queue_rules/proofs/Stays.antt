@@ -6,24 +6,11 @@ use Rattle.queue_rules.specs.Rules.{Terms, Turn, turn, Line, line, queue
 use Rattle.queue_rules.proofs.Cases.{by-test}
 use Rattle.queue_rules.proofs.Sound.{Fits, among-last, Proper, stands, Sound, is-free, is-held, sound-queue}
 use Rattle.queue_rules.proofs.Moves.{sound-leave}
-use Rattle.queue_rules.proofs.FirstCome.{first-served}
+use Rattle.queue_rules.proofs.FirstCome.{join-stands, first-served}
 use Rattle.queue_rules.proofs.Own.{own-stands}
 use Rattle.queue_rules.proofs.Once.{more, EachOnce, next}
 
 module _ (t : Terms) (known : ℕ → Bool) (procs : ℕ) (i : ℕ) where
-  -- who joined stands in line beside those that did
-  pub join-stands : (j : ℕ) (q : List Turn) → standsIn i (join t j q) ≡ (standsIn i q || eqb j i)
-  join-stands j [] = or-false (eqb j i || false) ∙ or-false (eqb j i)
-  join-stands j (turn k u us ∷ q) =
-      by-test (λ z. standsIn i z ≡ ((among i (u ∷ us) || standsIn i q) || eqb j i)) (eqb k (t .processor j))
-      (λ _. rw (among-last i j (u ∷ us)) (swap (among i (u ∷ us)) (eqb j i) (standsIn i q)))
-      (λ _. rw (join-stands j q) (sym (or-assoc (among i (u ∷ us)) (standsIn i q) (eqb j i))))
-    where
-      swap : (a b c : Bool) → ((a || b) || c) ≡ ((a || c) || b)
-      swap true b c = refl
-      swap false b true = or-true b
-      swap false b false = or-false b
-
   -- a task that waits once j has come waited before, or is j
   pub entered-waiting : (j : ℕ) (l : Line) → waiting i (entered t j l) ≡ true → (waiting i l ≡ true) ⊎ (j ≡ i)
   entered-waiting j (line h b []) w =
@@ -31,7 +18,7 @@ module _ (t : Terms) (known : ℕ → Bool) (procs : ℕ) (i : ℕ) where
       inr (eqb-true j i (sym (or-false (eqb j i)) ∙ (sym (or-false (eqb j i || false)) ∙ x .0)))
   entered-waiting j (line h b (turn k u us ∷ rest)) w =
       by-test (λ z. waiting i (line h b z) ≡ true → standsIn i z ≡ (standsIn i (turn k u us ∷ rest) || eqb j i) → Out) (eqb k (t .processor j))
-      (λ _. came) (λ _. came) w (join-stands j (turn k u us ∷ rest))
+      (λ _. came) (λ _. came) w (join-stands t i j (turn k u us ∷ rest))
     where
       Out : Type 0
       Out = (waiting i (line h b (turn k u us ∷ rest)) ≡ true) ⊎ (j ≡ i)
