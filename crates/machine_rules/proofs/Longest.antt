@@ -10,7 +10,7 @@ use Rattle.analysis_equations.specs.Sharing.{processorOf, uses, global}
 use Rattle.analysis_equations.specs.HoldTimes.{holdTime, holdAt, fellow, waitTime}
 use Rattle.analysis_equations.specs.Blocking.{fellowHolds}
 use Rattle.analysis_equations.specs.Questions.{taskNumber, useCode}
-use Rattle.analysis_equations.proofs.Laws.{uses-out}
+use Rattle.analysis_equations.proofs.Laws.{fellow-hold}
 use Rattle.queue_rules.specs.Rules.{Line, line, among, inLine, tasksOf, queueOf, sumOf, aheadIn, limit}
 use Rattle.queue_rules.proofs.Lists.{list-length, list-sum}
 use Rattle.queue_rules.proofs.Sound.{sound-queue}
@@ -21,9 +21,9 @@ use Rattle.machine_rules.specs.declared.Call.the-variants.{Request}
 use Rattle.machine_rules.specs.Machine.{View, terms, requestCode, callCode, requestAnswer, acceptedAnswer, answer, after}
 use Rattle.machine_rules.specs.Waiting.{Event, Bounded, Asked}
 use Rattle.machine_rules.specs.Longest.{fellows, longestWait, NeverLonger}
-use Rattle.machine_rules.proofs.SoundLines.{known, SoundAt, accepted}
+use Rattle.machine_rules.proofs.SoundLines.{known, SoundAt, accepted, known-sharing}
 use Rattle.machine_rules.proofs.OnceLines.{Orderly, orderly-after}
-use Rattle.machine_rules.proofs.Promise.{all-served}
+use Rattle.machine_rules.proofs.Promise.{told, all-served}
 
 module _ (p : Plan) where
   -- how many fellows there are, and their hold times added up
@@ -31,26 +31,13 @@ module _ (p : Plan) where
   unfolding fellows
   fellows-count i q = list-length (p .tasks) (fellow p i q)
 
-  -- a fellow's hold time, where q is global
-  pub fellow-hold : (i q j : ℕ) → global p q ≡ true → cond (fellow p i q j) (holdAt p j q) 0 ≡ cond (fellow p i q j) (holdTime p j q) 0
-  unfolding holdAt
-  fellow-hold i q j g = go (eqb (processorOf p j) (processorOf p i)) (uses p j q) (not (eqb j i))
-    where
-      go : (a u c : Bool) → cond ((a && u) && c) (cond (global p q && u) (holdTime p j q) 0) 0 ≡ cond ((a && u) && c) (holdTime p j q) 0
-      go true true c = rw g
-      go true false c = refl
-      go false u c = refl
-
-  pub fellows-holds : (i q : ℕ) → global p q ≡ true → sumOf (λ j. holdAt p j q) (fellows p i q) ≡ fellowHolds p i q
-  unfolding fellows fellowHolds
-  fellows-holds i q g =
-      list-sum (λ j. holdAt p j q) (p .tasks) (fellow p i q) ∙ sum-same (p .tasks) _ _ (λ j l. fellow-hold i q j g)
-
   -- the longest wait in figures: the sum of the fellows' hold times, and one wait time more than there are fellows
   pub longest-figures : (i q : ℕ) → global p q ≡ true
       → longestWait p i q ≡ fellowHolds p i q + (length (fellows p i q) + 1) * waitTime p (processorOf p i) q
-  unfolding longestWait
-  longest-figures i q g = ap (λ (x : ℕ). x + (length (fellows p i q) + 1) * waitTime p (processorOf p i) q) (fellows-holds i q g)
+  unfolding longestWait fellows fellowHolds
+  longest-figures i q g =
+      ap (λ (x : ℕ). x + (length (fellows p i q) + 1) * waitTime p (processorOf p i) q)
+      (list-sum (λ j. holdAt p j q) (p .tasks) (fellow p i q) ∙ sum-same (p .tasks) _ _ (λ j l. fellow-hold p i q j g))
 
 module _ (p : Plan) (v : Valid p) where
   -- a task of its processor that is in line, and another, is a fellow
@@ -58,8 +45,8 @@ module _ (p : Plan) (v : Valid p) where
       → (j : ℕ) → among j (tasksOf (processorOf p i) (queueOf l)) ≡ true → (j ≡ i → ⊥) → (j < p .tasks) × (fellow p i q j ≡ true)
   line-fellows i q w j a d =
       let x = tasks-own (terms p q) (known p q) (p .processors) j (processorOf p i) (sound-queue (terms p q) (known p q) (p .processors) w) a in
-      let used = and-parts (global p q) (uses p j q) (x .1) .1 in
-      (uses-out p j q _ used (λ s m t r. rw (← t) (v .section-fits s m .task)), rw (eq-eqb _ _ (x .0), used, ne-eqb j i d))
+      let r = known-sharing p v j q (x .1) in
+      (r .task, rw (eq-eqb _ _ (x .0), r .used, ne-eqb j i d))
 
   -- with some fellows ahead, each once, the limit is at most the longest wait
   record AtMost (i q ahead most : ℕ) : Type 0 where
@@ -92,23 +79,14 @@ module _ (p : Plan) (v : Valid p) where
       (λ j c. let x = ahead-among i j (tasksOf (processorOf p i) (queueOf l)) c in line-fellows i q w j (x .0) (x .1)) .short
 
   request-most : (s : View) (tag q a m : ℕ) → Orderly p s → answer p s (Request tag q) ≡ Waits a m → AtMost (taskNumber p tag) q a m
-  unfolding answer
-  request-most s tag q a m o =
-      by-eq
-      (λ (d : Bool). cond d (acceptedAnswer p s (Request tag q)) (Refused (callCode p s (Request tag q))) ≡ Waits a m → AtMost (taskNumber p tag) q a m)
-      (callCode p s (Request tag q)) 0
-      (λ e x. told-most (taskNumber p tag) q a m (s .lines q) (o .sound q) (o .once q) (accepted p s tag q e .new) x)
-      (λ n x. absurd (true≢false cc))
+  request-most s tag q a m o e =
+      let t = told p s tag q a m e in
+      told-most (taskNumber p tag) q a m (s .lines q) (o .sound q) (o .once q) (accepted p s tag q (t .code) .new) (t .waits)
 
   -- a request that waits is one of which the question is not refused
   pub waits-asked : (s : View) (tag q a m : ℕ) → answer p s (Request tag q) ≡ Waits a m → useCode p tag q ≡ 0
-  unfolding answer requestCode
-  waits-asked s tag q a m =
-      by-eq
-      (λ (d : Bool). cond d (acceptedAnswer p s (Request tag q)) (Refused (callCode p s (Request tag q))) ≡ Waits a m → useCode p tag q ≡ 0)
-      (callCode p s (Request tag q)) 0
-      (λ e x. first-zero (useCode p tag q) _ e)
-      (λ n x. absurd (true≢false cc))
+  unfolding requestCode
+  waits-asked s tag q a m e = first-zero (useCode p tag q) _ (told p s tag q a m e .code)
 
   -- a wait that is bounded is bounded by more
   bounded-more : {e g : Event p} {s : View} {cs : List Call} {m n : ℕ} → m ≤ n → Bounded p e g s cs m → Bounded p e g s cs n

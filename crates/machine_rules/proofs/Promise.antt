@@ -16,6 +16,19 @@ use Rattle.machine_rules.proofs.Bounds.{served-from}
 use Rattle.machine_rules.proofs.Since.{after-last, each-task, each-core}
 
 module _ (p : Plan) where
+  -- a request that is told to wait is not refused
+  pub record Told (s : View) (tag q a m : ℕ) : Type 0 where
+    pub code : callCode p s (Request tag q) ≡ 0
+    pub waits : requestAnswer p (taskNumber p tag) q (s .lines q) ≡ Waits a m
+
+  pub told : (s : View) (tag q a m : ℕ) → answer p s (Request tag q) ≡ Waits a m → Told s tag q a m
+  unfolding answer
+  told s tag q a m =
+      let c : Call = Request tag q in
+      by-eq (λ (d : Bool). cond d (acceptedAnswer p s c) (Refused (callCode p s c)) ≡ Waits a m → Told s tag q a m) (callCode p s c) 0
+      (λ e x. record { code = e; waits = x })
+      (λ n x. absurd (true≢false cc))
+
   -- task i waits in l, at most so long
   record WaitsIn (i q : ℕ) (l : Line) (most : ℕ) : Type 0 where
     waits : waiting i l ≡ true
@@ -30,13 +43,10 @@ module _ (p : Plan) where
       }
 
   request-waits : (s : View) (tag q a m : ℕ) → answer p s (Request tag q) ≡ Waits a m → WaitsIn (taskNumber p tag) q (step p s (Request tag q) .lines q) m
-  unfolding answer step
-  request-waits s tag q a m =
-      let i : ℕ = taskNumber p tag in
-      let c : Call = Request tag q in
-      by-eq (λ (d : Bool). cond d (acceptedAnswer p s c) (Refused (callCode p s c)) ≡ Waits a m → WaitsIn i q (cond d (effect p s c) s .lines q) m) (callCode p s c) 0
-      (λ e x. rw (eq-eqb q q refl) (told-waits i q (s .lines q) a m (accepted p s tag q e .new) x))
-      (λ n x. absurd (true≢false cc))
+  unfolding step
+  request-waits s tag q a m e =
+      let t = told s tag q a m e in
+      rw (t .code, eq-eqb q q refl) (told-waits (taskNumber p tag) q (s .lines q) a m (accepted p s tag q (t .code) .new) (t .waits))
 
 module _ (p : Plan) (v : Valid p) (s : View) (o : Orderly p s) where
   -- lines that are sound wherever the list has come

@@ -19,42 +19,26 @@ after-last p s [] c = refl
 after-last p s (d ∷ cs) c = after-last p (step p s d) cs c
 
 -- A wait that is seen in a state, which a call ends by event e, and that begins by calls of which `Begins` tells
-module _ (p : Plan) (v : Valid p) (seen : View → Bool) (e : Event p) (Begins : View → Call → Type 0)
-    (goes-on : (s : View) (c : Call) → seen (step p s c) ≡ true → e s c ≡ false)
-    (begins : (s : View) (c : Call) → Orderly p s → seen (step p s c) ≡ true → (seen s ≡ true) ⊎ Begins s c) where
-  -- a call by which it began, and the calls since
-  record Began (s : View) (cs : List Call) : Type 0 where
-    before : List Call
-    call : Call
-    since : List Call
-    list : cs ≡ before ++ (call ∷ since)
-    begun : Begins (after p s before) call
-    went : seen (step p (after p s before) call) ≡ true
-    still : occurs p e (step p (after p s before) call) since ≡ false
+module _ (p : Plan) (seen : View → Bool) (e : Event p) (Begins : View → Call → Type 0) where
+  -- it goes on since the start, or since a call by which it began
+  data Since (s : View) (cs : List Call) : Type 0 where
+    at-start : seen s ≡ true → occurs p e s cs ≡ false → Since s cs
+    by-call : (before : List Call) (call : Call) (since : List Call) → cs ≡ before ++ (call ∷ since) → Begins (after p s before) call
+        → seen (step p (after p s before) call) ≡ true → occurs p e (step p (after p s before) call) since ≡ false → Since s cs
 
-  began : (s : View) (cs : List Call) → Orderly p s → seen (after p s cs) ≡ true
-      → ((seen s ≡ true) × (occurs p e s cs ≡ false)) ⊎ Began s cs
-  began s [] o w = inl (w, refl)
-  began s (c ∷ cs) o w = go (began (step p s c) cs (orderly-step p v s c o) w)
-    where
-      here : seen (step p s c) ≡ true → occurs p e (step p s c) cs ≡ false → (seen s ≡ true) ⊎ Begins s c
-          → ((seen s ≡ true) × (occurs p e s (c ∷ cs) ≡ false)) ⊎ Began s (c ∷ cs)
-      here x y (inl h) = inl (h, rw (goes-on s c x, y))
-      here x y (inr h) = inr (record { before = []; call = c; since = cs; list = refl; begun = h; went = x; still = y })
+  module _ (v : Valid p) (goes-on : (s : View) (c : Call) → seen (step p s c) ≡ true → e s c ≡ false)
+      (begins : (s : View) (c : Call) → Orderly p s → seen (step p s c) ≡ true → (seen s ≡ true) ⊎ Begins s c) where
+    seen-since : (s : View) (cs : List Call) → Orderly p s → seen (after p s cs) ≡ true → Since s cs
+    seen-since s [] o w = at-start w refl
+    seen-since s (c ∷ cs) o w = go (seen-since (step p s c) cs (orderly-step p v s c o) w)
+      where
+        here : seen (step p s c) ≡ true → occurs p e (step p s c) cs ≡ false → (seen s ≡ true) ⊎ Begins s c → Since s (c ∷ cs)
+        here x y (inl h) = at-start h (rw (goes-on s c x, y))
+        here x y (inr h) = by-call [] c cs refl h x y
 
-      go : ((seen (step p s c) ≡ true) × (occurs p e (step p s c) cs ≡ false)) ⊎ Began (step p s c) cs
-          → ((seen s ≡ true) × (occurs p e s (c ∷ cs) ≡ false)) ⊎ Began s (c ∷ cs)
-      go (inl h) = here (h .0) (h .1) (begins s c o (h .0))
-      go (inr h) =
-          inr (record {
-            before = c ∷ h .before;
-            call = h .call;
-            since = h .since;
-            list = ap (λ (l : List Call). c ∷ l) (h .list);
-            begun = h .begun;
-            went = h .went;
-            still = h .still;
-          })
+        go : Since (step p s c) cs → Since s (c ∷ cs)
+        go (at-start x y) = here x y (begins s c o x)
+        go (by-call before d since l b x y) = by-call (c ∷ before) d since (ap (λ (l : List Call). c ∷ l) l) b x y
 
 module _ (p : Plan) (v : Valid p) where
   -- ── tasks ──
@@ -98,25 +82,21 @@ module _ (p : Plan) (v : Valid p) where
   -- each task that waits has asked
   pub each-task : (s : View) (calls : List Call) → Orderly p s → (i q : ℕ) → waiting i (after p s calls .lines q) ≡ true → TaskSince p s calls i q
   each-task s calls o i q w =
-      go (began p v (λ s. waiting i (s .lines q)) (grants p i q) (λ s c. Requests s i q c) goes (task-begins i q) s calls o w)
+      go (seen-since p (λ s. waiting i (s .lines q)) (grants p i q) (λ s c. Requests s i q c) v goes (task-begins i q) s calls o w)
     where
       goes : (s : View) (c : Call) → waiting i (step p s c .lines q) ≡ true → grants p i q s c ≡ false
       goes s c x =
-          let y = not-true (holds i (step p s c .lines q)) (and-parts (inLine i (step p s c .lines q)) _ x .1) in rw y (and-false (not (holds i (s .lines q))))
+          let l = step p s c .lines q in rw (not-true (holds i l) (and-parts (inLine i l) _ x .1)) (and-false (not (holds i (s .lines q))))
 
-      out : (before since : List Call) (c : Call) → calls ≡ before ++ (c ∷ since) → Requests (after p s before) i q c
-          → occurs p (grants p i q) (step p (after p s before) c) since ≡ false → StillWaits p s calls i q
-      out before since _ l (requests {tag = tag} {a = a} {m = m} e t) n =
-          record {
+      go : Since p (λ s. waiting i (s .lines q)) (grants p i q) (λ s c. Requests s i q c) s calls → TaskSince p s calls i q
+      go (at-start x y) = task-since-start x y
+      go (by-call before _ since l (requests {tag = tag} {a = a} {m = m} e t) x y) =
+          asked-since (record {
             tag = tag;
             task = e;
             request = record { before = before; since = since; list = l; ahead = a; limit = m; answered = t };
-            still = rw (after-last p s before (Request tag q)) n;
-          }
-
-      go : ((waiting i (s .lines q) ≡ true) × (occurs p (grants p i q) s calls ≡ false)) ⊎ Began p v _ _ _ goes (task-begins i q) s calls → TaskSince p s calls i q
-      go (inl h) = task-since-start (h .0) (h .1)
-      go (inr h) = asked-since (out (h .before) (h .since) (h .call) (h .list) (h .begun) (h .still))
+            still = rw (after-last p s before (Request tag q)) y;
+          })
 
   -- ── cores ──
 
@@ -135,19 +115,15 @@ module _ (p : Plan) (v : Valid p) where
   -- each core that is without the resource came to the queue, or was sent to its tail
   pub each-core : (s : View) (calls : List Call) → Orderly p s → (k q : ℕ) → without k (after p s calls .lines q) ≡ true → CoreSince p s calls k q
   each-core s calls o k q w =
-      go (began p v (λ s. without k (s .lines q)) (ends p k q) (Comes k q) goes (core-begins k q) s calls o w)
+      go (seen-since p (λ s. without k (s .lines q)) (ends p k q) (Comes k q) v (λ s c x. rw x) (core-begins k q) s calls o w)
     where
-      goes : (s : View) (c : Call) → without k (step p s c .lines q) ≡ true → ends p k q s c ≡ false
-      goes s c x = rw x
-
-      go : ((without k (s .lines q) ≡ true) × (occurs p (ends p k q) s calls ≡ false)) ⊎ Began p v (λ s. without k (s .lines q)) (ends p k q) (Comes k q) goes (core-begins k q) s calls
-          → CoreSince p s calls k q
-      go (inl h) = core-since-start (h .0) (h .1)
-      go (inr h) =
-          let last = after-last p s (h .before) (h .call) in
+      go : Since p (λ s. without k (s .lines q)) (ends p k q) (Comes k q) s calls → CoreSince p s calls k q
+      go (at-start x y) = core-since-start x y
+      go (by-call before c since l b x y) =
+          let last = after-last p s before c in
           sent-since (record {
-            sent = record { before = h .before; call = h .call; since = h .since; list = h .list; came = h .begun; went = rw last (h .went) };
-            still = rw last (h .still);
+            sent = record { before = before; call = c; since = since; list = l; came = b; went = rw last x };
+            still = rw last y;
           })
 
   -- from a fresh machine on
