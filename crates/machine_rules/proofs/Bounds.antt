@@ -4,18 +4,17 @@ use Rattle.folds.proofs.Tests.{and-parts}
 use Rattle.plan_reading.specs.Plan.{Plan, Valid}
 use Rattle.analysis_equations.specs.Sharing.{processorOf}
 use Rattle.analysis_equations.specs.Questions.{taskNumber}
-use Rattle.queue_rules.specs.Rules.{Line, inLine, holds, queued, isHead, waiting, without, entered, released, ticked, aheadIn, limit}
+use Rattle.queue_rules.specs.Rules.{Line, inLine, holds, queued, isHead, waiting, without, aheadIn, limit}
 use Rattle.queue_rules.proofs.Cases.{on-test}
 use Rattle.queue_rules.proofs.Kept.{Kept, Waiting, wait-entered, wait-released, wait-ticked, wait-some}
 use Rattle.queue_rules.proofs.Waiting.{Tasks, task-kept, task-bound}
 use Rattle.queue_rules.proofs.Heads.{Some, core-kept, core-bound}
 use Rattle.machine_rules.specs.declared.Call.{Call}
-use Rattle.machine_rules.specs.declared.Call.the-variants.{Request, Release, Tick}
 use Rattle.machine_rules.specs.Machine.{View, terms, step, after}
 use Rattle.machine_rules.specs.Waiting.{isTick, ticks, Event, grants, ends, heads, occurs, Within, Bounded, TaskKept, CoreKept, ServedFrom}
 use Rattle.machine_rules.proofs.Moves.{Move, stays, enters, leaves, moved}
 use Rattle.machine_rules.proofs.Moves as Moves
-use Rattle.machine_rules.proofs.SoundLines.{known, SoundAt, SoundLines, fits, sound-step}
+use Rattle.machine_rules.proofs.SoundLines.{known, SoundLines, fits, sound-step}
 
 module _ (p : Plan) where
   -- an event in a list occurs in it

@@ -1,13 +1,12 @@
 -- The longest wait: its figures, and that no request is told more. Who stands ahead of a task is one of its fellows, and stands there
 -- once; so their hold times are at most those of all fellows.
-use Rattle.folds.proofs.Ground.{ℕ, _+_, _*_, _≤_, _<_, Bool, true, false, cond, _&&_, not, true≢false, _≡_, refl, sym, ap, _∙_, List, [], _∷_, eqb, length, arith, eq-eqb, ne-eqb}
+use Rattle.folds.proofs.Ground.{ℕ, _+_, _*_, _≤_, _<_, true, false, true≢false, _≡_, sym, ap, _∙_, List, [], _∷_, length, arith, eq-eqb, ne-eqb}
 use Rattle.folds.specs.Below.{countBelow, listBelow}
-use Rattle.folds.proofs.Tests.{and-parts, first-zero}
+use Rattle.folds.proofs.Tests.{first-zero}
 use Rattle.folds.proofs.Figures.{sum-same}
-use Rattle.folds.proofs.Arrays.{by-eq}
 use Rattle.plan_reading.specs.Plan.{Plan, Valid}
-use Rattle.analysis_equations.specs.Sharing.{processorOf, uses, global}
-use Rattle.analysis_equations.specs.HoldTimes.{holdTime, holdAt, fellow, waitTime}
+use Rattle.analysis_equations.specs.Sharing.{processorOf, global}
+use Rattle.analysis_equations.specs.HoldTimes.{holdAt, fellow, waitTime}
 use Rattle.analysis_equations.specs.Blocking.{fellowHolds}
 use Rattle.analysis_equations.specs.Questions.{taskNumber, useCode}
 use Rattle.analysis_equations.proofs.Laws.{fellow-hold}
@@ -15,10 +14,10 @@ use Rattle.queue_rules.specs.Rules.{Line, line, among, inLine, tasksOf, queueOf
 use Rattle.queue_rules.proofs.Lists.{list-length, list-sum}
 use Rattle.queue_rules.proofs.Sound.{sound-queue}
 use Rattle.queue_rules.proofs.Once.{Once, EachOnce, once-tasks, ahead-among, ahead-once, tasks-none, tasks-own, once-sum, once-length, limit-more}
-use Rattle.machine_rules.specs.declared.Answer.the-variants.{Waits, Refused}
+use Rattle.machine_rules.specs.declared.Answer.the-variants.{Waits}
 use Rattle.machine_rules.specs.declared.Call.{Call}
 use Rattle.machine_rules.specs.declared.Call.the-variants.{Request}
-use Rattle.machine_rules.specs.Machine.{View, terms, requestCode, callCode, requestAnswer, acceptedAnswer, answer, after}
+use Rattle.machine_rules.specs.Machine.{View, terms, requestCode, requestAnswer, answer, after}
 use Rattle.machine_rules.specs.Waiting.{Event, Bounded, Asked}
 use Rattle.machine_rules.specs.Longest.{fellows, longestWait, NeverLonger}
 use Rattle.machine_rules.proofs.SoundLines.{known, SoundAt, accepted, known-sharing}

@@ -8,7 +8,7 @@ use Rattle.queue_rules.proofs.Waiting.{entered-stands, entered-waits, entered-a
 use Rattle.machine_rules.specs.declared.Answer.the-variants.{Waits, Refused}
 use Rattle.machine_rules.specs.declared.Call.{Call}
 use Rattle.machine_rules.specs.declared.Call.the-variants.{Request}
-use Rattle.machine_rules.specs.Machine.{View, terms, callCode, requestAnswer, acceptedAnswer, effect, step, answer, after}
+use Rattle.machine_rules.specs.Machine.{View, terms, callCode, requestAnswer, acceptedAnswer, step, answer, after}
 use Rattle.machine_rules.specs.Waiting.{TaskKept, afterCall, Asked, Served}
 use Rattle.machine_rules.proofs.SoundLines.{SoundLines, accepted}
 use Rattle.machine_rules.proofs.OnceLines.{Orderly, orderly-after}

@@ -1,7 +1,7 @@
 -- The longest wait is reached. A global resource has a user on another processor too: that one asks for it first and holds it, then
 -- the fellows of the task ask, one after the other, and wait. Each of them is known by its tag, as tags are unique, and is in line
 -- nowhere when it asks, so no call is refused. The task that asks then has every fellow ahead of it.
-use Rattle.folds.proofs.Ground.{ℕ, zero, suc, _<_, _≤_, Bool, true, false, cond, _&&_, not, _≡_, refl, sym, ap, _∙_, List, [], _∷_, _++_, append-nil, eqb, ltb, length, arith, ltb-true, lt-ltb, leb-true, eqb-true, eqb-false, eq-eqb, ne-eqb, not-true}
+use Rattle.folds.proofs.Ground.{ℕ, zero, suc, _<_, _≤_, Bool, true, false, cond, _&&_, not, _≡_, refl, sym, ap, _∙_, List, [], _∷_, _++_, append-nil, eqb, length, arith, lt-ltb, leb-true, eqb-true, eqb-false, eq-eqb, ne-eqb, not-true}
 use Rattle.folds.specs.Below.{listBelow}
 use Rattle.folds.proofs.Tests.{and-parts, is-not-true, any-none}
 use Rattle.folds.proofs.Ranges.{count-other}

@@ -1,5 +1,5 @@
 -- Everybody who waits after a list of calls has done so since the start, or since a call of the list.
-use Rattle.folds.proofs.Ground.{ℕ, Bool, true, false, _&&_, _||_, not, and-false, true≢false, _≡_, refl, sym, ap, _∙_, _⊎_, inl, inr, List, [], _∷_, _++_, eq-eqb, ne-eqb, not-true, not-false}
+use Rattle.folds.proofs.Ground.{ℕ, Bool, true, false, _&&_, _||_, not, and-false, true≢false, _≡_, refl, sym, ap, _∙_, _⊎_, inl, inr, List, [], _∷_, _++_, eq-eqb, not-true}
 use Rattle.folds.proofs.Tests.{and-parts}
 use Rattle.plan_reading.specs.Plan.{Plan, Valid}
 use Rattle.analysis_equations.specs.Questions.{taskNumber}
@@ -8,8 +8,8 @@ use Rattle.queue_rules.proofs.Stays.{entered-waiting, released-waiting, ticked-
 use Rattle.machine_rules.specs.declared.Answer.the-variants.{Waits}
 use Rattle.machine_rules.specs.declared.Call.{Call}
 use Rattle.machine_rules.specs.declared.Call.the-variants.{Request}
-use Rattle.machine_rules.specs.Machine.{View, fresh, terms, callCode, requestAnswer, step, answer, after, run}
-use Rattle.machine_rules.specs.Waiting.{Event, grants, ends, occurs, Asked, Sent, StillWaits, StillWithout, TaskSince, asked-since, task-since-start, CoreSince, sent-since, core-since-start, EachSince}
+use Rattle.machine_rules.specs.Machine.{View, fresh, terms, callCode, requestAnswer, step, answer, after}
+use Rattle.machine_rules.specs.Waiting.{Event, grants, ends, occurs, StillWaits, StillWithout, TaskSince, asked-since, task-since-start, CoreSince, sent-since, core-since-start, EachSince}
 use Rattle.machine_rules.proofs.Moves.{Move, stays, enters, leaves, ticks, moved}
 use Rattle.machine_rules.proofs.SoundLines.{known, fits}
 use Rattle.machine_rules.proofs.OnceLines.{Orderly, orderly-fresh, orderly-step}

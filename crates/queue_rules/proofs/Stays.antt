@@ -1,10 +1,10 @@
 -- Who waits after a move waited before it, but for the one who came by it.
-use Rattle.folds.proofs.Ground.{ℕ, _-_, _≤_, Bool, true, false, cond, _||_, _&&_, not, or-false, or-true, or-assoc, true≢false, _≡_, refl, sym, ap, _∙_, _⊎_, inl, inr, List, [], _∷_, eqb, arith, eq-eqb, ne-eqb, eqb-true}
+use Rattle.folds.proofs.Ground.{ℕ, _-_, _≤_, Bool, true, false, cond, _||_, _&&_, not, or-false, or-true, true≢false, _≡_, refl, sym, ap, _∙_, _⊎_, inl, inr, List, [], _∷_, eqb, arith, eq-eqb, ne-eqb, eqb-true}
 use Rattle.folds.proofs.Tests.{or-out, and-parts}
 use Rattle.folds.proofs.Arrays.{by-eq}
-use Rattle.queue_rules.specs.Rules.{Terms, Turn, turn, Line, line, queueOf, among, standsIn, inLine, waiting, tasksOf, join, entered, leave, released, ticked}
+use Rattle.queue_rules.specs.Rules.{Terms, Turn, turn, Line, line, queueOf, among, standsIn, inLine, waiting, tasksOf, entered, leave, released, ticked}
 use Rattle.queue_rules.proofs.Cases.{by-test}
-use Rattle.queue_rules.proofs.Sound.{Fits, among-last, Proper, stands, Sound, is-free, is-held, sound-queue}
+use Rattle.queue_rules.proofs.Sound.{Fits, Proper, stands, Sound, is-free, is-held, sound-queue}
 use Rattle.queue_rules.proofs.Moves.{sound-leave}
 use Rattle.queue_rules.proofs.FirstCome.{join-stands, first-served}
 use Rattle.queue_rules.proofs.Own.{own-stands}
