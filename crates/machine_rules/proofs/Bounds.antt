@@ -5,7 +5,7 @@ use Rattle.plan_reading.specs.Plan.{Plan, Valid}
 use Rattle.analysis_equations.specs.Sharing.{processorOf}
 use Rattle.analysis_equations.specs.Questions.{taskNumber}
 use Rattle.queue_rules.specs.Rules.{Line, inLine, holds, queued, isHead, waiting, without, aheadIn, limit}
-use Rattle.queue_rules.proofs.Cases.{on-test}
+use Rattle.queue_rules.proofs.Cases.{by-bool}
 use Rattle.queue_rules.proofs.Kept.{Kept, Waiting, wait-entered, wait-released, wait-ticked, wait-some}
 use Rattle.queue_rules.proofs.Waiting.{Tasks, task-kept, task-bound}
 use Rattle.queue_rules.proofs.Heads.{Some, core-kept, core-bound}
@@ -71,7 +71,7 @@ module _ (p : Plan) (v : Valid p) (q k : ℕ) (done : Line → Bool) (Own : List
   either : (s : View) (cs : List Call) (n : ℕ) → SoundLines p s → Bound n (s .lines q) → done (s .lines q) ≡ false → Either p e s cs n
   either s [] n w x d = inr (refl, bound-some w x)
   either s (c ∷ cs) n w x d =
-      on-test (e s c)
+      by-bool (λ _. Either p e s (c ∷ cs) n) (e s c)
       (λ h. inl (record { early = []; call = c; late = cs; split = refl; happens = h; soon = bound-some w x }))
       (λ h. let y = tells s c d h in
       let g = lowered w x y (moved p s q c) in
@@ -94,19 +94,19 @@ module _ (p : Plan) (v : Valid p) where
       → (cs : List Call) → TaskKept p i q s cs (limit (terms p q) i (aheadIn (terms p q) i (s .lines q)))
   task-served s w i q a cs =
       let t = terms p q in
-      let x = and-parts (inLine i (s .lines q)) (not (holds i (s .lines q))) a in
-      let b = not-true (holds i (s .lines q)) (x .1) in
+      let (x, y) = and-parts (inLine i (s .lines q)) (not (holds i (s .lines q))) a in
+      let b = not-true (holds i (s .lines q)) y in
       bounded p v q (processorOf p i) (holds i) (Tasks t i) (task-kept t i) (grants p i q) (λ s c d h. rw d at h)
-      (grants p i q) (λ s c h. h) s cs _ w (task-bound t i (known p q) (p .processors) (fits p v q) (s .lines q) (w q) (x .0) b) b
+      (grants p i q) (λ s c h. h) s cs _ w (task-bound t i (known p q) (p .processors) (fits p v q) (s .lines q) (w q) x b) b
 
   -- a core that is queued and not head
   core-served : (s : View) → SoundLines p s → (k q : ℕ) → without k (s .lines q) ≡ true → (cs : List Call) → CoreKept p k q s cs
   core-served s w k q a cs =
       let t = terms p q in
-      let x = and-parts (queued k (s .lines q)) (not (isHead k (s .lines q))) a in
-      let b = not-true (isHead k (s .lines q)) (x .1) in
+      let (x, y) = and-parts (queued k (s .lines q)) (not (isHead k (s .lines q))) a in
+      let b = not-true (isHead k (s .lines q)) y in
       bounded p v q k (isHead k) Some (core-kept t k) (heads p k q) (λ s c d h. h)
-      (ends p k q) (λ s c h. rw (h, and-false)) s cs _ w (core-bound t k (known p q) (p .processors) (fits p v q) (s .lines q) (w q) (x .0) b) b
+      (ends p k q) (λ s c h. rw (h, and-false)) s cs _ w (core-bound t k (known p q) (p .processors) (fits p v q) (s .lines q) (w q) x b) b
 
   -- whoever waits in sound lines is served
   pub served-from : (s : View) → SoundLines p s → (cs : List Call) → ServedFrom p s cs

@@ -43,9 +43,9 @@ module _ (p : Plan) (v : Valid p) where
   line-fellows : (i q : ℕ) {l : Line} → SoundAt p q l
       → (j : ℕ) → among j (tasksOf (processorOf p i) (queueOf l)) ≡ true → (j ≡ i → ⊥) → (j < p .tasks) × (fellow p i q j ≡ true)
   line-fellows i q w j a d =
-      let x = tasks-own (terms p q) (known p q) (p .processors) j (processorOf p i) (sound-queue (terms p q) (known p q) (p .processors) w) a in
-      let r = known-sharing p v j q (x .1) in
-      (r .task, rw (eq-eqb _ _ (x .0), r .used, ne-eqb j i d))
+      let (e, k) = tasks-own (terms p q) (known p q) (p .processors) j (processorOf p i) (sound-queue (terms p q) (known p q) (p .processors) w) a in
+      let r = known-sharing p v j q k in
+      (r .task, rw (eq-eqb _ _ e, r .used, ne-eqb j i d))
 
   -- with some fellows ahead, each once, the limit is at most the longest wait
   record AtMost (i q ahead most : ℕ) : Type 0 where
@@ -75,7 +75,7 @@ module _ (p : Plan) (v : Valid p) where
   waiting-most : (i q : ℕ) (l : Line) → SoundAt p q l → EachOnce (queueOf l) → limit (terms p q) i (aheadIn (terms p q) i l) ≤ longestWait p i q
   waiting-most i q l w o =
       fellows-most i q (ahead-once i (once-tasks (processorOf p i) o))
-      (λ j c. let x = ahead-among i j (tasksOf (processorOf p i) (queueOf l)) c in line-fellows i q w j (x .0) (x .1)) .short
+      (λ j c. let (x, d) = ahead-among i j (tasksOf (processorOf p i) (queueOf l)) c in line-fellows i q w j x d) .short
 
   request-most : (s : View) (tag q a m : ℕ) → Orderly p s → answer p s (Request tag q) ≡ Waits a m → AtMost (taskNumber p tag) q a m
   request-most s tag q a m o e =

@@ -40,9 +40,9 @@ module _ (p : Plan) (q : ℕ) where
 
   fellow-facts : (i j : ℕ) → fellow p i q j ≡ true → Fellow i j
   fellow-facts i j f =
-      let a = and-parts (eqb (processorOf p j) (processorOf p i) && uses p j q) (not (eqb j i)) f in
-      let b = and-parts (eqb (processorOf p j) (processorOf p i)) (uses p j q) (a .0) in
-      record { near = eqb-true _ _ (b .0); used = b .1; other = eqb-false j i (not-true _ (a .1)) }
+      let (a, d) = and-parts (eqb (processorOf p j) (processorOf p i) && uses p j q) (not (eqb j i)) f in
+      let (e, u) = and-parts (eqb (processorOf p j) (processorOf p i)) (uses p j q) a in
+      record { near = eqb-true _ _ e; used = u; other = eqb-false j i (not-true _ d) }
 
   -- task j asks for q, then those below n of which f holds
   comers : ℕ → (ℕ → Bool) → ℕ → List Call
@@ -117,7 +117,7 @@ module _ (p : Plan) (v : Valid p) (tags : (a b : ℕ) → a < p .tasks → b < p
           go true f o =
               let x = fellow-facts p q i n f in
               let u = known-sharing p v n q (rw (ui .shared, x .used)) in
-              let late : among n us ≡ false = is-not-true _ (λ a. let m = among-below n n (fellow p i q) a in omega (arith, m .0)) in
+              let late : among n us ≡ false = is-not-true _ (λ a. let (m, _) = among-below n n (fellow p i q) a in omega arith) in
               rw (after-last p fresh cs (Request (p .task n .tag) q), ← held-entered (terms p q) j k other n us (x .near))
               (user-comes _ (run p cs) n u o (held-without (terms p q) j k n us (λ e. other (ap (processorOf p) e ∙ x .near)) late))
           go false f o = rw (append-nil us, append-nil cs) o
@@ -130,7 +130,7 @@ module _ (p : Plan) (v : Valid p) (tags : (a b : ℕ) → a < p .tasks → b < p
           let t : Terms = terms p q in
           let k : ℕ = processorOf p i in
           let us : List ℕ = listBelow (p .tasks) (fellow p i q) in
-          let self : among i us ≡ false = is-not-true _ (λ a. fellow-facts p q i i (among-below (p .tasks) i (fellow p i q) a .1) .other refl) in
+          let self : among i us ≡ false = is-not-true _ (λ a. let (_, f) = among-below (p .tasks) i (fellow p i q) a in fellow-facts p q i i f .other refl) in
           let new = held-without t j k i us (λ s. other (ap (processorOf p) s)) self in
           only-told p q (heldBy t j k us) _ tag (comers-wait (p .tasks) (omega arith)) u (rw e new) ∙ rw (e, held-tasks t j k other us)
 

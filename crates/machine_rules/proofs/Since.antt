@@ -62,7 +62,8 @@ module _ (p : Plan) (v : Valid p) where
       go : (l : Line) → s .lines q ≡ l → waiting i (entered (terms p q) i l) ≡ true → Requests s i q (Request tag q)
       go (line h b []) f x =
           let l : Line = entered (terms p q) i (line h b []) in
-          absurd (true≢false (sym (and-parts (inLine i l) (not (holds i l)) x .1) ∙ rw (eq-eqb i i refl)))
+          let (_, n) = and-parts (inLine i l) (not (holds i l)) x in
+          absurd (true≢false (sym n ∙ rw (eq-eqb i i refl)))
       go (line h b (x ∷ rest)) f _ = requests refl (told ∙ ap (requestAnswer p i q) f)
 
   task-begins : (i q : ℕ) (s : View) (c : Call) → Orderly p s → waiting i (step p s c .lines q) ≡ true → (waiting i (s .lines q) ≡ true) ⊎ Requests s i q c
@@ -86,7 +87,9 @@ module _ (p : Plan) (v : Valid p) where
     where
       goes : (s : View) (c : Call) → waiting i (step p s c .lines q) ≡ true → grants p i q s c ≡ false
       goes s c x =
-          let l = step p s c .lines q in rw (not-true (holds i l) (and-parts (inLine i l) _ x .1)) (and-false (not (holds i (s .lines q))))
+          let l = step p s c .lines q in
+          let (_, n) = and-parts (inLine i l) _ x in
+          rw (not-true (holds i l) n) (and-false (not (holds i (s .lines q))))
 
       go : Since p (λ s. waiting i (s .lines q)) (grants p i q) (λ s c. Requests s i q c) s calls → TaskSince p s calls i q
       go (at-start x y) = task-since-start x y

@@ -49,10 +49,10 @@ module _ (p : Plan) (v : Valid p) where
   -- what is known of a task that may come
   pub known-sharing : (i q : ℕ) → known p q i ≡ true → Sharing p i q
   known-sharing i q k =
-      let a = and-parts (global p q) (uses p i q) k in
-      uses-out p i q _ (a .1)
+      let (g, u) = and-parts (global p q) (uses p i q) k in
+      uses-out p i q _ u
       (λ s l t r. let fits = v .section-fits s l in
-      record { task = rw (← t) (fits .task); resource = rw (← r) (fits .resource); used = a .1; shared = a .0 })
+      record { task = rw (← t) (fits .task); resource = rw (← r) (fits .resource); used = u; shared = g })
 
   -- the figures of the analysis are what the bound asks for
   pub fits : (q : ℕ) → Fits (terms p q) (known p q) (p .processors)

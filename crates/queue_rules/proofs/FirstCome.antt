@@ -3,23 +3,23 @@
 use Rattle.folds.proofs.Ground.{ℕ, Bool, true, false, cond, _||_, or-false, or-true, or-assoc, _≡_, refl, sym, _∙_, List, [], _∷_, _++_, eqb, eqb-true, eqb-false, eq-eqb, ne-eqb}
 use Rattle.folds.proofs.Arrays.{by-eq}
 use Rattle.folds.proofs.Searches.{on-eq}
-use Rattle.queue_rules.specs.Rules.{Terms, Turn, turn, Line, line, queueOf, among, standsIn, hasTurn, tasksOf, begin, join, entered, sendBack, leave}
+use Rattle.queue_rules.specs.Rules.{Terms, Turn, turn, Line, line, queueOf, among, standsIn, holds, hasTurn, tasksOf, begin, join, entered, sendBack, leave}
 use Rattle.queue_rules.proofs.Cases.{by-test, by-leave, or-no}
 use Rattle.queue_rules.proofs.Sound.{among-last}
 
 -- a processor that is not queued has no task in line
 pub no-tasks : (k : ℕ) (q : List Turn) → hasTurn k q ≡ false → tasksOf k q ≡ []
 no-tasks k [] a = refl
-no-tasks k (turn j u us ∷ q) a = let n = or-no (eqb j k) (hasTurn k q) a in rw (n .0) (no-tasks k q (n .1))
+no-tasks k (turn j u us ∷ q) a = let (n, m) = or-no (eqb j k) (hasTurn k q) a in rw n (no-tasks k q m)
 
 -- a turn at the tail
 tasks-last : (k v j : ℕ) (vs : List ℕ) (q : List Turn) → hasTurn k q ≡ false → tasksOf j (q ++ (turn k v vs ∷ [])) ≡ cond (eqb k j) (v ∷ vs) (tasksOf j q)
 tasks-last k v j vs [] a = refl
 tasks-last k v j vs (turn l u us ∷ q) a =
-    let n = or-no (eqb l k) (hasTurn k q) a in
+    let (n, m) = or-no (eqb l k) (hasTurn k q) a in
     by-eq (λ (b : Bool). cond b (u ∷ us) (tasksOf j (q ++ (turn k v vs ∷ []))) ≡ cond (eqb k j) (v ∷ vs) (cond b (u ∷ us) (tasksOf j q))) l j
-    (λ e. rw (ne-eqb k j (λ s. eqb-false l k (n .0) (e ∙ sym s))))
-    (λ d. tasks-last k v j vs q (n .1))
+    (λ e. rw (ne-eqb k j (λ s. eqb-false l k n (e ∙ sym s))))
+    (λ d. tasks-last k v j vs q m)
 
 module _ (t : Terms) where
   join-tasks : (i j : ℕ) (q : List Turn) → tasksOf j (join t i q) ≡ cond (eqb (t .processor i) j) (tasksOf j q ++ (i ∷ [])) (tasksOf j q)
@@ -35,6 +35,10 @@ module _ (t : Terms) where
   pub entered-queue : (i : ℕ) (l : Line) → queueOf (entered t i l) ≡ join t i (queueOf l)
   entered-queue i (line h b []) = refl
   entered-queue i (line h b (x ∷ q)) = refl
+
+  -- who holds a held line goes on
+  pub entered-holds : (i j h b : ℕ) (x : Turn) (q : List Turn) → holds i (entered t j (line h b (x ∷ q))) ≡ holds i (line h b (x ∷ q))
+  entered-holds i j h b (turn k u us) q = by-test (λ z. holds i (line h b z) ≡ eqb u i) (eqb k (t .processor j)) (λ _. refl) (λ _. refl)
 
   -- "A request joins the tail of the task queue": that of its own processor, and no other changes
   pub comes-last : (i j : ℕ) (l : Line)

@@ -46,8 +46,7 @@ but-lt f k (suc n) lt =
 pub load-but : (f : ℕ → ℕ) (k : ℕ) (q : List Turn) → hasTurn k q ≡ false → load f q ≡ load (but f k) q
 load-but f k [] a = refl
 load-but f k (turn j u us ∷ rest) a =
-    let n = or-no (eqb j k) (hasTurn k rest) a in
-    rw (n .0) (ap (λ (x : ℕ). f j + x) (load-but f k rest (n .1)))
+    let (n, m) = or-no (eqb j k) (hasTurn k rest) a in rw n (ap (λ (x : ℕ). f j + x) (load-but f k rest m))
 
 -- the hold left and the budget left, of a hold time and a budget
 pub record Clock (h b hold budget : ℕ) : Type 0 where

@@ -2,9 +2,9 @@
 use Rattle.folds.proofs.Ground.{ℕ, _+_, _*_, _≤_, Bool, true, false, cond, _||_, or-true, true≢false, _≡_, refl, sym, ap, _∙_, List, [], _∷_, _++_, eqb, length, arith, eqb-false, eq-eqb}
 use Rattle.folds.proofs.Arrays.{by-eq}
 use Rattle.queue_rules.specs.Rules.{Terms, Turn, turn, Line, line, queueOf, among, standsIn, inLine, holds, tasksOf, aheadOf, sumOf, entered, aheadIn, limit}
-use Rattle.queue_rules.proofs.Cases.{by-test, or-no}
+use Rattle.queue_rules.proofs.Cases.{or-no}
 use Rattle.queue_rules.proofs.Own.{own-stands}
-use Rattle.queue_rules.proofs.FirstCome.{entered-queue, join-stands, comes-last}
+use Rattle.queue_rules.proofs.FirstCome.{entered-queue, entered-holds, join-stands, comes-last}
 use Rattle.queue_rules.proofs.Sound.{Fits, Sound, sound-queue}
 use Rattle.queue_rules.proofs.Once.{tasks-none}
 use Rattle.queue_rules.proofs.Kept.{Kept, Waiting, wait-bound}
@@ -55,12 +55,13 @@ module _ (t : Terms) (i : ℕ) where
 
   pub entered-waits : (h b : ℕ) (x : Turn) (q : List Turn) → standsIn i (x ∷ q) ≡ false → holds i (entered t i (line h b (x ∷ q))) ≡ false
   entered-waits h b (turn k u us) q a =
-      let n = or-no (eqb u i) (among i us) (or-no (among i (u ∷ us)) (standsIn i q) a .0) in
-      by-test (λ z. holds i (line h b z) ≡ false) (eqb k core) (λ _. n .0) (λ _. n .0)
+      let (m, _) = or-no (among i (u ∷ us)) (standsIn i q) a in
+      let (n, _) = or-no (eqb u i) (among i us) m in
+      rw (entered-holds t i i h b (turn k u us) q) n
 
   pub entered-ahead : (l : Line) → inLine i l ≡ false → aheadIn t i (entered t i l) ≡ tasksOf core (queueOf l)
   entered-ahead l a = rw (comes-last t i core l, eq-eqb core core refl) (last (tasksOf core (queueOf l)) (tasks-none i core (queueOf l) a))
     where
       last : (us : List ℕ) → among i us ≡ false → aheadOf i (us ++ (i ∷ [])) ≡ us
       last [] a = rw (eq-eqb i i refl)
-      last (u ∷ us) a = let n = or-no (eqb u i) (among i us) a in rw (n .0) (ap (λ (z : List ℕ). u ∷ z) (last us (n .1)))
+      last (u ∷ us) a = let (n, m) = or-no (eqb u i) (among i us) a in rw n (ap (λ (z : List ℕ). u ∷ z) (last us m))
