@@ -7,7 +7,7 @@ use Rattle.queue_ranks.specs.Ranks.{listFrom, taskRanked, othersOf, turn
 use Rattle.folds.proofs.Searches.{on-eq, find-same, find-is}
 use Rattle.queue_ranks.proofs.Lists.{list-same, list-snoc}
 use Rattle.queue_ranks.proofs.Ranked.{At, Queued}
-use Rattle.queue_ranks.proofs.Same.{same-turn}
+use Rattle.queue_ranks.proofs.Same.{other-turn}
 
 -- the ranks S are R with i, not in line, at the end of its processor's queue
 pub record Joins (n : ℕ) (t : Terms) (R S : ℕ → ℕ → ℕ) (i : ℕ) : Type 0 where
@@ -68,16 +68,13 @@ module _ {n : ℕ} {t : Terms} {R S : ℕ → ℕ → ℕ} {i : ℕ} (x : Joins 
       rw (a, m)
 
   -- ── the queue of processors ──
-  other-turn : (k : ℕ) → k ≢ t .processor i → turnOf n R k ≡ turnOf n S k
-  other-turn k ne = same-turn n R S k (λ u l. join-other k u ne l)
-
   join-absent : (c a : ℕ) (g : ℕ → ℕ) → ((j : ℕ) → a ≤ j → j < a + c → g j ≢ t .processor i)
       → join t i (listFrom c a (λ j. turnOf n R (g j))) ≡ listFrom c a (λ j. turnOf n S (g j)) ++ (turn (t .processor i) i [] ∷ [])
   unfolding listFrom
   join-absent zero a g h = refl
   join-absent (suc c) a g h =
       rw (ne-eqb (g a) (t .processor i) (h a (omega arith) (omega arith)))
-      (ap₂ (λ (y : Turn) (ys : List Turn). y ∷ ys) (other-turn (g a) (h a (omega arith) (omega arith)))
+      (ap₂ (λ (y : Turn) (ys : List Turn). y ∷ ys) (other-turn join-other (g a) (h a (omega arith) (omega arith)))
       (join-absent c (suc a) g (λ j b l. h j (omega arith) (omega arith))))
 
   join-there : (c a s : ℕ) (g : ℕ → ℕ) → 1 ≤ maxBelow n (R (t .processor i)) → a ≤ s → s < a + c → g s ≡ t .processor i
@@ -91,9 +88,9 @@ module _ {n : ℕ} {t : Terms} {R S : ℕ → ℕ → ℕ} {i : ℕ} (x : Joins 
       rw (eq-eqb (g a) (t .processor i) q)
       (ap₂ (λ (y : Turn) (ys : List Turn). y ∷ ys) (rw q (sym (own-turn m)))
       (list-same c (suc a) (λ j. turnOf n R (g j)) (λ j. turnOf n S (g j))
-      (λ j v w. other-turn (g j) (h j (λ z. omega arith) (omega arith) (omega arith))))))
+      (λ j v w. other-turn join-other (g j) (h j (λ z. omega arith) (omega arith) (omega arith))))))
       (λ p. rw (ne-eqb (g a) (t .processor i) (h a p (omega arith) (omega arith)))
-      (ap₂ (λ (y : Turn) (ys : List Turn). y ∷ ys) (other-turn (g a) (h a p (omega arith) (omega arith)))
+      (ap₂ (λ (y : Turn) (ys : List Turn). y ∷ ys) (other-turn join-other (g a) (h a p (omega arith) (omega arith)))
       (join-there c (suc a) s g m (omega arith) (omega arith) e (λ j d v w. h j d (omega arith) (omega arith)))))
 
   -- ── the line ──

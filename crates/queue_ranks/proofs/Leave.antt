@@ -8,7 +8,7 @@ use Rattle.queue_ranks.specs.Ranks.{listFrom, taskRanked, othersOf, turn
 use Rattle.folds.proofs.Searches.{find-same, same-eqb}
 use Rattle.queue_ranks.proofs.Lists.{list-same, list-shift, list-snoc}
 use Rattle.queue_ranks.proofs.Ranked.{Queued}
-use Rattle.queue_ranks.proofs.Same.{same-task, same-turn}
+use Rattle.queue_ranks.proofs.Same.{other-task, other-turn}
 
 -- the ranks S are R without the first task of processor k: its others have moved up
 pub record Leaves (n : ℕ) (R S : ℕ → ℕ → ℕ) (k : ℕ) : Type 0 where
@@ -39,7 +39,7 @@ module _ {n : ℕ} {R S : ℕ → ℕ → ℕ} {k : ℕ} (x : Leaves n R S k) wh
   after-first l =
       by-eq (λ (b : Bool). taskRanked n (S l) 1 ≡ cond b (taskRanked n (R l) 2) (taskRanked n (R l) 1)) l k
       (λ e. rw e (leave-task 1 (omega arith)))
-      (λ ne. sym (same-task n (R l) (S l) (λ u a. leave-other l u ne a) 1))
+      (λ ne. sym (other-task leave-other l 1 ne))
 
   -- with a second task: it is first now, and the others are behind it
   leave-others : 2 ≤ maxBelow n (R k) → othersOf n (R k) ≡ taskRanked n (S k) 1 ∷ othersOf n (S k)
@@ -83,7 +83,7 @@ module _ (n : ℕ) (t : Terms) (R : ℕ → ℕ → ℕ) where
 module _ {n m : ℕ} (t : Terms) {R S : ℕ → ℕ → ℕ} {c : ℕ} {g : ℕ → ℕ} (x : Leaves n R S (g 0)) (w : Queued n m R (suc c) g) where
   behind-turn : (j : ℕ) → 1 ≤ j → j < suc c → turnOf n R (g j) ≡ turnOf n S (g j)
   behind-turn j a l =
-      same-turn n R S (g j) (λ u b. leave-other x (g j) u (λ e. omega (arith, w .once j 0 l (omega arith) e)) b)
+      other-turn (leave-other x) (g j) (λ e. omega (arith, w .once j 0 l (omega arith) e))
 
   behind : (f : ℕ → ℕ) → ((j : ℕ) → j < c → f j ≡ g (suc j)) → listFrom c 1 (λ j. turnOf n R (g j)) ≡ listFrom c 0 (λ j. turnOf n S (f j))
   behind f h =

@@ -5,58 +5,31 @@ use Rattle.folds.proofs.Figures.{max-same}
 use Rattle.queue_rules.specs.Rules.{Terms}
 use Rattle.queue_ranks.specs.Ranks.{taskRanked}
 use Rattle.folds.proofs.Searches.{on-eq}
-use Rattle.queue_ranks.proofs.Ranked.{At, Ranked, Queued, Timed, task-rank, owner, sole, full}
-use Rattle.queue_ranks.proofs.Same.{same-task}
+use Rattle.queue_ranks.proofs.Ranked.{At, Ranked, Queued, Timed, task-rank, owner, ranked-at, sole, full}
+use Rattle.queue_ranks.proofs.Same.{other-ranked, other-max}
 use Rattle.queue_ranks.proofs.Leave.{Leaves, leave-other, leave-max, leave-task}
 
 -- ── ranks ──
 pub leave-ranked : {n : ℕ} {t : Terms} {R S : ℕ → ℕ → ℕ} {k : ℕ} → Leaves n R S k → Ranked n t R → Ranked n t S
-leave-ranked {n} {t} {R} {S} {k} x r = record {
-  own = λ l u a ne. on-eq (S l u ≡ 0) l k
-      (λ e. rw e (omega (arith, x .fall u a, rw e at (r .own l u a ne))))
-      (λ d. x .kept l u d a ∙ r .own l u a ne);
-  alone = λ u a b. on-eq (taskRanked n (S (t .processor u)) (S (t .processor u) u) ≡ u) (t .processor u) k
-      (λ e. rw e (head-alone u a (rw e at b)))
-      (λ d. rw (← leave-other x (t .processor u) u d a)
-      (sym (same-task n (R (t .processor u)) (S (t .processor u)) (λ v c. leave-other x (t .processor u) v d c) (R (t .processor u) u))
-      ∙ r .alone u a (rw (leave-other x (t .processor u) u d a) b)));
-  backed = λ u a b. on-eq (taskRanked n (S (t .processor u)) (S (t .processor u) u - 1) < n) (t .processor u) k
-      (λ e. rw e (head-backed u a (sym e) (rw e at b)))
-      (λ d. rw (
-        ← leave-other x (t .processor u) u d a,
-        ← same-task n (R (t .processor u)) (S (t .processor u)) (λ v c. leave-other x (t .processor u) v d c) (R (t .processor u) u - 1),
-      )
-      (r .backed u a (rw (leave-other x (t .processor u) u d a) b)));
-  uses = λ u a b. r .uses u a (on-eq (1 ≤ R (t .processor u) u) (t .processor u) k
-      (λ e. rw e (omega (arith, x .fall u a, rw e at b)))
-      (λ d. rw (leave-other x (t .processor u) u d a) b));
-}
-  where
-    head-alone : (u : ℕ) → u < n → 1 ≤ S k u → taskRanked n (S k) (S k u) ≡ u
-    head-alone u a b =
-        let f : suc (S k u) ≡ R k u = omega (arith, x .fall u a) in
-        leave-task x (S k u) b ∙ rw f (sole r k u a (omega arith))
-
-    head-backed : (u : ℕ) → u < n → k ≡ t .processor u → 2 ≤ S k u → taskRanked n (S k) (S k u - 1) < n
-    head-backed u a e b =
-        let f : suc (S k u - 1) ≡ R k u - 1 = omega (arith, x .fall u a) in
-        let y : taskRanked n (R k) (R k u - 1) < n = rw e (r .backed u a (rw (← e) (omega (arith, x .fall u a)))) in
-        rw (leave-task x (S k u - 1) (omega arith), f) y
+leave-ranked {n} {t} {R} {S} {k} x r = other-ranked (leave-other x) r (record {
+  own = λ u l a. owner r k u l (omega (arith, x .fall u l));
+  alone = λ u l a. let f : suc (S k u) ≡ R k u = omega (arith, x .fall u l) in leave-task x (S k u) a ∙ rw f (sole r k u l (omega arith));
+  backed = λ u l a. let f : suc (S k u - 1) ≡ R k u - 1 = omega (arith, x .fall u l) in
+      rw (leave-task x (S k u - 1) (omega arith), f) (ranked-at r k .backed u l (omega arith));
+  uses = λ u l a. ranked-at r k .uses u l (omega (arith, x .fall u l));
+})
 
 -- ── the queue of processors; the head is g 0, c others are queued ──
 module _ {n m : ℕ} {R S : ℕ → ℕ → ℕ} {c : ℕ} {g : ℕ → ℕ} (x : Leaves n R S (g 0)) (w : Queued n m R (suc c) g) where
-  other-max : (k : ℕ) → k ≢ g 0 → maxBelow n (R k) ≡ maxBelow n (S k)
-  other-max k ne = max-same n (R k) (S k) (λ u l. leave-other x k u ne l)
-
   shrinks : (k : ℕ) → maxBelow n (S k) ≤ maxBelow n (R k)
   shrinks k =
       on-eq (maxBelow n (S k) ≤ maxBelow n (R k)) k (g 0)
-      (λ e. rw e (omega (arith, leave-max x))) (λ ne. omega (arith, other-max k ne))
+      (λ e. rw e (omega (arith, leave-max x))) (λ ne. omega (arith, other-max (leave-other x) k ne))
 
   -- who is not head keeps its tasks
   behind-served : (i : ℕ) → i < c → 1 ≤ maxBelow n (S (g (suc i)))
   behind-served i l =
-      omega (arith, other-max (g (suc i)) (λ e. omega (arith, w .once (suc i) 0 (omega arith) (omega arith) e)), w .served (suc i) (omega arith))
+      omega (arith, other-max (leave-other x) (g (suc i)) (λ e. omega (arith, w .once (suc i) 0 (omega arith) (omega arith) e)), w .served (suc i) (omega arith))
 
   -- the next task is granted
   pub next-queued : 2 ≤ maxBelow n (R (g 0)) → Queued n m S (suc c) g

@@ -72,6 +72,21 @@ seated n f alone j a =
     one : (u : ℕ) → u < n → f u ≡ j → taskRanked n f j ≡ u
     one u l e = rw e at (alone u l (rw e a))
 
+-- the same of the ranks f in the queue of one processor k: a move changes those of one processor
+pub record RankedAt (n : ℕ) (t : Terms) (k : ℕ) (f : ℕ → ℕ) : Type 0 where
+  pub own : (u : ℕ) → u < n → 1 ≤ f u → k ≡ t .processor u
+  pub alone : (u : ℕ) → u < n → 1 ≤ f u → taskRanked n f (f u) ≡ u
+  pub backed : (u : ℕ) → u < n → 2 ≤ f u → taskRanked n f (f u - 1) < n
+  pub uses : (u : ℕ) → u < n → 1 ≤ f u → 1 ≤ t .hold u
+
+pub ranked-each : {n : ℕ} {t : Terms} {R : ℕ → ℕ → ℕ} → ((k : ℕ) → RankedAt n t k (R k)) → Ranked n t R
+ranked-each {n} {t} {R} r = record {
+  own = λ k u l ne. on-le (R k u ≡ 0) 1 (R k u) (λ a. absurd (ne (r k .own u l a))) (λ a. omega arith);
+  alone = λ u. r (t .processor u) .alone u;
+  backed = λ u. r (t .processor u) .backed u;
+  uses = λ u. r (t .processor u) .uses u;
+}
+
 module _ {n : ℕ} {t : Terms} {R : ℕ → ℕ → ℕ} (r : Ranked n t R) where
   -- who has a rank in k's queue is k's
   pub owner : (k u : ℕ) → u < n → 1 ≤ R k u → k ≡ t .processor u
@@ -79,23 +94,28 @@ module _ {n : ℕ} {t : Terms} {R : ℕ → ℕ → ℕ} (r : Ranked n t R) wher
       on-eq (k ≡ t .processor u) k (t .processor u) (λ e. e)
       (λ ne. let z = r .own k u l ne in let bad : ⊥ = omega arith in absurd bad)
 
+  pub ranked-at : (k : ℕ) → RankedAt n t k (R k)
+  ranked-at k = record {
+    own = owner k;
+    alone = λ u l a. let o = owner k u l a in rw o (r .alone u l (rw (← o) a));
+    backed = λ u l a. let o = owner k u l (omega arith) in rw o (r .backed u l (rw (← o) a));
+    uses = λ u l a. r .uses u l (rw (← owner k u l a) a);
+  }
+
   -- and alone at it
   pub sole : (k u : ℕ) → u < n → 1 ≤ R k u → taskRanked n (R k) (R k u) ≡ u
-  sole k u l a = let o = owner k u l a in rw o (r .alone u l (rw (← o) a))
+  sole k = ranked-at k .alone
 
   -- no rank is left out
   down : (k d j : ℕ) → 1 ≤ j → j + d ≡ maxBelow n (R k) → taskRanked n (R k) j < n
   down k zero j a e = let i : j ≡ maxBelow n (R k) = omega arith in rw i (max-there n (R k) (omega arith))
   down k (suc d) j a e =
-      let l : taskRanked n (R k) (suc j) < n = down k d (suc j) (omega arith) (omega arith) in
-      step (taskRanked n (R k) (suc j)) l (task-rank n (suc j) (R k) l)
-    where
-      step : (u : ℕ) → u < n → R k u ≡ suc j → taskRanked n (R k) j < n
-      step u l f =
-          let o : k ≡ t .processor u = owner k u l (omega arith) in
-          let x : taskRanked n (R k) (R k u - 1) < n = rw o (r .backed u l (rw (← o) (omega arith))) in
-          let y : R k u - 1 ≡ j = omega arith in
-          rw y at x
+      let u : ℕ = taskRanked n (R k) (suc j) in
+      let l : u < n = down k d (suc j) (omega arith) (omega arith) in
+      let f : R k u ≡ suc j = task-rank n (suc j) (R k) l in
+      let x = ranked-at k .backed u l (omega arith) in
+      let y : R k u - 1 ≡ j = omega arith in
+      rw y at x
 
   pub full : (k j : ℕ) → 1 ≤ j → j ≤ maxBelow n (R k) → taskRanked n (R k) j < n
   full k j a b = down k (maxBelow n (R k) - j) j a (omega arith)
