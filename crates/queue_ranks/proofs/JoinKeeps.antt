@@ -1,5 +1,5 @@
 -- A line that is sound stays so when a task joins.
-use Rattle.folds.proofs.Ground.{ℕ, suc, _+_, _-_, _<_, _≤_, _≡_, sym, ap, _∙_, _≢_, arith}
+use Rattle.folds.proofs.Ground.{ℕ, suc, _+_, _-_, _<_, _≤_, _≡_, sym, ap, _∙_, _≢_, add-one, arith}
 use Rattle.folds.specs.Below.{maxBelow}
 use Rattle.folds.proofs.Figures.{max-at, max-same}
 use Rattle.queue_rules.specs.Rules.{Terms}
@@ -7,14 +7,10 @@ use Rattle.queue_ranks.specs.Ranks.{taskRanked}
 use Rattle.folds.proofs.Searches.{on-eq}
 use Rattle.queue_ranks.proofs.Ranked.{At, Ranked, Queued, Timed, owner, ranked-at, sole, full}
 use Rattle.queue_ranks.proofs.Same.{other-ranked, other-max, other-task}
+use Rattle.queue_ranks.proofs.Slots.{slots-stay, slots-last}
 use Rattle.queue_ranks.proofs.Join.{Joins, join-other, join-max, join-task, join-last}
 
 module _ {n : ℕ} {t : Terms} {R S : ℕ → ℕ → ℕ} {i : ℕ} (x : Joins n t R S i) where
-  grows : (k : ℕ) → maxBelow n (R k) ≤ maxBelow n (S k)
-  grows k =
-      on-eq (maxBelow n (R k) ≤ maxBelow n (S k)) k (t .processor i)
-      (λ e. rw e (omega (arith, join-max x))) (λ ne. omega (arith, other-max (join-other x) k ne))
-
   -- whoever has a rank stays the task of that rank
   pub task-stays : (k j : ℕ) → 1 ≤ j → j ≤ maxBelow n (R k) → taskRanked n (S k) j ≡ taskRanked n (R k) j
   task-stays k j a b =
@@ -35,32 +31,13 @@ module _ {n : ℕ} {t : Terms} {R S : ℕ → ℕ → ℕ} {i : ℕ} (x : Joins 
 
   -- its processor is in the queue
   pub join-queued : {m c : ℕ} {g : ℕ → ℕ} → Queued n m R c g → 1 ≤ maxBelow n (R (t .processor i)) → Queued n m S c g
-  join-queued {m} {c} {g} w a = record {
-    placed = w .placed;
-    served = λ j l. omega (arith, w .served j l, grows (g j));
-    once = w .once;
-    stands = λ k b. on-eq (At c g k) k (t .processor i) (λ e. rw e (w .stands (t .processor i) a))
-        (λ ne. w .stands k (omega (arith, other-max (join-other x) k ne)));
-  }
+  join-queued w a = slots-stay (other-max (join-other x)) w a (omega (arith, join-max x))
 
   -- its processor joins too, in the next slot
   pub join-queued-new : {m c : ℕ} {g : ℕ → ℕ} (f : ℕ → ℕ) → Queued n m R c g → maxBelow n (R (t .processor i)) ≡ 0 → t .processor i < m
       → ((j : ℕ) → j < c → f j ≡ g j) → f c ≡ t .processor i → Queued n m S (c + 1) f
-  join-queued-new {m} {c} {g} f w z pm same last = record {
-    placed = λ j l. on-eq (f j < m) j c (λ e. rw (e, last) pm) (λ ne. rw (same j (omega arith)) (w .placed j (omega arith)));
-    served = λ j l. on-eq (1 ≤ maxBelow n (S (f j))) j c (λ e. rw (e, last) (omega (arith, join-max x)))
-        (λ ne. rw (same j (omega arith)) (omega (arith, w .served j (omega arith), grows (g j))));
-    once = λ j k a b e. on-eq (j ≡ k) j c
-        (λ p. on-eq (j ≡ k) k c (λ q. p ∙ sym q) (λ q. absurd (free k (omega arith) (sym e ∙ ap f p ∙ last))))
-        (λ p. on-eq (j ≡ k) k c (λ q. absurd (free j (omega arith) (e ∙ ap f q ∙ last)))
-        (λ q. w .once j k (omega arith) (omega arith) (sym (same j (omega arith)) ∙ e ∙ same k (omega arith))));
-    stands = λ k b. on-eq (At (c + 1) f k) k (t .processor i) (λ e. record { index = c; within = omega arith; is = last ∙ sym e })
-        (λ ne. let y : At c g k = w .stands k (omega (arith, other-max (join-other x) k ne)) in
-        record { index = y .index; within = omega (arith, y .within); is = same (y .index) (y .within) ∙ y .is });
-  }
-    where
-      free : (j : ℕ) → j < c → f j ≢ t .processor i
-      free j l e = let y : 1 ≤ maxBelow n (R (t .processor i)) = rw (sym (same j l) ∙ e) at (w .served j l) in omega arith
+  join-queued-new {c = c} f w z small same last =
+      rw (add-one c) (slots-last (other-max (join-other x)) f w z (omega (arith, join-max x)) small same last)
 
   -- a held line goes on as it was
   pub join-timed : {m c : ℕ} {g : ℕ → ℕ} {h b : ℕ} (d : ℕ) (f : ℕ → ℕ) → Queued n m R c g → Timed n t R c g h b → 1 ≤ c → 1 ≤ d → f 0 ≡ g 0

@@ -7,6 +7,7 @@ use Rattle.queue_ranks.specs.Ranks.{taskRanked}
 use Rattle.folds.proofs.Searches.{on-eq}
 use Rattle.queue_ranks.proofs.Ranked.{At, Ranked, Queued, Timed, task-rank, owner, ranked-at, sole, full}
 use Rattle.queue_ranks.proofs.Same.{other-ranked, other-max}
+use Rattle.queue_ranks.proofs.Slots.{slots-stay, slots-first, slots-back}
 use Rattle.queue_ranks.proofs.Leave.{Leaves, leave-other, leave-max, leave-task}
 
 -- ── ranks ──
@@ -21,64 +22,17 @@ leave-ranked {n} {t} {R} {S} {k} x r = other-ranked (leave-other x) r (record {
 
 -- ── the queue of processors; the head is g 0, c others are queued ──
 module _ {n m : ℕ} {R S : ℕ → ℕ → ℕ} {c : ℕ} {g : ℕ → ℕ} (x : Leaves n R S (g 0)) (w : Queued n m R (suc c) g) where
-  shrinks : (k : ℕ) → maxBelow n (S k) ≤ maxBelow n (R k)
-  shrinks k =
-      on-eq (maxBelow n (S k) ≤ maxBelow n (R k)) k (g 0)
-      (λ e. rw e (omega (arith, leave-max x))) (λ ne. omega (arith, other-max (leave-other x) k ne))
-
-  -- who is not head keeps its tasks
-  behind-served : (i : ℕ) → i < c → 1 ≤ maxBelow n (S (g (suc i)))
-  behind-served i l =
-      omega (arith, other-max (leave-other x) (g (suc i)) (λ e. omega (arith, w .once (suc i) 0 (omega arith) (omega arith) e)), w .served (suc i) (omega arith))
-
   -- the next task is granted
   pub next-queued : 2 ≤ maxBelow n (R (g 0)) → Queued n m S (suc c) g
-  next-queued a = record {
-    placed = w .placed;
-    served = served;
-    once = w .once;
-    stands = λ k b. w .stands k (omega (arith, shrinks k));
-  }
-    where
-      served : (i : ℕ) → i < suc c → 1 ≤ maxBelow n (S (g i))
-      served zero l = omega (arith, leave-max x)
-      served (suc i) l = behind-served i (omega arith)
+  next-queued a = slots-stay (other-max (leave-other x)) w (omega arith) (omega (arith, leave-max x))
 
   -- the processor leaves
   pub last-queued : (f : ℕ → ℕ) → maxBelow n (R (g 0)) ≤ 1 → ((j : ℕ) → j < c → f j ≡ g (suc j)) → Queued n m S c f
-  last-queued f a same = record {
-    placed = λ i l. rw (same i l) (w .placed (suc i) (omega arith));
-    served = λ i l. rw (same i l) (behind-served i l);
-    once = λ i j p q e. omega (arith, w .once (suc i) (suc j) (omega arith) (omega arith) (sym (same i p) ∙ e ∙ same j q));
-    stands = λ k b. let y : At (suc c) g k = w .stands k (omega (arith, shrinks k)) in find k b (y .index) (y .within) (y .is);
-  }
-    where
-      find : (k : ℕ) → 1 ≤ maxBelow n (S k) → (i : ℕ) → i < suc c → g i ≡ k → At c f k
-      find k b zero l e =
-          let z : 1 ≤ maxBelow n (S (g 0)) = rw e b in
-          let bad : ⊥ = omega (arith, leave-max x) in absurd bad
-      find k b (suc i) l e = record { index = i; within = omega arith; is = same i (omega arith) ∙ e }
+  last-queued f a same = slots-first (other-max (leave-other x)) f w refl (omega (arith, leave-max x)) same
 
   -- the processor goes to the tail
   pub back-queued : (f : ℕ → ℕ) → 2 ≤ maxBelow n (R (g 0)) → ((j : ℕ) → j < c → f j ≡ g (suc j)) → f c ≡ g 0 → Queued n m S (suc c) f
-  back-queued f a same last = record {
-    placed = λ i l. on-eq (f i < m) i c (λ e. rw (e, last) (w .placed 0 (omega arith)))
-        (λ ne. rw (same i (omega arith)) (w .placed (suc i) (omega arith)));
-    served = λ i l. on-eq (1 ≤ maxBelow n (S (f i))) i c (λ e. rw (e, last) (omega (arith, leave-max x)))
-        (λ ne. rw (same i (omega arith)) (behind-served i (omega arith)));
-    once = λ i j p q e. on-eq (i ≡ j) i c
-        (λ d. on-eq (i ≡ j) j c (λ d2. d ∙ sym d2) (λ ne. absurd (apart j (omega arith) (sym e ∙ ap f d ∙ last))))
-        (λ ne. on-eq (i ≡ j) j c (λ d. absurd (apart i (omega arith) (e ∙ ap f d ∙ last)))
-        (λ ne2. omega (arith, w .once (suc i) (suc j) (omega arith) (omega arith) (sym (same i (omega arith)) ∙ e ∙ same j (omega arith)))));
-    stands = λ k b. let y : At (suc c) g k = w .stands k (omega (arith, shrinks k)) in find k (y .index) (y .within) (y .is);
-  }
-    where
-      apart : (j : ℕ) → j < c → f j ≢ g 0
-      apart j l e = omega (arith, w .once (suc j) 0 (omega arith) (omega arith) (sym (same j l) ∙ e))
-
-      find : (k i : ℕ) → i < suc c → g i ≡ k → At (suc c) f k
-      find k zero l e = record { index = c; within = omega arith; is = last ∙ e }
-      find k (suc i) l e = record { index = i; within = omega arith; is = same i (omega arith) ∙ e }
+  back-queued f a same last = slots-back f (other-max (leave-other x)) w (omega (arith, leave-max x)) same last
 
 -- ── the hold and the budget left ──
 pub free-timed : (n : ℕ) (t : Terms) (R : ℕ → ℕ → ℕ) (c : ℕ) (g : ℕ → ℕ) → c ≡ 0 → Timed n t R c g 0 0
