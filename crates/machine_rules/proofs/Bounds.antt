@@ -6,15 +6,21 @@ use Rattle.analysis_equations.specs.Sharing.{processorOf}
 use Rattle.analysis_equations.specs.Questions.{taskNumber}
 use Rattle.queue_rules.specs.Rules.{Line, inLine, holds, queued, isHead, waiting, without, aheadIn, limit}
 use Rattle.queue_rules.proofs.Cases.{by-bool}
-use Rattle.queue_rules.proofs.Kept.{Kept, Waiting, wait-entered, wait-released, wait-ticked, wait-some}
-use Rattle.queue_rules.proofs.Waiting.{Tasks, task-kept, task-bound}
-use Rattle.queue_rules.proofs.Heads.{Some, core-kept, core-bound}
+use Rattle.queue_rules.proofs.Kept.{Kept, Waiting, kept-entered, kept-released, kept-ticked, kept-some}
+use Rattle.queue_rules.proofs.Waiting.{Tasks, task-kept, wait-bound}
+use Rattle.queue_rules.proofs.Heads.{Some, core-kept, head-bound}
 use Rattle.machine_rules.specs.declared.Call.{Call}
+use Rattle.machine_rules.specs.declared.Call.the-variants.{Request, Release, Tick}
 use Rattle.machine_rules.specs.Machine.{View, terms, step, after}
 use Rattle.machine_rules.specs.Waiting.{isTick, ticks, Event, grants, ends, heads, occurs, Within, Bounded, TaskKept, CoreKept, ServedFrom}
 use Rattle.machine_rules.proofs.Moves.{Move, stays, enters, leaves, moved}
 use Rattle.machine_rules.proofs.Moves as Moves
 use Rattle.machine_rules.proofs.SoundLines.{known, SoundLines, fits, sound-step}
+
+tick-le : (c : Call) → isTick c ≤ 1
+tick-le (Request tag q) = omega arith
+tick-le (Release tag q) = omega arith
+tick-le Tick = omega arith
 
 module _ (p : Plan) where
   -- an event in a list occurs in it
@@ -48,7 +54,7 @@ module _ (p : Plan) (v : Valid p) (q k : ℕ) (done : Line → Bool) (Own : List
   Bound = Waiting (terms p q) k done Own
 
   bound-some : {s : View} {n : ℕ} → SoundLines p s → Bound n (s .lines q) → 1 ≤ n
-  bound-some w x = wait-some (terms p q) k done Own kept (known p q) (p .processors) (fits p v q) (w q) x
+  bound-some w x = kept-some (terms p q) k done Own kept (known p q) (p .processors) (fits p v q) (w q) x
 
   -- no move raises it, and a tick lowers it
   record Lowered (n : ℕ) (c : Call) (l : Line) : Type 0 where
@@ -59,20 +65,20 @@ module _ (p : Plan) (v : Valid p) (q k : ℕ) (done : Line → Bool) (Own : List
   lowered : {s : View} {c : Call} {l : Line} {n : ℕ} → SoundLines p s → Bound n (s .lines q) → done l ≡ false → Move p s q c l → Lowered n c l
   lowered {n = n} w x d (stays z) = record { most = n; less = omega arith; bound = x }
   lowered {n = n} w x d (enters tag h) =
-      record { most = n; less = omega arith; bound = wait-entered (terms p q) k done Own kept (taskNumber p tag) x }
+      record { most = n; less = omega arith; bound = kept-entered (terms p q) k done Own kept (taskNumber p tag) x }
   lowered {n = n} w x d (leaves tag) =
-      record { most = n; less = omega arith; bound = wait-released (terms p q) k done Own kept (known p q) (p .processors) (fits p v q) (w q) x d }
+      record { most = n; less = omega arith; bound = kept-released (terms p q) k done Own kept (known p q) (p .processors) (fits p v q) (w q) x d }
   lowered {n = n} w x d Moves.ticks = record {
     most = n - 1;
     less = omega (arith, bound-some w x);
-    bound = wait-ticked (terms p q) k done Own kept (known p q) (p .processors) (fits p v q) (w q) x d;
+    bound = kept-ticked (terms p q) k done Own kept (known p q) (p .processors) (fits p v q) (w q) x d;
   }
 
   either : (s : View) (cs : List Call) (n : ℕ) → SoundLines p s → Bound n (s .lines q) → done (s .lines q) ≡ false → Either p e s cs n
   either s [] n w x d = inr (refl, bound-some w x)
   either s (c ∷ cs) n w x d =
       by-bool (λ _. Either p e s (c ∷ cs) n) (e s c)
-      (λ h. inl (record { early = []; call = c; late = cs; split = refl; happens = h; soon = bound-some w x }))
+      (λ h. inl (record { early = []; call = c; late = cs; split = refl; happens = h; soon = omega (arith, tick-le c, bound-some w x) }))
       (λ h. let y = tells s c d h in
       let g = lowered w x y (moved p s q c) in
       either-later p e s c cs (g .most) n h (g .less) (either (step p s c) cs (g .most) (sound-step p v s c w) (g .bound) y))
@@ -97,7 +103,7 @@ module _ (p : Plan) (v : Valid p) where
       let (x, y) = and-parts (inLine i (s .lines q)) (not (holds i (s .lines q))) a in
       let b = not-true (holds i (s .lines q)) y in
       bounded p v q (processorOf p i) (holds i) (Tasks t i) (task-kept t i) (grants p i q) (λ s c d h. rw d at h)
-      (grants p i q) (λ s c h. h) s cs _ w (task-bound t i (known p q) (p .processors) (fits p v q) (s .lines q) (w q) x b) b
+      (grants p i q) (λ s c h. h) s cs _ w (wait-bound t i (known p q) (p .processors) (fits p v q) (s .lines q) (w q) x b) b
 
   -- a core that is queued and not head
   core-served : (s : View) → SoundLines p s → (k q : ℕ) → without k (s .lines q) ≡ true → (cs : List Call) → CoreKept p k q s cs
@@ -106,7 +112,7 @@ module _ (p : Plan) (v : Valid p) where
       let (x, y) = and-parts (queued k (s .lines q)) (not (isHead k (s .lines q))) a in
       let b = not-true (isHead k (s .lines q)) y in
       bounded p v q k (isHead k) Some (core-kept t k) (heads p k q) (λ s c d h. h)
-      (ends p k q) (λ s c h. rw (h, and-false)) s cs _ w (core-bound t k (known p q) (p .processors) (fits p v q) (s .lines q) (w q) x b) b
+      (ends p k q) (λ s c h. rw (h, and-false)) s cs _ w (head-bound t k (known p q) (p .processors) (fits p v q) (s .lines q) (w q) x b) b
 
   -- whoever waits in sound lines is served
   pub served-from : (s : View) → SoundLines p s → (cs : List Call) → ServedFrom p s cs

@@ -5,7 +5,7 @@ use Rattle.folds.proofs.Figures.{max-at, max-same}
 use Rattle.queue_rules.specs.Rules.{Terms}
 use Rattle.queue_ranks.specs.Ranks.{taskRanked}
 use Rattle.folds.proofs.Searches.{on-eq}
-use Rattle.queue_ranks.proofs.Ranked.{At, Ranked, Queued, Timed, owner, ranked-at, sole, full}
+use Rattle.queue_ranks.proofs.Ranked.{At, Ranked, Queued, Timed, held-timed, owner, ranked-at, sole, full}
 use Rattle.queue_ranks.proofs.Same.{other-ranked, other-max, other-task}
 use Rattle.queue_ranks.proofs.Slots.{slots-stay, slots-last}
 use Rattle.queue_ranks.proofs.Join.{Joins, join-other, join-max, join-task, join-last}
@@ -51,7 +51,5 @@ module _ {n : ℕ} {t : Terms} {R S : ℕ → ℕ → ℕ} {i : ℕ} (x : Joins 
   pub join-timed-new : (f : ℕ → ℕ) → maxBelow n (R (t .processor i)) ≡ 0 → f 0 ≡ t .processor i → 1 ≤ t .hold i
       → t .hold i ≤ t .budget (t .processor i)
       → Timed n t S 1 f (t .hold i) (t .budget (t .processor i))
-  join-timed-new f z e some within = record {
-    idle = λ y. let bad : ⊥ = omega arith in absurd bad;
-    runs = λ _. let a : taskRanked n (S (t .processor i)) 1 ≡ i = rw z at (join-last x) in rw (e, a) (some, omega arith, within, omega arith);
-  }
+  join-timed-new f z e some within =
+      let a : taskRanked n (S (t .processor i)) 1 ≡ i = rw z at (join-last x) in held-timed (omega arith) (rw (e, a) (omega arith))

@@ -3,9 +3,10 @@ use Rattle.folds.proofs.Ground.{ℕ, zero, suc, _-_, _<_, _≤_, _≡_, refl, s
 use Rattle.folds.specs.Below.{maxBelow}
 use Rattle.folds.proofs.Figures.{max-same}
 use Rattle.queue_rules.specs.Rules.{Terms}
+use Rattle.queue_rules.proofs.Sound.{Clock}
 use Rattle.queue_ranks.specs.Ranks.{taskRanked}
 use Rattle.folds.proofs.Searches.{on-eq}
-use Rattle.queue_ranks.proofs.Ranked.{At, Ranked, Queued, Timed, task-rank, owner, ranked-at, sole, full}
+use Rattle.queue_ranks.proofs.Ranked.{At, Ranked, Queued, Timed, held-timed, task-rank, owner, ranked-at, sole, full}
 use Rattle.queue_ranks.proofs.Same.{other-ranked, other-max}
 use Rattle.queue_ranks.proofs.Slots.{slots-stay, slots-first, slots-back}
 use Rattle.queue_ranks.proofs.Leave.{Leaves, leave-other, leave-max, leave-task}
@@ -41,30 +42,20 @@ free-timed n t R c g e = record { idle = λ _. (refl, refl); runs = λ a. let ba
 -- a tick that does not end the hold
 pub tick-timed : {n : ℕ} {t : Terms} {R : ℕ → ℕ → ℕ} {c : ℕ} {g : ℕ → ℕ} {h b : ℕ} → Timed n t R c g h b → 1 ≤ c → 2 ≤ h
     → Timed n t R c g (h - 1) (b - 1)
-tick-timed k a l = record {
-  idle = λ e. let bad : ⊥ = omega arith in absurd bad;
-  runs = λ _. let y = k .runs a in (omega arith, omega arith, omega arith, omega arith);
-}
+tick-timed k a l = let (one, lent, covered, budgeted) = k .runs a in held-timed a (omega arith)
 
 module _ {n : ℕ} {t : Terms} {R : ℕ → ℕ → ℕ} (r : Ranked n t R) (within : (u : ℕ) → u < n → t .hold u ≤ t .budget (t .processor u)) where
   -- the first task of a queue has a hold time, and it is within the budget
-  pub first-fits : (k : ℕ) → 1 ≤ maxBelow n (R k) → (1 ≤ t .hold (taskRanked n (R k) 1)) × (t .hold (taskRanked n (R k) 1) ≤ t .budget k)
+  first-fits : (k : ℕ) → 1 ≤ maxBelow n (R k) → let h : ℕ = t .hold (taskRanked n (R k) 1) in Clock h (t .budget k) h (t .budget k)
   first-fits k a =
-      let l : taskRanked n (R k) 1 < n = full r k 1 (omega arith) a in
-      fits (taskRanked n (R k) 1) l (task-rank n 1 (R k) l)
-    where
-      fits : (u : ℕ) → u < n → R k u ≡ 1 → (1 ≤ t .hold u) × (t .hold u ≤ t .budget k)
-      fits u l e = let o : k ≡ t .processor u = owner r k u l (omega arith) in (r .uses u l (rw (← o) (omega arith)), rw o (within u l))
+      let u : ℕ = taskRanked n (R k) 1 in
+      let l : u < n = full r k 1 (omega arith) a in
+      let e : R k u ≡ 1 = task-rank n 1 (R k) l in
+      omega (arith, ranked-at r k .uses u l (omega arith), within u l, ap (t .budget) (owner r k u l (omega arith)))
 
   pub begin-timed : {m : ℕ} (c : ℕ) (g : ℕ → ℕ) → Queued n m R c g → 1 ≤ c → Timed n t R c g (t .hold (taskRanked n (R (g 0)) 1)) (t .budget (g 0))
-  begin-timed c g w a = record {
-    idle = λ z. let bad : ⊥ = omega arith in absurd bad;
-    runs = λ _. let y = first-fits (g 0) (w .served 0 a) in (y .0, omega arith, y .1, omega arith);
-  }
+  begin-timed c g w a = held-timed a (first-fits (g 0) (w .served 0 a))
 
   pub next-timed : (c : ℕ) (g : ℕ → ℕ) (b : ℕ) → 1 ≤ maxBelow n (R (g 0)) → t .hold (taskRanked n (R (g 0)) 1) ≤ b → b ≤ t .budget (g 0) → 1 ≤ c
       → Timed n t R c g (t .hold (taskRanked n (R (g 0)) 1)) b
-  next-timed c g b a l z o = record {
-    idle = λ e. let bad : ⊥ = omega arith in absurd bad;
-    runs = λ _. let y = first-fits (g 0) a in (y .0, omega arith, l, z);
-  }
+  next-timed c g b a l z o = let x = first-fits (g 0) a in held-timed o (omega arith)

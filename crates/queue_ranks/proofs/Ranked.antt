@@ -6,6 +6,7 @@ use Rattle.folds.proofs.Figures.{max-at, max-bound}
 use Rattle.folds.proofs.Ranges.{max-where-bound, max-where-at}
 use Rattle.folds.proofs.Arrays.{by-eq}
 use Rattle.queue_rules.specs.Rules.{Terms}
+use Rattle.queue_rules.proofs.Sound.{Clock}
 use Rattle.queue_ranks.specs.Ranks.{taskRanked}
 use Rattle.folds.proofs.Searches.{on-eq, on-le, find-passes, find-first, pigeon}
 
@@ -34,15 +35,17 @@ pub record Timed (n : ℕ) (t : Terms) (R : ℕ → ℕ → ℕ) (c : ℕ) (g : 
   pub idle : c ≡ 0 → (h ≡ 0) × (b ≡ 0)
   pub runs : 1 ≤ c → (1 ≤ h) × (h ≤ t .hold (taskRanked n (R (g 0)) 1)) × (h ≤ b) × (b ≤ t .budget (g 0))
 
+-- a held line, whose clock runs
+pub held-timed : {n : ℕ} {t : Terms} {R : ℕ → ℕ → ℕ} {c : ℕ} {g : ℕ → ℕ} {h b : ℕ} → 1 ≤ c
+    → Clock h b (t .hold (taskRanked n (R (g 0)) 1)) (t .budget (g 0)) → Timed n t R c g h b
+held-timed a k = record { idle = λ z. let bad : ⊥ = omega arith in absurd bad; runs = λ _. (k .runs, k .lent, k .covered, k .budgeted) }
+
 -- the task found at a rank has it, and is the first that has
 pub task-rank : (n j : ℕ) (f : ℕ → ℕ) → taskRanked n f j < n → f (taskRanked n f j) ≡ j
 task-rank n j f l = eqb-true _ _ (find-passes n (λ u. eqb (f u) j) l)
 
 pub task-first : (n j u : ℕ) (f : ℕ → ℕ) → u < n → f u ≡ j → taskRanked n f j ≤ u
 task-first n j u f l e = find-first n u (λ v. eqb (f v) j) l (eq-eqb _ _ e)
-
-pub task-le : (n j : ℕ) (f : ℕ → ℕ) → taskRanked n f j ≤ n
-task-le n j f = find-le n (λ u. eqb (f u) j)
 
 -- the greatest rank is some task's
 pub max-there : (n : ℕ) (f : ℕ → ℕ) → 1 ≤ maxBelow n f → taskRanked n f (maxBelow n f) < n
@@ -120,12 +123,6 @@ module _ {n : ℕ} {t : Terms} {R : ℕ → ℕ → ℕ} (r : Ranked n t R) wher
   pub full : (k j : ℕ) → 1 ≤ j → j ≤ maxBelow n (R k) → taskRanked n (R k) j < n
   full k j a b = down k (maxBelow n (R k) - j) j a (omega arith)
 
-  -- the task of a rank is k's
-  pub task-owner : (k j : ℕ) → 1 ≤ j → j ≤ maxBelow n (R k) → t .processor (taskRanked n (R k) j) ≡ k
-  task-owner k j a b =
-      let l : taskRanked n (R k) j < n = full k j a b in
-      sym (owner k (taskRanked n (R k) j) l (omega (arith, task-rank n j (R k) l)))
-
   -- there are no more ranks than tasks
   pub ranks-few : (k : ℕ) → maxBelow n (R k) ≤ n
   ranks-few k =
@@ -138,7 +135,9 @@ module _ {n : ℕ} {t : Terms} {R : ℕ → ℕ → ℕ} (r : Ranked n t R) wher
 
   -- a task outside its processor's queue makes the ranks fewer than the tasks
   pub room : (i : ℕ) → i < n → R (t .processor i) i ≡ 0 → maxBelow n (R (t .processor i)) < n
-  room i lt out = pigeon n (suc (maxBelow n f)) pick small distinct
+  room i lt out =
+      pigeon n (suc (maxBelow n f)) pick (λ j l. let (a, _) = at j l in a)
+      (λ j k a b e. let (_, x) = at j a in let (_, y) = at k b in sym x ∙ ap f e ∙ y)
     where
       f : ℕ → ℕ
       f = R (t .processor i)
@@ -146,17 +145,10 @@ module _ {n : ℕ} {t : Terms} {R : ℕ → ℕ → ℕ} (r : Ranked n t R) wher
       pick : ℕ → ℕ
       pick j = cond (eqb j 0) i (taskRanked n f j)
 
-      small : (j : ℕ) → j < suc (maxBelow n f) → pick j < n
-      small j l =
-          by-eq (λ (d : Bool). cond d i (taskRanked n f j) < n) j 0 (λ e. lt) (λ ne. full (t .processor i) j (omega arith) (omega arith))
-
-      rank : (j : ℕ) → j < suc (maxBelow n f) → f (pick j) ≡ j
-      rank j l =
-          by-eq (λ (d : Bool). f (cond d i (taskRanked n f j)) ≡ j) j 0 (λ e. omega arith)
-          (λ ne. task-rank n j f (full (t .processor i) j (omega arith) (omega arith)))
-
-      distinct : (j k : ℕ) → j < suc (maxBelow n f) → k < suc (maxBelow n f) → pick j ≡ pick k → j ≡ k
-      distinct j k a b e = sym (rank j a) ∙ ap f e ∙ rank k b
+      at : (j : ℕ) → j < suc (maxBelow n f) → (pick j < n) × (f (pick j) ≡ j)
+      at j l =
+          by-eq (λ (d : Bool). let u : ℕ = cond d i (taskRanked n f j) in (u < n) × (f u ≡ j)) j 0 (λ e. (lt, omega arith))
+          (λ ne. let a = full (t .processor i) j (omega arith) (omega arith) in (a, task-rank n j f a))
 
 -- a queue has at most as many processors as there are
 pub queued-few : {n m : ℕ} {R : ℕ → ℕ → ℕ} {c : ℕ} {g : ℕ → ℕ} → Queued n m R c g → c ≤ m

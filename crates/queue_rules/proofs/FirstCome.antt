@@ -64,7 +64,9 @@ module _ (t : Terms) where
 
   -- "the processor goes to the tail, that task keeps its first place"
   pub sent-back : (k v j : ℕ) (vs : List ℕ) (rest : List Turn) → hasTurn k rest ≡ false → tasksOf j (queueOf (sendBack t k v vs rest)) ≡ cond (eqb k j) (v ∷ vs) (tasksOf j rest)
-  sent-back k v j vs rest a = rw (begun-queue (rest ++ (turn k v vs ∷ []))) (tasks-last k v j vs rest a)
+  sent-back k v j [] [] a = refl
+  sent-back k v j (w ∷ ws) [] a = refl
+  sent-back k v j vs (x ∷ rest) a = rw (begun-queue (x ∷ rest ++ (turn k v vs ∷ []))) (tasks-last k v j vs (x ∷ rest) a)
 
   -- all that leave is the first task of the head
   pub first-served : (b k u j : ℕ) (us : List ℕ) (rest : List Turn) → hasTurn k rest ≡ false → tasksOf j (queueOf (leave t b (turn k u us ∷ rest))) ≡ cond (eqb k j) us (tasksOf j rest)

@@ -3,7 +3,7 @@ use Rattle.folds.proofs.Ground.{ℕ, Bool, true, false, cond, _||_, true≢fals
 use Rattle.folds.proofs.Arrays.{by-eq}
 use Rattle.queue_rules.specs.Rules.{Terms, Turn, turn, Line, queueOf, isHead, queued, hasTurn, tasksOf}
 use Rattle.queue_rules.proofs.Sound.{Fits, Sound}
-use Rattle.queue_rules.proofs.Kept.{Kept, Waiting, wait-bound}
+use Rattle.queue_rules.proofs.Kept.{Kept, Waiting, kept-bound}
 
 -- there are tasks: they wait for nothing once the first is granted
 pub data Some : List ℕ → ℕ → Type 0 where
@@ -21,7 +21,7 @@ core-some k [] = λ s. absurd (true≢false (sym s))
 core-some k (turn j u us ∷ q) =
     by-eq (λ (d : Bool). (d || hasTurn k q) ≡ true → Some (cond d (u ∷ us) (tasksOf k q)) 0) j k (λ e s. some) (λ e s. core-some k q s)
 
-pub core-bound : (t : Terms) (k : ℕ) (known : ℕ → Bool) (procs : ℕ) → Fits t known procs → (l : Line) → Sound t known procs l → queued k l ≡ true
+pub head-bound : (t : Terms) (k : ℕ) (known : ℕ → Bool) (procs : ℕ) → Fits t known procs → (l : Line) → Sound t known procs l → queued k l ≡ true
     → isHead k l ≡ false → Waiting t k (isHead k) Some (t .wait k) l
-core-bound t k known procs fit l s a nh =
-    wait-bound t k (isHead k) Some (core-kept t k) known procs fit l 0 _ s (core-some k (queueOf l) a) nh (omega arith)
+head-bound t k known procs fit l s a nh =
+    kept-bound t k (isHead k) Some (core-kept t k) known procs fit l 0 _ s (core-some k (queueOf l) a) nh (omega arith)

@@ -1,8 +1,8 @@
 -- How long somebody of processor k is still kept from the resource: a bound that no move raises and a tick lowers. Said once, for a
 -- task (Waiting) and for a processor (Heads): who is kept is told by `Own`, its bound in the tasks of k, and by `done`.
-use Rattle.folds.proofs.Ground.{ℕ, _+_, _-_, _≤_, Bool, false, cond, _≡_, ap, List, [], _∷_, _++_, eqb, arith}
+use Rattle.folds.proofs.Ground.{ℕ, _+_, _-_, _≤_, _<_, Bool, false, cond, _≡_, ap, List, [], _∷_, _++_, eqb, arith}
 use Rattle.folds.proofs.Arrays.{by-eq}
-use Rattle.queue_rules.specs.Rules.{Terms, Turn, turn, Line, line, queueOf, tasksOf, begin, join, entered, leave, released, ticked}
+use Rattle.queue_rules.specs.Rules.{Terms, Turn, turn, Line, line, queueOf, tasksOf, begin, join, entered, cut, leave, released, ticked}
 use Rattle.queue_rules.proofs.Cases.{by-test, by-leave}
 use Rattle.queue_rules.proofs.Sound.{Fits, load, but, load-but, Proper, stands, Sound, is-free, is-held, load-le}
 
@@ -54,54 +54,55 @@ module _ (t : Terms) (k : ℕ) (done : Line → Bool) (Own : List ℕ → ℕ �
     after-more : {h i m n : ℕ} {us : List ℕ} → After h us m → i + m ≤ h + n → After i us n
     after-more a le = record { rest = a .rest; own = a .own; sum = omega (arith, a .sum) }
 
-    wait-begin : {m n : ℕ} {q : List Turn} → Far q m → m ≤ n → done (begin t q) ≡ false → Waiting n (begin t q)
-    wait-begin {n = n} (here {u = u} e o l) le nd = behind {h = t .hold u} {n = n} e (after-more (kept .next e o nd) (omega arith))
-    wait-begin {n = n} (past {j = j} {m = m} f l) le nd = beyond {b = t .budget j} {m = m} {n = n} f (omega arith)
+    kept-begin : {m n : ℕ} {q : List Turn} → Far q m → m ≤ n → done (begin t q) ≡ false → Waiting n (begin t q)
+    kept-begin {n = n} (here {u = u} e o l) le nd = behind {h = t .hold u} {n = n} e (after-more (kept .next e o nd) (omega arith))
+    kept-begin {n = n} (past {j = j} {m = m} f l) le nd = beyond {b = t .budget j} {m = m} {n = n} f (omega arith)
 
     -- ── the moves ──
 
-    pub wait-entered : (v : ℕ) {n : ℕ} {l : Line} → Waiting n l → Waiting n (entered t v l)
-    wait-entered v {n} (behind {h = h} {b = b} {j = j} e a) =
+    pub kept-entered : (v : ℕ) {n : ℕ} {l : Line} → Waiting n l → Waiting n (entered t v l)
+    kept-entered v {n} (behind {h = h} {b = b} {j = j} e a) =
         by-test (λ q. Waiting n (line h b q)) (eqb j (t .processor v))
         (λ _. behind e (record { rest = a .rest; own = kept .grows v (a .own); sum = a .sum })) (λ _. behind e a)
-    wait-entered v {n} (beyond {h = h} {b = b} {j = j} f le) =
+    kept-entered v {n} (beyond {h = h} {b = b} {j = j} f le) =
         by-test (λ q. Waiting n (line h b q)) (eqb j (t .processor v)) (λ _. beyond f le) (λ _. beyond (far-join v f) le)
 
     module _ (known : ℕ → Bool) (procs : ℕ) (fit : Fits t known procs) where
-      wait-leave : (h b j u n : ℕ) (us : List ℕ) (rest : List Turn) → Proper t known procs (turn j u us ∷ rest)
+      kept-leave : (h b j u n : ℕ) (us : List ℕ) (rest : List Turn) → Proper t known procs (turn j u us ∷ rest)
           → Waiting n (line h b (turn j u us ∷ rest))
           → done (leave t b (turn j u us ∷ rest)) ≡ false → Waiting n (leave t b (turn j u us ∷ rest))
-      wait-leave h b j u n [] rest pr (behind e a) = absurd (kept .some (a .own))
-      wait-leave h b j u n [] rest pr (beyond f le) = wait-begin f (omega arith)
-      wait-leave h b j u n (v ∷ vs) rest (stands lt new o r) (behind e a) =
+      kept-leave h b j u n [] rest pr (behind e a) = absurd (kept .some (a .own))
+      kept-leave h b j u n [] rest pr (beyond f le) = kept-begin f (omega arith)
+      kept-leave h b j u n (v ∷ vs) rest (stands lt new o r) (behind e a) =
           by-leave t (λ l. done l ≡ false → Waiting n l) b j u v vs rest
           (λ _ nd. behind {h = t .hold v} {n = n} e (after-more (kept .next e (a .own) nd) (omega (arith, a .sum))))
-          (wait-begin {m = n} (far-sent j v (a .rest) vs rest e (a .own) sent) (omega arith))
+          (kept-begin {m = n} (far-sent j v (a .rest) vs rest e (a .own) sent) (omega arith))
         where
           sent : load (t .budget) rest + a .rest ≤ n
           sent =
               omega (arith, a .sum, load-but (t .budget) j rest new, load-le t known procs (but (t .budget) j) r, fit .waits j, ap (t .wait) e)
-      wait-leave h b j u n (v ∷ vs) rest pr (beyond {m = m} f le) =
+      kept-leave h b j u n (v ∷ vs) rest pr (beyond {m = m} f le) =
           by-leave t (λ l. done l ≡ false → Waiting n l) b j u v vs rest
           (λ _ _. beyond {m = m} f (omega arith))
-          (wait-begin (far-last (turn j v vs) f) (omega arith))
+          (kept-begin (far-last (turn j v vs) f) (omega arith))
 
-      pub wait-released : {n : ℕ} {l : Line} → Sound t known procs l → Waiting n l → done (released t l) ≡ false → Waiting n (released t l)
-      wait-released {n} (is-held {h = h} {b = b} {k = j} {u = u} {us = us} {rest = rest} c pr) w = wait-leave h b j u n us rest pr w
+      kept-pass : {h b i a j u n : ℕ} {us : List ℕ} {rest : List Turn} → i < h → a < b → Waiting n (line h b (turn j u us ∷ rest))
+          → Waiting (n - 1) (line i a (turn j u us ∷ rest))
+      kept-pass {i = i} {n = n} l₁ l₂ (behind e x) = behind {h = i} {n = n - 1} e (after-more x (omega (arith, x .sum)))
+      kept-pass {a = a} {n = n} l₁ l₂ (beyond {m = m} f le) = beyond {b = a} {m = m} {n = n - 1} f (omega arith)
 
-      wait-pass : (h b j u n : ℕ) (us : List ℕ) (rest : List Turn) → 1 ≤ h → h ≤ b → Waiting n (line h b (turn j u us ∷ rest))
-          → Waiting (n - 1) (line (h - 1) (b - 1) (turn j u us ∷ rest))
-      wait-pass h b j u n us rest l₁ l₂ (behind e a) = behind {h = h - 1} {n = n - 1} e (after-more a (omega (arith, a .sum)))
-      wait-pass h b j u n us rest l₁ l₂ (beyond {m = m} f le) = beyond {b = b - 1} {m = m} {n = n - 1} f (omega arith)
+      pub kept-ticked : {n : ℕ} {l : Line} → Sound t known procs l → Waiting n l → done (ticked t l) ≡ false → Waiting (n - 1) (ticked t l)
+      kept-ticked {n} (is-held {h = h} {b = b} {k = j} {u = u} {us = us} {rest = rest} c pr) w =
+          by-test (λ l. done l ≡ false → Waiting (n - 1) l) (cut (line h b (turn j u us ∷ rest)))
+          (λ _. kept-leave (h - 1) _ j u (n - 1) us rest pr (kept-pass (omega arith) (omega arith) w))
+          (λ _ _. kept-pass (omega arith) (omega arith) w)
 
-      pub wait-ticked : {n : ℕ} {l : Line} → Sound t known procs l → Waiting n l → done (ticked t l) ≡ false → Waiting (n - 1) (ticked t l)
-      wait-ticked {n} (is-held {h = h} {b = b} {k = j} {u = u} {us = us} {rest = rest} c pr) w =
-          let x = wait-pass h b j u n us rest (c .runs) (c .covered) w in
-          by-test (λ l. done l ≡ false → Waiting (n - 1) l) (eqb (h - 1) 0) (λ _. wait-leave (h - 1) (b - 1) j u (n - 1) us rest pr x) (λ _ _. x)
+      pub kept-released : {n : ℕ} {l : Line} → Sound t known procs l → Waiting n l → done (released t l) ≡ false → Waiting n (released t l)
+      kept-released {n} (is-held {h = h} {b = b} {k = j} {u = u} {us = us} {rest = rest} c pr) w = kept-leave h b j u n us rest pr w
 
-      pub wait-some : {n : ℕ} {l : Line} → Sound t known procs l → Waiting n l → 1 ≤ n
-      wait-some (is-held c pr) (behind e a) = omega (arith, a .sum)
-      wait-some (is-held c pr) (beyond f le) = omega arith
+      pub kept-some : {n : ℕ} {l : Line} → Sound t known procs l → Waiting n l → 1 ≤ n
+      kept-some (is-held c pr) (behind e a) = omega (arith, a .sum)
+      kept-some (is-held c pr) (beyond f le) = omega arith
 
       -- ── whoever is in line and not done has such a bound: its own behind a round of the other processors ──
 
@@ -115,9 +116,9 @@ module _ (t : Terms) (k : ℕ) (done : Line → Bool) (Own : List ℕ → ℕ �
           (λ e x l. here {m = m} {n = n} e x (omega arith))
           (λ e x l. past {j = j} {m = others q + m} {n = n} (far-bound q m _ x (omega arith)) (omega arith)) o le
 
-      pub wait-bound : (l : Line) (m n : ℕ) → Sound t known procs l → Own (tasksOf k (queueOf l)) m → done l ≡ false → t .wait k + m ≤ n → Waiting n l
-      wait-bound l m n is-free o nd le = absurd (kept .some o)
-      wait-bound l m n (is-held {h = h} {b = b} {k = j} {u = u} {us = us} {rest = q} c pr) o nd le =
+      pub kept-bound : (l : Line) (m n : ℕ) → Sound t known procs l → Own (tasksOf k (queueOf l)) m → done l ≡ false → t .wait k + m ≤ n → Waiting n l
+      kept-bound l m n is-free o nd le = absurd (kept .some o)
+      kept-bound l m n (is-held {h = h} {b = b} {k = j} {u = u} {us = us} {rest = q} c pr) o nd le =
           by-eq (λ (d : Bool). Own (cond d (u ∷ us) (tasksOf k q)) m → cond d 0 (t .budget j) + others q ≤ t .wait k → Waiting n (line h b (turn j u us ∷ q)))
           j k
           (λ e x l. behind {h = h} {n = n} e (after-more (kept .next e x nd) (omega arith)))

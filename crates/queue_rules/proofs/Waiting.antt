@@ -7,7 +7,7 @@ use Rattle.queue_rules.proofs.Own.{own-stands}
 use Rattle.queue_rules.proofs.FirstCome.{entered-queue, entered-holds, join-stands, comes-last}
 use Rattle.queue_rules.proofs.Sound.{Fits, Sound, sound-queue}
 use Rattle.queue_rules.proofs.Once.{tasks-none}
-use Rattle.queue_rules.proofs.Kept.{Kept, Waiting, wait-bound}
+use Rattle.queue_rules.proofs.Kept.{Kept, Waiting, kept-bound}
 
 module _ (t : Terms) (i : ℕ) where
   -- the processor of i
@@ -42,10 +42,10 @@ module _ (t : Terms) (i : ℕ) where
       (λ e x. first e)
       (λ n x. later {u = u} {m = cost (aheadOf i us)} {n = cost (u ∷ aheadOf i us)} (tasks-cost us x) (omega arith))
 
-  pub task-bound : (known : ℕ → Bool) (procs : ℕ) → Fits t known procs → (l : Line) → Sound t known procs l → inLine i l ≡ true → holds i l ≡ false
+  pub wait-bound : (known : ℕ → Bool) (procs : ℕ) → Fits t known procs → (l : Line) → Sound t known procs l → inLine i l ≡ true → holds i l ≡ false
       → Waiting t core (holds i) Tasks (limit t i (aheadIn t i l)) l
-  task-bound known procs fit l s m nh =
-      wait-bound t core (holds i) Tasks task-kept known procs fit l (cost (aheadIn t i l)) _ s
+  wait-bound known procs fit l s m nh =
+      kept-bound t core (holds i) Tasks task-kept known procs fit l (cost (aheadIn t i l)) _ s
       (tasks-cost _ (sym (own-stands t known procs i (sound-queue t known procs s)) ∙ m)) nh (omega arith)
 
   -- ── i itself comes, to a line that is held ──
