@@ -1,7 +1,6 @@
 -- What a sound line is, over ranks and slots.
 use Rattle.folds.proofs.Ground.{ℕ, zero, suc, _+_, _-_, _<_, _≤_, Bool, cond, _≡_, sym, ap, _∙_, _≢_, eqb, ltb, le-antisymm, arith, eqb-true, eq-eqb, lt-ltb, le-ltb}
 use Rattle.folds.specs.Below.{maxBelow}
-use Rattle.folds.proofs.Tests.{find-le}
 use Rattle.folds.proofs.Figures.{max-at, max-bound}
 use Rattle.folds.proofs.Ranges.{max-where-bound, max-where-at}
 use Rattle.folds.proofs.Arrays.{by-eq}

@@ -1,5 +1,5 @@
 -- What a sound line shows: a proper queue, the tasks of each processor, and who stands in line.
-use Rattle.folds.proofs.Ground.{ℕ, zero, suc, _+_, _-_, _<_, _≤_, Bool, true, false, cond, _||_, or-true, true≢false, _≡_, refl, sym, ap, _∙_, _≢_, List, [], _∷_, eqb, leb, arith, eqb-true, eq-eqb, ne-eqb, le-leb, lt-leb}
+use Rattle.folds.proofs.Ground.{ℕ, zero, suc, _+_, _-_, _<_, _≤_, Bool, true, false, cond, _||_, or-true, true≢false, _≡_, refl, sym, ap, _∙_, _≢_, List, _∷_, eqb, leb, arith, eqb-true, eq-eqb, ne-eqb, le-leb, lt-leb}
 use Rattle.folds.specs.Below.{maxBelow}
 use Rattle.folds.proofs.Tests.{or-out, is-not-true}
 use Rattle.folds.proofs.Figures.{max-at}

@@ -1,5 +1,5 @@
 -- Ranks and slots that agree: they show one queue, and are sound together.
-use Rattle.folds.proofs.Ground.{ℕ, _-_, _<_, _≡_, refl, sym, ap, ap₂, _∙_, _≢_, List, eqb, arith}
+use Rattle.folds.proofs.Ground.{ℕ, _-_, _<_, _≡_, sym, ap, ap₂, _∙_, _≢_, List, eqb}
 use Rattle.folds.specs.Below.{maxBelow}
 use Rattle.folds.proofs.Figures.{max-same}
 use Rattle.queue_rules.specs.Rules.{Terms, turn}

@@ -94,7 +94,7 @@ module _ (t : Terms) (k : ℕ) (done : Line → Bool) (Own : List ℕ → ℕ �
       pub kept-ticked : {n : ℕ} {l : Line} → Sound t known procs l → Waiting n l → done (ticked t l) ≡ false → Waiting (n - 1) (ticked t l)
       kept-ticked {n} (is-held {h = h} {b = b} {k = j} {u = u} {us = us} {rest = rest} c pr) w =
           by-test (λ l. done l ≡ false → Waiting (n - 1) l) (cut (line h b (turn j u us ∷ rest)))
-          (λ _. kept-leave (h - 1) _ j u (n - 1) us rest pr (kept-pass (omega arith) (omega arith) w))
+          (λ _ nd. kept-leave (h - 1) _ j u (n - 1) us rest pr (kept-pass (omega arith) (omega arith) w) nd)
           (λ _ _. kept-pass (omega arith) (omega arith) w)
 
       pub kept-released : {n : ℕ} {l : Line} → Sound t known procs l → Waiting n l → done (released t l) ≡ false → Waiting n (released t l)
