@@ -1,4 +1,4 @@
--- From every sound state: whoever waits has what it waits for within its bound.
+-- From all orderly lines: whoever waits has what it waits for within its bound.
 use Rattle.folds.proofs.Ground.{ℕ, _+_, _-_, _≤_, _<_, Bool, true, false, not, and-false, or-true, true≢false, _≡_, refl, sym, ap, _∙_, _⊎_, inl, inr, List, [], _∷_, _++_, arith, not-true}
 use Rattle.folds.proofs.Tests.{and-parts}
 use Rattle.plan_reading.specs.Plan.{Plan, Valid}
@@ -15,7 +15,8 @@ use Rattle.machine_rules.specs.Machine.{View, terms, step, after}
 use Rattle.machine_rules.specs.Waiting.{isTick, ticks, Event, grants, ends, heads, occurs, Within, Bounded, TaskKept, CoreKept, ServedFrom}
 use Rattle.machine_rules.proofs.Moves.{Move, stays, enters, leaves, moved}
 use Rattle.machine_rules.proofs.Moves as Moves
-use Rattle.machine_rules.proofs.SoundLines.{known, SoundLines, fits, sound-step}
+use Rattle.machine_rules.proofs.SoundLines.{known, fits}
+use Rattle.machine_rules.proofs.OnceLines.{Orderly, orderly-step}
 
 tick-le : (c : Call) → isTick c ≤ 1
 tick-le (Request tag q) = omega arith
@@ -53,8 +54,8 @@ module _ (p : Plan) (v : Valid p) (q k : ℕ) (done : Line → Bool) (Own : List
   abbrev Bound : ℕ → Line → Type 0
   Bound = Waiting (terms p q) k done Own
 
-  bound-some : {s : View} {n : ℕ} → SoundLines p s → Bound n (s .lines q) → 1 ≤ n
-  bound-some w x = kept-some (terms p q) k done Own kept (known p q) (p .processors) (fits p v q) (w q) x
+  bound-some : {s : View} {n : ℕ} → Orderly p s → Bound n (s .lines q) → 1 ≤ n
+  bound-some w x = kept-some (terms p q) k done Own kept (known p q) (p .processors) (fits p v q) (w .sound q) x
 
   -- no move raises it, and a tick lowers it
   record Lowered (n : ℕ) (c : Call) (l : Line) : Type 0 where
@@ -62,30 +63,30 @@ module _ (p : Plan) (v : Valid p) (q k : ℕ) (done : Line → Bool) (Own : List
     less : most + isTick c ≤ n
     bound : Bound most l
 
-  lowered : {s : View} {c : Call} {l : Line} {n : ℕ} → SoundLines p s → Bound n (s .lines q) → done l ≡ false → Move p s q c l → Lowered n c l
+  lowered : {s : View} {c : Call} {l : Line} {n : ℕ} → Orderly p s → Bound n (s .lines q) → done l ≡ false → Move p s q c l → Lowered n c l
   lowered {n = n} w x d (stays z) = record { most = n; less = omega arith; bound = x }
   lowered {n = n} w x d (enters tag h) =
       record { most = n; less = omega arith; bound = kept-entered (terms p q) k done Own kept (taskNumber p tag) x }
   lowered {n = n} w x d (leaves tag) =
-      record { most = n; less = omega arith; bound = kept-released (terms p q) k done Own kept (known p q) (p .processors) (fits p v q) (w q) x d }
+      record { most = n; less = omega arith; bound = kept-released (terms p q) k done Own kept (known p q) (p .processors) (fits p v q) (w .sound q) x d }
   lowered {n = n} w x d Moves.ticks = record {
     most = n - 1;
     less = omega (arith, bound-some w x);
-    bound = kept-ticked (terms p q) k done Own kept (known p q) (p .processors) (fits p v q) (w q) x d;
+    bound = kept-ticked (terms p q) k done Own kept (known p q) (p .processors) (fits p v q) (w .sound q) x d;
   }
 
-  either : (s : View) (cs : List Call) (n : ℕ) → SoundLines p s → Bound n (s .lines q) → done (s .lines q) ≡ false → Either p e s cs n
+  either : (s : View) (cs : List Call) (n : ℕ) → Orderly p s → Bound n (s .lines q) → done (s .lines q) ≡ false → Either p e s cs n
   either s [] n w x d = inr (refl, bound-some w x)
   either s (c ∷ cs) n w x d =
       by-bool (λ _. Either p e s (c ∷ cs) n) (e s c)
       (λ h. inl (record { early = []; call = c; late = cs; split = refl; happens = h; soon = omega (arith, tick-le c, bound-some w x) }))
       (λ h. let y = tells s c d h in
       let g = lowered w x y (moved p s q c) in
-      either-later p e s c cs (g .most) n h (g .less) (either (step p s c) cs (g .most) (sound-step p v s c w) (g .bound) y))
+      either-later p e s c cs (g .most) n h (g .less) (either (step p s c) cs (g .most) (orderly-step p v s c w) (g .bound) y))
 
   -- where e is one of the calls that end the wait
   bounded : (over : Event p) → ((s : View) (c : Call) → e s c ≡ true → over s c ≡ true)
-      → (s : View) (cs : List Call) (n : ℕ) → SoundLines p s → Bound n (s .lines q) → done (s .lines q) ≡ false → Bounded p over e s cs n
+      → (s : View) (cs : List Call) (n : ℕ) → Orderly p s → Bound n (s .lines q) → done (s .lines q) ≡ false → Bounded p over e s cs n
   bounded over h s cs n w x d = go (either s cs n w x d)
     where
       go : Either p e s cs n → Bounded p over e s cs n
@@ -96,24 +97,24 @@ module _ (p : Plan) (v : Valid p) (q k : ℕ) (done : Line → Bool) (Own : List
 
 module _ (p : Plan) (v : Valid p) where
   -- a task that waits
-  task-served : (s : View) → SoundLines p s → (i q : ℕ) → waiting i (s .lines q) ≡ true
+  task-served : (s : View) → Orderly p s → (i q : ℕ) → waiting i (s .lines q) ≡ true
       → (cs : List Call) → TaskKept p i q s cs (limit (terms p q) i (aheadIn (terms p q) i (s .lines q)))
   task-served s w i q a cs =
       let t = terms p q in
       let (x, y) = and-parts (inLine i (s .lines q)) (not (holds i (s .lines q))) a in
       let b = not-true (holds i (s .lines q)) y in
       bounded p v q (processorOf p i) (holds i) (Tasks t i) (task-kept t i) (grants p i q) (λ s c d h. rw d at h)
-      (grants p i q) (λ s c h. h) s cs _ w (wait-bound t i (known p q) (p .processors) (fits p v q) (s .lines q) (w q) x b) b
+      (grants p i q) (λ s c h. h) s cs _ w (wait-bound t i (known p q) (p .processors) (fits p v q) (s .lines q) (w .sound q) x b) b
 
   -- a core that is queued and not head
-  core-served : (s : View) → SoundLines p s → (k q : ℕ) → without k (s .lines q) ≡ true → (cs : List Call) → CoreKept p k q s cs
+  core-served : (s : View) → Orderly p s → (k q : ℕ) → without k (s .lines q) ≡ true → (cs : List Call) → CoreKept p k q s cs
   core-served s w k q a cs =
       let t = terms p q in
       let (x, y) = and-parts (queued k (s .lines q)) (not (isHead k (s .lines q))) a in
       let b = not-true (isHead k (s .lines q)) y in
       bounded p v q k (isHead k) Some (core-kept t k) (heads p k q) (λ s c d h. h)
-      (ends p k q) (λ s c h. rw (h, and-false)) s cs _ w (head-bound t k (known p q) (p .processors) (fits p v q) (s .lines q) (w q) x b) b
+      (ends p k q) (λ s c h. rw (h, and-false)) s cs _ w (head-bound t k (known p q) (p .processors) (fits p v q) (s .lines q) (w .sound q) x b) b
 
-  -- whoever waits in sound lines is served
-  pub served-from : (s : View) → SoundLines p s → (cs : List Call) → ServedFrom p s cs
+  -- whoever waits in orderly lines is served
+  pub served-from : (s : View) → Orderly p s → (cs : List Call) → ServedFrom p s cs
   served-from s w cs = record { task = λ i q a. task-served s w i q a cs; core = λ k q a. core-served s w k q a cs }

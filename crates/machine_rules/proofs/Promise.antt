@@ -10,7 +10,7 @@ use Rattle.machine_rules.specs.declared.Call.{Call}
 use Rattle.machine_rules.specs.declared.Call.the-variants.{Request}
 use Rattle.machine_rules.specs.Machine.{View, terms, callCode, requestAnswer, acceptedAnswer, step, answer, after}
 use Rattle.machine_rules.specs.Waiting.{TaskKept, afterCall, Asked, Served}
-use Rattle.machine_rules.proofs.SoundLines.{SoundLines, accepted}
+use Rattle.machine_rules.proofs.SoundLines.{accepted}
 use Rattle.machine_rules.proofs.OnceLines.{Orderly, orderly-after}
 use Rattle.machine_rules.proofs.Bounds.{served-from}
 use Rattle.machine_rules.proofs.Since.{after-last, each-task, each-core}
@@ -49,25 +49,21 @@ module _ (p : Plan) where
       rw (t .code, eq-eqb q q refl) (told-waits (taskNumber p tag) q (s .lines q) a m (accepted p s tag q (t .code) .new) (t .waits))
 
 module _ (p : Plan) (v : Valid p) (s : View) (o : Orderly p s) where
-  -- lines that are sound wherever the list has come
-  later : (cs : List Call) → SoundLines p (after p s cs)
-  later cs = orderly-after p v s cs o .sound
-
   asked-kept : {calls : List Call} (tag q : ℕ) (w : Asked p s calls tag q)
       → TaskKept p (taskNumber p tag) q (afterCall p s (w .before) (Request tag q)) (w .since) (w .limit)
   asked-kept tag q w =
       let here : View = afterCall p s (w .before) (Request tag q) in
       let x : WaitsIn p (taskNumber p tag) q (here .lines q) (w .limit) =
       rw (after-last p s (w .before) (Request tag q)) (request-waits p (after p s (w .before)) tag q (w .ahead) (w .limit) (w .answered)) in
-      rw (x .bound) at (served-from p v here (later (w .before ++ (Request tag q ∷ []))) (w .since) .task (taskNumber p tag) q (x .waits))
+      rw (x .bound) at (served-from p v here (orderly-after p v s (w .before ++ (Request tag q ∷ [])) o) (w .since) .task (taskNumber p tag) q (x .waits))
 
   -- the promise for a list of calls
   pub all-served : (calls : List Call) → Served p s calls
   all-served calls =
       record {
         asked = asked-kept;
-        sent = λ k q w. served-from p v (afterCall p s (w .before) (w .call)) (later (w .before ++ (w .call ∷ []))) (w .since) .core k q (w .went);
-        start = served-from p v s (o .sound) calls;
+        sent = λ k q w. served-from p v (afterCall p s (w .before) (w .call)) (orderly-after p v s (w .before ++ (w .call ∷ [])) o) (w .since) .core k q (w .went);
+        start = served-from p v s o calls;
         each-task = each-task p v s calls o;
         each-core = each-core p v s calls o;
       }

@@ -1,4 +1,4 @@
--- The lines of a valid plan are sound from a fresh state on, whatever is called.
+-- What the bound on waiting asks of a plan's figures, and of the tasks that come to a line.
 use Rattle.folds.proofs.Ground.{ℕ, Bool, true, false, _&&_, _≡_, arith}
 use Rattle.folds.proofs.Tests.{and-parts, is-not-true, first-zero, then-zero, any-at}
 use Rattle.plan_reading.specs.Plan.{Plan, Valid}
@@ -7,11 +7,8 @@ use Rattle.analysis_equations.specs.HoldTimes.{holdAt, waitTime}
 use Rattle.analysis_equations.specs.Questions.{taskNumber, useCode}
 use Rattle.analysis_equations.proofs.Laws.{uses-out, Sharing, use-clear, hold-low, hold-within}
 use Rattle.queue_rules.specs.Rules.{Line, inLine}
-use Rattle.queue_rules.proofs.Sound.{Fits, Sound, is-free}
-use Rattle.queue_rules.proofs.Moves.{sound-entered, sound-released, sound-ticked}
-use Rattle.machine_rules.specs.declared.Call.{Call}
-use Rattle.machine_rules.specs.Machine.{View, fresh, terms, busy, requestCode, step}
-use Rattle.machine_rules.proofs.Moves.{Move, stays, enters, leaves, ticks, moved}
+use Rattle.queue_rules.proofs.Sound.{Fits, Sound}
+use Rattle.machine_rules.specs.Machine.{View, terms, busy, requestCode}
 
 -- the tasks that may come to the line of q: its users, where it is global
 abbrev pub known : Plan → ℕ → ℕ → Bool
@@ -19,10 +16,6 @@ known p q i = global p q && uses p i q
 
 abbrev pub SoundAt : Plan → ℕ → Line → Type 0
 SoundAt p q l = Sound (terms p q) (known p q) (p .processors) l
-
--- the line of each resource is sound
-abbrev pub SoundLines : Plan → View → Type 0
-SoundLines p s = (q : ℕ) → SoundAt p q (s .lines q)
 
 -- a request that is not refused
 pub record Accepted (p : Plan) (s : View) (i q : ℕ) : Type 0 where
@@ -41,9 +34,6 @@ module _ (p : Plan) where
             (λ h. let z : _≡_ {A = ℕ} 15 0 = rw (any-at (p .resources) q (λ r. inLine (taskNumber p tag) (s .lines r)) (x .resource) h) at idle in
             omega arith);
       }
-
-  pub sound-fresh : SoundLines p fresh
-  sound-fresh q = is-free
 
 module _ (p : Plan) (v : Valid p) where
   -- what is known of a task that may come
@@ -64,12 +54,3 @@ module _ (p : Plan) (v : Valid p) where
         placed = λ i k. v .task-fits i (known-sharing i q k .task) .processor;
         waits = λ k. omega arith;
       }
-
-  pub sound-step : (s : View) (c : Call) → SoundLines p s → SoundLines p (step p s c)
-  sound-step s c w q = go (moved p s q c)
-    where
-      go : {c : Call} {l : Line} → Move p s q c l → SoundAt p q l
-      go (stays z) = w q
-      go (enters tag e) = sound-entered (terms p q) (known p q) (p .processors) (fits q) (taskNumber p tag) (accepted p s tag q e .user) (w q)
-      go (leaves tag) = sound-released (terms p q) (known p q) (p .processors) (fits q) (w q)
-      go ticks = sound-ticked (terms p q) (known p q) (p .processors) (fits q) (w q)
