@@ -12,6 +12,7 @@ use Rattle.analysis_equations.specs.HoldTimes.{fellow}
 use Rattle.analysis_equations.specs.Questions.{taskNumber, sharingCode, useCode}
 use Rattle.analysis_equations.proofs.Laws.{used-out, Sharing, use-clear}
 use Rattle.queue_rules.specs.Rules.{Terms, Line, free, among, inLine, entered}
+use Rattle.queue_rules.proofs.Cases.{by-bool}
 use Rattle.queue_rules.proofs.Lists.{among-below}
 use Rattle.queue_rules.proofs.Held.{heldBy, held-without, held-tasks, held-entered}
 use Rattle.machine_rules.specs.declared.Call.{Call}
@@ -56,24 +57,22 @@ module _ (p : Plan) (q : ℕ) where
     here : s .lines q ≡ l
     elsewhere : (r : ℕ) → (r ≡ q → ⊥) → s .lines r ≡ free
 
-  only-code : (l : Line) (s : View) (tag : ℕ) → Only l s → useCode p tag q ≡ 0 → inLine (taskNumber p tag) l ≡ false → requestCode p s tag q ≡ 0
-  unfolding requestCode busy
-  only-code l s tag o u new = rw (u, any-none (p .resources) (λ r. inLine (taskNumber p tag) (s .lines r)) (λ r _. idle r))
-    where
-      idle : (r : ℕ) → inLine (taskNumber p tag) (s .lines r) ≡ false
-      idle r = on-eq (inLine (taskNumber p tag) (s .lines r) ≡ false) r q (λ e. rw (e, o .here) new) (λ d. rw (o .elsewhere r d))
+  module _ (l : Line) (s : View) (tag : ℕ) (o : Only l s) (u : useCode p tag q ≡ 0) (new : inLine (taskNumber p tag) l ≡ false) where
+    only-code : requestCode p s tag q ≡ 0
+    unfolding requestCode busy
+    only-code = rw (u, any-none (p .resources) (λ r. inLine (taskNumber p tag) (s .lines r)) (λ r _. idle r))
+      where
+        idle : (r : ℕ) → inLine (taskNumber p tag) (s .lines r) ≡ false
+        idle r = on-eq (inLine (taskNumber p tag) (s .lines r) ≡ false) r q (λ e. rw (e, o .here) new) (λ d. rw (o .elsewhere r d))
 
-  only-step : (l : Line) (s : View) (tag : ℕ) → Only l s → useCode p tag q ≡ 0 → inLine (taskNumber p tag) l ≡ false
-      → Only (entered (terms p q) (taskNumber p tag) l) (step p s (Request tag q))
-  unfolding step
-  only-step l s tag o u new =
-      rw (only-code l s tag o u new)
-      (record { here = rw (eq-eqb q q refl, o .here); elsewhere = λ r d. rw (ne-eqb r q d) (o .elsewhere r d) })
+    only-step : Only (entered (terms p q) (taskNumber p tag) l) (step p s (Request tag q))
+    unfolding step
+    only-step =
+        rw only-code (record { here = rw (eq-eqb q q refl, o .here); elsewhere = λ r d. rw (ne-eqb r q d) (o .elsewhere r d) })
 
-  only-told : (l : Line) (s : View) (tag : ℕ) → Only l s → useCode p tag q ≡ 0 → inLine (taskNumber p tag) l ≡ false
-      → answer p s (Request tag q) ≡ requestAnswer p (taskNumber p tag) q l
-  unfolding answer
-  only-told l s tag o u new = rw (only-code l s tag o u new, o .here)
+    only-told : answer p s (Request tag q) ≡ requestAnswer p (taskNumber p tag) q l
+    unfolding answer
+    only-told = rw (only-code, o .here)
 
 module _ (p : Plan) (v : Valid p) (tags : (a b : ℕ) → a < p .tasks → b < p .tasks → p .task a .tag ≡ p .task b .tag → a ≡ b) where
   -- a task is found by its tag
@@ -101,26 +100,19 @@ module _ (p : Plan) (v : Valid p) (tags : (a b : ℕ) → a < p .tasks → b < p
           → Only p q (heldBy (terms p q) j (processorOf p i) (listBelow n (fellow p i q))) (run p (comers p q j (fellow p i q) n))
       unfolding listBelow comers
       comers-wait zero l = user-comes free fresh j uj (record { here = refl; elsewhere = λ r d. refl }) refl
-      comers-wait (suc n) l = go (fellow p i q n) refl (comers-wait n (omega arith))
-        where
-          k : ℕ
-          k = processorOf p i
-
-          us : List ℕ
-          us = listBelow n (fellow p i q)
-
-          cs : List Call
-          cs = comers p q j (fellow p i q) n
-
-          go : (b : Bool) → fellow p i q n ≡ b → Only p q (heldBy (terms p q) j k us) (run p cs)
-              → Only p q (heldBy (terms p q) j k (us ++ cond b (n ∷ []) [])) (run p (cs ++ cond b (Request (p .task n .tag) q ∷ []) []))
-          go true f o =
-              let x = fellow-facts p q i n f in
-              let u = known-sharing p v n q (rw (ui .shared, x .used)) in
-              let late : among n us ≡ false = is-not-true _ (λ a. let (m, _) = among-below n n (fellow p i q) a in omega arith) in
-              rw (after-last p fresh cs (Request (p .task n .tag) q), ← held-entered (terms p q) j k other n us (x .near))
-              (user-comes _ (run p cs) n u o (held-without (terms p q) j k n us (λ e. other (ap (processorOf p) e ∙ x .near)) late))
-          go false f o = rw (append-nil us, append-nil cs) o
+      comers-wait (suc n) l =
+          let t : Terms = terms p q in
+          let k : ℕ = processorOf p i in
+          let us : List ℕ = listBelow n (fellow p i q) in
+          let cs : List Call = comers p q j (fellow p i q) n in
+          let before = comers-wait n (omega arith) in
+          by-bool (λ b. Only p q (heldBy t j k (us ++ cond b (n ∷ []) [])) (run p (cs ++ cond b (Request (p .task n .tag) q ∷ []) []))) (fellow p i q n)
+          (λ f. let x = fellow-facts p q i n f in
+          let u = known-sharing p v n q (rw (ui .shared, x .used)) in
+          let late : among n us ≡ false = is-not-true _ (λ a. let (m, _) = among-below n n (fellow p i q) a in omega arith) in
+          rw (after-last p fresh cs (Request (p .task n .tag) q), ← held-entered t j k other n us (x .near))
+          (user-comes _ (run p cs) n u before (held-without t j k n us (λ e. other (ap (processorOf p) e ∙ x .near)) late)))
+          (λ _. rw (append-nil us, append-nil cs) before)
 
       -- once all have, i is told so
       all-ahead : (tag : ℕ) → taskNumber p tag ≡ i → useCode p tag q ≡ 0
