@@ -1,5 +1,5 @@
 -- Everybody who waits after a list of calls has done so since the start, or since a call of the list.
-use Rattle.folds.proofs.Ground.{ℕ, Bool, true, false, _&&_, _||_, not, and-false, true≢false, _≡_, refl, sym, ap, _∙_, _⊎_, inl, inr, List, [], _∷_, _++_, eq-eqb, not-true}
+use Rattle.folds.proofs.Ground.{ℕ, Bool, true, false, _&&_, _||_, not, and-false, true≢false, _≡_, refl, sym, ap, _∙_, _⊎_, inl, inr, ⊎-elim, List, [], _∷_, _++_, eq-eqb, not-true}
 use Rattle.folds.proofs.Tests.{and-parts}
 use Rattle.plan_reading.specs.Plan.{Plan, Valid}
 use Rattle.analysis_equations.specs.Questions.{taskNumber}
@@ -32,12 +32,8 @@ module _ (p : Plan) (seen : View → Bool) (e : Event p) (Begins : View → Call
     seen-since s [] o w = at-start w refl
     seen-since s (c ∷ cs) o w = go (seen-since (step p s c) cs (orderly-step p v s c o) w)
       where
-        here : seen (step p s c) ≡ true → occurs p e (step p s c) cs ≡ false → (seen s ≡ true) ⊎ Begins s c → Since s (c ∷ cs)
-        here x y (inl h) = at-start h (rw (goes-on s c x, y))
-        here x y (inr h) = by-call [] c cs refl h x y
-
         go : Since (step p s c) cs → Since s (c ∷ cs)
-        go (at-start x y) = here x y (begins s c o x)
+        go (at-start x y) = ⊎-elim (λ h. at-start h (rw (goes-on s c x, y))) (λ h. by-call [] c cs refl h x y) (begins s c o x)
         go (by-call before d since l b x y) = by-call (c ∷ before) d since (ap (λ (l : List Call). c ∷ l) l) b x y
 
 module _ (p : Plan) (v : Valid p) where
@@ -53,30 +49,22 @@ module _ (p : Plan) (v : Valid p) where
   unfolding answer
   told-wait s tag q e w = go (s .lines q) refl w
     where
-      told : answer p s (Request tag q) ≡ requestAnswer p (taskNumber p tag) q (s .lines q)
-      told = rw e
-
       i : ℕ
       i = taskNumber p tag
 
       go : (l : Line) → s .lines q ≡ l → waiting i (entered (terms p q) i l) ≡ true → Requests s i q (Request tag q)
-      go (line h b []) f x =
-          let l : Line = entered (terms p q) i (line h b []) in
-          let (_, n) = and-parts (inLine i l) (not (holds i l)) x in
-          absurd (true≢false (sym n ∙ rw (eq-eqb i i refl)))
-      go (line h b (x ∷ rest)) f _ = requests refl (told ∙ ap (requestAnswer p i q) f)
+      go (line h b []) f x = absurd (true≢false (sym (rw (eq-eqb i i refl) at x)))
+      go (line h b (x ∷ rest)) f _ =
+          let told : answer p s (Request tag q) ≡ requestAnswer p i q (s .lines q) = rw e in requests refl (told ∙ ap (requestAnswer p i q) f)
 
   task-begins : (i q : ℕ) (s : View) (c : Call) → Orderly p s → waiting i (step p s c .lines q) ≡ true → (waiting i (s .lines q) ≡ true) ⊎ Requests s i q c
   task-begins i q s c o = go (moved p s q c)
     where
-      came : (tag : ℕ) → callCode p s (Request tag q) ≡ 0 → waiting i (entered (terms p q) (taskNumber p tag) (s .lines q)) ≡ true
-          → (waiting i (s .lines q) ≡ true) ⊎ (taskNumber p tag ≡ i) → (waiting i (s .lines q) ≡ true) ⊎ Requests s i q (Request tag q)
-      came tag e w (inl h) = inl h
-      came tag e w (inr h) = inr (rw h at (told-wait s tag q e (rw (← h) at w)))
-
       go : {c : Call} {l : Line} → Move p s q c l → waiting i l ≡ true → (waiting i (s .lines q) ≡ true) ⊎ Requests s i q c
       go (stays z) w = inl w
-      go (enters tag e) w = came tag e w (entered-waiting (terms p q) (known p q) (p .processors) i (taskNumber p tag) (s .lines q) w)
+      go (enters tag e) w =
+          ⊎-elim (λ h. inl h) (λ h. inr (rw h at (told-wait s tag q e (rw (← h) at w))))
+          (entered-waiting (terms p q) (known p q) (p .processors) i (taskNumber p tag) (s .lines q) w)
       go (leaves tag) w = inl (released-waiting (terms p q) (known p q) (p .processors) i (fits p v q) (o .sound q) (o .once q) w)
       go ticks w = inl (ticked-waiting (terms p q) (known p q) (p .processors) i (fits p v q) (o .sound q) (o .once q) w)
 
@@ -107,18 +95,16 @@ module _ (p : Plan) (v : Valid p) where
   abbrev Comes : ℕ → ℕ → View → Call → Type 0
   Comes k q s c = (not (queued k (s .lines q)) || isHead k (s .lines q)) ≡ true
 
-  core-begins : (k q : ℕ) (s : View) (c : Call) → Orderly p s → without k (step p s c .lines q) ≡ true → (without k (s .lines q) ≡ true) ⊎ Comes k q s c
-  core-begins k q s c o w = go (queued k (s .lines q)) (isHead k (s .lines q))
-    where
-      go : (a b : Bool) → ((a && not b) ≡ true) ⊎ ((not a || b) ≡ true)
-      go true true = inr refl
-      go true false = inl refl
-      go false b = inr refl
+  core-begins : (queued head : Bool) → ((queued && not head) ≡ true) ⊎ ((not queued || head) ≡ true)
+  core-begins true true = inr refl
+  core-begins true false = inl refl
+  core-begins false b = inr refl
 
   -- each core that is without the resource came to the queue, or was sent to its tail
   pub each-core : (s : View) (calls : List Call) → Orderly p s → (k q : ℕ) → without k (after p s calls .lines q) ≡ true → CoreSince p s calls k q
   each-core s calls o k q w =
-      go (seen-since p (λ s. without k (s .lines q)) (ends p k q) (Comes k q) v (λ s c x. rw x) (core-begins k q) s calls o w)
+      go (seen-since p (λ s. without k (s .lines q)) (ends p k q) (Comes k q) v (λ s c x. rw x)
+      (λ s c _ _. core-begins (queued k (s .lines q)) (isHead k (s .lines q))) s calls o w)
     where
       go : Since p (λ s. without k (s .lines q)) (ends p k q) (Comes k q) s calls → CoreSince p s calls k q
       go (at-start x y) = core-since-start x y

@@ -51,10 +51,6 @@ module _ {n : ℕ} {R S : ℕ → ℕ → ℕ} {k : ℕ} (x : Leaves n R S k) wh
       (list-shift (maxBelow n (S k) - 1) 2 (taskRanked n (R k))
       ∙ list-same (maxBelow n (S k) - 1) 2 (λ j. taskRanked n (R k) (suc j)) (taskRanked n (S k)) (λ j b l. sym (leave-task j (omega arith)))))
 
-  leave-empty : maxBelow n (R k) ≤ 1 → othersOf n (R k) ≡ []
-  unfolding listFrom
-  leave-empty a = let m : maxBelow n (R k) - 1 ≡ 0 = omega arith in rw m
-
 -- ── a head begins ──
 module _ (n : ℕ) (t : Terms) (R : ℕ → ℕ → ℕ) where
   pub begin-none : (c : ℕ) (g : ℕ → ℕ) → c ≡ 0 → begin t (queueFrom n R c g) ≡ line 0 0 (queueFrom n R c g)
@@ -95,7 +91,7 @@ module _ {n m : ℕ} (t : Terms) {R S : ℕ → ℕ → ℕ} {c : ℕ} {g : ℕ 
   pub leave-last : (b : ℕ) (f : ℕ → ℕ) → maxBelow n (R (g 0)) ≤ 1 → ((j : ℕ) → j < c → f j ≡ g (suc j))
       → leave t b (queueFrom n R (suc c) g) ≡ begin t (queueFrom n S c f)
   unfolding listFrom
-  leave-last b f a h = rw (leave-empty x a, behind f h)
+  leave-last b f a h = let m : maxBelow n (R (g 0)) - 1 ≡ 0 = omega arith in rw (m, behind f h)
 
   -- the next is granted within the budget left
   pub leave-next : (b : ℕ) → 2 ≤ maxBelow n (R (g 0)) → t .hold (taskRanked n (S (g 0)) 1) ≤ b
