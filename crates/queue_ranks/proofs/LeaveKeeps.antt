@@ -35,7 +35,7 @@ module _ {n m : ℕ} {R S : ℕ → ℕ → ℕ} {c : ℕ} {g : ℕ → ℕ} (x 
 
 -- ── the hold and the budget left ──
 pub free-timed : (n : ℕ) (t : Terms) (R : ℕ → ℕ → ℕ) (c : ℕ) (g : ℕ → ℕ) → c ≡ 0 → Timed n t R c g 0 0
-free-timed n t R c g e = record { idle = λ _. (refl, refl); runs = λ a. let bad : ⊥ = omega arith in absurd bad }
+free-timed n t R c g e = record { idle = λ _. (refl, refl); runs = λ a. omega arith }
 
 -- a tick that does not end the hold
 pub tick-timed : {n : ℕ} {t : Terms} {R : ℕ → ℕ → ℕ} {c : ℕ} {g : ℕ → ℕ} {h b : ℕ} → Timed n t R c g h b → 1 ≤ c → 2 ≤ h

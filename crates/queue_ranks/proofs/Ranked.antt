@@ -37,7 +37,7 @@ pub record Timed (n : ℕ) (t : Terms) (R : ℕ → ℕ → ℕ) (c : ℕ) (g : 
 -- a held line, whose clock runs
 pub held-timed : {n : ℕ} {t : Terms} {R : ℕ → ℕ → ℕ} {c : ℕ} {g : ℕ → ℕ} {h b : ℕ} → 1 ≤ c
     → Clock h b (t .hold (taskRanked n (R (g 0)) 1)) (t .budget (g 0)) → Timed n t R c g h b
-held-timed a k = record { idle = λ z. let bad : ⊥ = omega arith in absurd bad; runs = λ _. (k .runs, k .lent, k .covered, k .budgeted) }
+held-timed a k = record { idle = λ z. omega arith; runs = λ _. (k .runs, k .lent, k .covered, k .budgeted) }
 
 -- the task found at a rank has it, and is the first that has
 pub task-rank : (n j : ℕ) (f : ℕ → ℕ) → taskRanked n f j < n → f (taskRanked n f j) ≡ j
@@ -50,14 +50,9 @@ task-first n j u f l e = find-first n u (λ v. eqb (f v) j) l (eq-eqb _ _ e)
 pub max-there : (n : ℕ) (f : ℕ → ℕ) → 1 ≤ maxBelow n f → taskRanked n f (maxBelow n f) < n
 max-there n f a =
     on-le (taskRanked n f (maxBelow n f) < n) n (taskRanked n f (maxBelow n f))
-    (λ out. let b : maxBelow n f ≤ maxBelow n f - 1 = max-bound n (maxBelow n f - 1) f (less out) in omega arith)
+    (λ out. omega (arith, max-bound n (maxBelow n f - 1) f (λ u l. on-eq (f u ≤ maxBelow n f - 1) (f u) (maxBelow n f)
+    (λ e. omega (arith, task-first n (maxBelow n f) u f l e)) (λ ne. omega (arith, max-at n u f l)))))
     (λ l. l)
-  where
-    less : n ≤ taskRanked n f (maxBelow n f) → (u : ℕ) → u < n → f u ≤ maxBelow n f - 1
-    less out u l =
-        on-eq (f u ≤ maxBelow n f - 1) (f u) (maxBelow n f)
-        (λ e. let x = task-first n (maxBelow n f) u f l e in let bad : ⊥ = omega arith in absurd bad)
-        (λ ne. omega (arith, max-at n u f l))
 
 -- where no two tasks share a rank, the last task of rank j is the first
 pub seated : (n : ℕ) (f : ℕ → ℕ) → ((u : ℕ) → u < n → 1 ≤ f u → taskRanked n f (f u) ≡ u) → (j : ℕ) → 1 ≤ j
@@ -93,8 +88,7 @@ module _ {n : ℕ} {t : Terms} {R : ℕ → ℕ → ℕ} (r : Ranked n t R) wher
   -- who has a rank in k's queue is k's
   pub owner : (k u : ℕ) → u < n → 1 ≤ R k u → k ≡ t .processor u
   owner k u l a =
-      on-eq (k ≡ t .processor u) k (t .processor u) (λ e. e)
-      (λ ne. let z = r .own k u l ne in let bad : ⊥ = omega arith in absurd bad)
+      on-eq (k ≡ t .processor u) k (t .processor u) (λ e. e) (λ ne. omega (arith, r .own k u l ne))
 
   pub ranked-at : (k : ℕ) → RankedAt n t k (R k)
   ranked-at k = record {

@@ -4,7 +4,7 @@ use Rattle.folds.specs.Below.{countBelow, sumBelow, listBelow}
 use Rattle.folds.proofs.Tests.{or-out}
 use Rattle.folds.proofs.Figures.{sum-count}
 use Rattle.queue_rules.specs.Rules.{among, sumOf}
-use Rattle.queue_rules.proofs.Cases.{by-test}
+use Rattle.queue_rules.proofs.Cases.{by-bool, by-test}
 use Rattle.queue_rules.proofs.Sound.{among-last}
 
 pub among-below : (n i : ℕ) (f : ℕ → Bool) → among i (listBelow n f) ≡ true → (i < n) × (f i ≡ true)
@@ -24,11 +24,9 @@ sum-append g (u ∷ a) b = omega (arith, sum-append g a b)
 pub list-sum : (g : ℕ → ℕ) (n : ℕ) (f : ℕ → Bool) → sumOf g (listBelow n f) ≡ sumBelow n (λ k. cond (f k) (g k) 0)
 unfolding listBelow sumBelow
 list-sum g zero f = refl
-list-sum g (suc n) f = sum-append g (listBelow n f) (cond (f n) (n ∷ []) []) ∙ omega (arith, list-sum g n f, one (f n))
-  where
-    one : (b : Bool) → sumOf g (cond b (n ∷ []) []) ≡ cond b (g n) 0
-    one true = omega arith
-    one false = refl
+list-sum g (suc n) f =
+    let one = by-bool (λ b. sumOf g (cond b (n ∷ []) []) ≡ cond b (g n) 0) (f n) (λ _. omega arith) (λ _. refl) in
+    sum-append g (listBelow n f) (cond (f n) (n ∷ []) []) ∙ omega (arith, list-sum g n f)
 
 -- a sum of ones is a length
 pub sum-ones : (us : List ℕ) → sumOf (λ u. 1) us ≡ length us

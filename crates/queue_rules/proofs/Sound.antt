@@ -4,7 +4,7 @@ use Rattle.folds.specs.Below.{sumBelow}
 use Rattle.folds.proofs.Figures.{sum-same}
 use Rattle.folds.proofs.Ranges.{sum-insert}
 use Rattle.queue_rules.specs.Rules.{Terms, Turn, turn, Line, line, free, queueOf, among, hasTurn}
-use Rattle.queue_rules.proofs.Cases.{or-no}
+use Rattle.queue_rules.proofs.Cases.{by-bool, or-no}
 
 -- What is asked of the terms, for those tasks that may come and with so many processors: a task may hold for a tick or more, and for
 -- no more than its processor's budget; a processor waits for the budgets of all others
@@ -31,11 +31,8 @@ but f k l = cond (eqb l k) 0 (f l)
 pub but-lt : (f : ℕ → ℕ) (k n : ℕ) → k < n → f k + sumBelow n (but f k) ≤ sumBelow n f
 but-lt f k n lt =
     omega (arith, sum-insert n k (λ _. true) (λ l. not (eqb l k)) f lt refl (rw (eq-eqb k k refl)) (λ j _ d. rw (ne-eqb j k d)),
-    sum-same n (but f k) (λ l. cond (not (eqb l k)) (f l) 0) (λ l _. flip (eqb l k) (f l)))
-  where
-    flip : (b : Bool) (x : ℕ) → cond b 0 x ≡ cond (not b) x 0
-    flip true x = refl
-    flip false x = refl
+    sum-same n (but f k) (λ l. cond (not (eqb l k)) (f l) 0) 
+    (λ l _. by-bool (λ b. cond b 0 (f l) ≡ cond (not b) (f l) 0) (eqb l k) (λ _. refl) (λ _. refl)))
 
 -- a processor that has no turn adds nothing
 pub load-but : (f : ℕ → ℕ) (k : ℕ) (q : List Turn) → hasTurn k q ≡ false → load f q ≡ load (but f k) q
