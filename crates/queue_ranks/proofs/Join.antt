@@ -5,7 +5,7 @@ use Rattle.folds.proofs.Figures.{max-at, max-bound}
 use Rattle.queue_rules.specs.Rules.{Terms, Turn, turn, line, join, entered}
 use Rattle.queue_ranks.specs.Ranks.{listFrom, taskRanked, othersOf, turnOf, queueFrom}
 use Rattle.folds.proofs.Searches.{on-eq, find-same, find-is}
-use Rattle.queue_ranks.proofs.Lists.{list-same, list-snoc}
+use Rattle.queue_ranks.proofs.Lists.{list-first, list-same, list-snoc}
 use Rattle.queue_ranks.proofs.Ranked.{At, Queued}
 use Rattle.queue_ranks.proofs.Same.{other-turn}
 
@@ -102,9 +102,7 @@ module _ {n : ℕ} {t : Terms} {R S : ℕ → ℕ → ℕ} {i : ℕ} (x : Joins 
       rw (e, p) (ap (λ (y : Turn). line (t .hold i) (t .budget core) (y ∷ [])) (sym (new-turn z)))
 
   enter-held : (c : ℕ) (g : ℕ → ℕ) (h b : ℕ) → 1 ≤ c → entered t i (line h b (queueFrom n R c g)) ≡ line h b (join t i (queueFrom n R c g))
-  unfolding listFrom
-  enter-held zero g h b a = let bad : ⊥ = omega arith in absurd bad
-  enter-held (suc c) g h b a = refl
+  enter-held c g h b a = rw (list-first c 0 (λ j. turnOf n R (g j)) a)
 
   -- a held one, in which its processor is not
   pub enter-new : {m : ℕ} (c : ℕ) (g f : ℕ → ℕ) (h b : ℕ) → 1 ≤ c → Queued n m R c g → most ≡ 0

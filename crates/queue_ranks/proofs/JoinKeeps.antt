@@ -43,7 +43,7 @@ module _ {n : ℕ} {t : Terms} {R S : ℕ → ℕ → ℕ} {i : ℕ} (x : Joins 
   pub join-timed : {m c : ℕ} {g : ℕ → ℕ} {h b : ℕ} (d : ℕ) (f : ℕ → ℕ) → Queued n m R c g → Timed n t R c g h b → 1 ≤ c → 1 ≤ d → f 0 ≡ g 0
       → Timed n t S d f h b
   join-timed {m} {c} {g} {h} {b} d f w k a a2 e = record {
-    idle = λ z. let bad : ⊥ = omega arith in absurd bad;
+    idle = λ z. omega arith;
     runs = λ _. rw (e, task-stays (g 0) 1 (omega arith) (w .served 0 a)) (k .runs a);
   }
 

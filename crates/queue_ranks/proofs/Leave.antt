@@ -1,12 +1,12 @@
 -- The first task of the head leaves, or a head begins: the rules' line after it, over ranks and slots.
-use Rattle.folds.proofs.Ground.{ℕ, zero, suc, _-_, _<_, _≤_, Bool, cond, _≡_, refl, sym, ap, _∙_, _≢_, List, [], _∷_, _++_, eqb, arith, le-leb, lt-leb}
+use Rattle.folds.proofs.Ground.{ℕ, suc, _-_, _<_, _≤_, Bool, cond, _≡_, sym, ap, _∙_, _≢_, List, [], _∷_, _++_, eqb, arith, le-leb, lt-leb}
 use Rattle.folds.specs.Below.{maxBelow}
 use Rattle.folds.proofs.Figures.{max-at, max-bound}
 use Rattle.folds.proofs.Arrays.{by-eq}
 use Rattle.queue_rules.specs.Rules.{Terms, Turn, line, begin, leave, ticked}
 use Rattle.queue_ranks.specs.Ranks.{listFrom, taskRanked, othersOf, turnOf, queueFrom}
 use Rattle.folds.proofs.Searches.{find-same, same-eqb}
-use Rattle.queue_ranks.proofs.Lists.{list-same, list-shift, list-snoc}
+use Rattle.queue_ranks.proofs.Lists.{list-first, list-same, list-shift, list-snoc}
 use Rattle.queue_ranks.proofs.Ranked.{Queued}
 use Rattle.queue_ranks.proofs.Same.{other-task, other-turn}
 
@@ -59,9 +59,7 @@ module _ (n : ℕ) (t : Terms) (R : ℕ → ℕ → ℕ) where
 
   pub begin-some : (c : ℕ) (g : ℕ → ℕ) → 1 ≤ c
       → begin t (queueFrom n R c g) ≡ line (t .hold (taskRanked n (R (g 0)) 1)) (t .budget (g 0)) (queueFrom n R c g)
-  unfolding listFrom
-  begin-some zero g a = let bad : ⊥ = omega arith in absurd bad
-  begin-some (suc c) g a = refl
+  begin-some c g a = rw (list-first c 0 (λ i. turnOf n R (g i)) a)
 
   -- ── a tick ──
   pub tick-none : (c : ℕ) (g : ℕ → ℕ) (h b : ℕ) → c ≡ 0 → ticked t (line h b (queueFrom n R c g)) ≡ line h b (queueFrom n R c g)
@@ -71,9 +69,7 @@ module _ (n : ℕ) (t : Terms) (R : ℕ → ℕ → ℕ) where
   pub tick-some : (c : ℕ) (g : ℕ → ℕ) (h b : ℕ) → 1 ≤ c
       → ticked t (line h b (queueFrom n R c g))
       ≡ cond (eqb (h - 1) 0) (leave t (b - 1) (queueFrom n R c g)) (line (h - 1) (b - 1) (queueFrom n R c g))
-  unfolding listFrom
-  tick-some zero g h b a = let bad : ⊥ = omega arith in absurd bad
-  tick-some (suc c) g h b a = refl
+  tick-some c g h b a = rw (list-first c 0 (λ i. turnOf n R (g i)) a)
 
 -- ── the line; the head is g 0, c others are queued ──
 module _ {n m : ℕ} (t : Terms) {R S : ℕ → ℕ → ℕ} {c : ℕ} {g : ℕ → ℕ} (x : Leaves n R S (g 0)) (w : Queued n m R (suc c) g) where

@@ -1,5 +1,5 @@
 -- What a sound line shows: a proper queue, the tasks of each processor, and who stands in line.
-use Rattle.folds.proofs.Ground.{ℕ, zero, suc, _+_, _-_, _<_, _≤_, Bool, true, false, cond, _||_, or-true, true≢false, _≡_, refl, sym, ap, _∙_, _≢_, List, _∷_, eqb, leb, arith, eqb-true, eq-eqb, ne-eqb, le-leb, lt-leb}
+use Rattle.folds.proofs.Ground.{ℕ, zero, suc, _+_, _<_, _≤_, Bool, true, false, cond, _||_, or-true, true≢false, _≡_, refl, sym, ap, _∙_, _≢_, List, _∷_, eqb, leb, arith, eqb-true, eq-eqb, ne-eqb, le-leb, lt-leb}
 use Rattle.folds.specs.Below.{maxBelow}
 use Rattle.folds.proofs.Tests.{or-out, is-not-true}
 use Rattle.folds.proofs.Figures.{max-at}
@@ -10,6 +10,7 @@ use Rattle.queue_rules.proofs.FirstCome.{no-tasks}
 use Rattle.queue_rules.proofs.Own.{own-stands}
 use Rattle.queue_ranks.specs.Ranks.{listFrom, taskRanked, othersOf, turnOf, queueFrom}
 use Rattle.folds.proofs.Searches.{on-eq, on-le}
+use Rattle.queue_ranks.proofs.Lists.{list-first}
 use Rattle.queue_ranks.proofs.Ranked.{At, Ranked, Queued, task-rank, ranked-at, full}
 
 -- the tasks of a turn, first and others
@@ -17,8 +18,7 @@ abbrev tasks : ℕ → (ℕ → ℕ) → List ℕ
 tasks n f = taskRanked n f 1 ∷ othersOf n f
 
 pub all-tasks : (n : ℕ) (f : ℕ → ℕ) → 1 ≤ maxBelow n f → taskRanked n f 1 ∷ othersOf n f ≡ listFrom (maxBelow n f) 1 (taskRanked n f)
-unfolding listFrom
-all-tasks n f a = let e : suc (maxBelow n f - 1) ≡ maxBelow n f = omega arith in ap (λ (m : ℕ). listFrom m 1 (taskRanked n f)) e
+all-tasks n f a = sym (list-first (maxBelow n f) 1 (taskRanked n f) a)
 
 -- ── one of a list is one of its numbers' figures ──
 among-there : (i : ℕ) (f : ℕ → ℕ) (c a j : ℕ) → a ≤ j → j < a + c → f j ≡ i → among i (listFrom c a f) ≡ true
@@ -110,6 +110,4 @@ module _ (n : ℕ) (R : ℕ → ℕ → ℕ) (i : ℕ) where
   holds-none c g h b e = rw e
 
   pub holds-first : (c : ℕ) (g : ℕ → ℕ) (h b : ℕ) → 1 ≤ c → holds i (line h b (queueFrom n R c g)) ≡ eqb (taskRanked n (R (g 0)) 1) i
-  unfolding listFrom
-  holds-first zero g h b a = let bad : ⊥ = omega arith in absurd bad
-  holds-first (suc c) g h b a = refl
+  holds-first c g h b a = rw (list-first c 0 (λ j. turnOf n R (g j)) a)

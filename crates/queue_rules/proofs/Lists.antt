@@ -1,5 +1,5 @@
 -- The list of the tasks below a count that pass a test: who is in it, how many they are, and sums over them.
-use Rattle.folds.proofs.Ground.{ℕ, zero, suc, _+_, _<_, Bool, true, false, cond, true≢false, _≡_, refl, sym, _∙_, List, [], _∷_, _++_, append-nil, eqb, length, arith, eqb-true}
+use Rattle.folds.proofs.Ground.{ℕ, zero, suc, _+_, _<_, Bool, true, cond, true≢false, _≡_, refl, sym, _∙_, List, [], _∷_, _++_, append-nil, eqb, length, arith, eqb-true}
 use Rattle.folds.specs.Below.{countBelow, sumBelow, listBelow}
 use Rattle.folds.proofs.Tests.{or-out}
 use Rattle.folds.proofs.Figures.{sum-count}
