@@ -67,8 +67,11 @@ module _ (p : Plan) (v : Valid p) (q k : ℕ) (done : Line → Bool) (Own : List
   lowered {n = n} w x d (stays z) = record { most = n; less = omega arith; bound = x }
   lowered {n = n} w x d (enters tag h) =
       record { most = n; less = omega arith; bound = kept-entered (terms p q) k done Own kept (taskNumber p tag) x }
-  lowered {n = n} w x d (leaves tag) =
-      record { most = n; less = omega arith; bound = kept-released (terms p q) k done Own kept (known p q) (p .processors) (fits p v q) (w .sound q) x d }
+  lowered {n = n} w x d (leaves tag) = record {
+    most = n;
+    less = omega arith;
+    bound = kept-released (terms p q) k done Own kept (known p q) (p .processors) (fits p v q) (w .sound q) x d;
+  }
   lowered {n = n} w x d Moves.ticks = record {
     most = n - 1;
     less = omega (arith, bound-some w x);

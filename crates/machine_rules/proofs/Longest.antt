@@ -62,7 +62,8 @@ module _ (p : Plan) (v : Valid p) where
       record { few = few; short = limit-more (terms p q) i us all sums few }
 
   -- so it is for a task that asks, and for one that waits
-  told-most : (i q a m : ℕ) (l : Line) → SoundAt p q l → EachOnce (queueOf l) → inLine i l ≡ false → requestAnswer p i q l ≡ Waits a m → AtMost i q a m
+  told-most : (i q a m : ℕ) (l : Line) → SoundAt p q l → EachOnce (queueOf l) → inLine i l ≡ false
+      → requestAnswer p i q l ≡ Waits a m → AtMost i q a m
   told-most i q a m (line h b []) w o new e = absurd (true≢false cc)
   told-most i q a m (line h b (x ∷ rest)) w o new e =
       let us : List ℕ = tasksOf (processorOf p i) (x ∷ rest) in

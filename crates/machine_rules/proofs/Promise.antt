@@ -9,7 +9,7 @@ use Rattle.machine_rules.specs.declared.Answer.the-variants.{Waits, Refu
 use Rattle.machine_rules.specs.declared.Call.{Call}
 use Rattle.machine_rules.specs.declared.Call.the-variants.{Request}
 use Rattle.machine_rules.specs.Machine.{View, terms, callCode, requestAnswer, acceptedAnswer, step, answer, after}
-use Rattle.machine_rules.specs.Waiting.{TaskKept, afterCall, Asked, Served}
+use Rattle.machine_rules.specs.Waiting.{ServedFrom, TaskKept, afterCall, Asked, Served}
 use Rattle.machine_rules.proofs.SoundLines.{accepted}
 use Rattle.machine_rules.proofs.OnceLines.{Orderly, orderly-after}
 use Rattle.machine_rules.proofs.Bounds.{served-from}
@@ -42,27 +42,31 @@ module _ (p : Plan) where
         bound = ap (limit (terms p q) i) (entered-ahead (terms p q) i (line h b (x ∷ rest)) new) ∙ cc;
       }
 
-  request-waits : (s : View) (tag q a m : ℕ) → answer p s (Request tag q) ≡ Waits a m → WaitsIn (taskNumber p tag) q (step p s (Request tag q) .lines q) m
+  request-waits : (s : View) (tag q a m : ℕ) → answer p s (Request tag q) ≡ Waits a m
+      → WaitsIn (taskNumber p tag) q (step p s (Request tag q) .lines q) m
   unfolding step
   request-waits s tag q a m e =
       let t = told s tag q a m e in
       rw (t .code, eq-eqb q q refl) (told-waits (taskNumber p tag) q (s .lines q) a m (accepted p s tag q (t .code) .new) (t .waits))
 
 module _ (p : Plan) (v : Valid p) (s : View) (o : Orderly p s) where
+  from-call : (before : List Call) (c : Call) (since : List Call) → ServedFrom p (afterCall p s before c) since
+  from-call before c since = served-from p v (afterCall p s before c) (orderly-after p v s (before ++ (c ∷ [])) o) since
+
   asked-kept : {calls : List Call} (tag q : ℕ) (w : Asked p s calls tag q)
       → TaskKept p (taskNumber p tag) q (afterCall p s (w .before) (Request tag q)) (w .since) (w .limit)
   asked-kept tag q w =
       let here : View = afterCall p s (w .before) (Request tag q) in
       let x : WaitsIn p (taskNumber p tag) q (here .lines q) (w .limit) =
       rw (after-last p s (w .before) (Request tag q)) (request-waits p (after p s (w .before)) tag q (w .ahead) (w .limit) (w .answered)) in
-      rw (x .bound) at (served-from p v here (orderly-after p v s (w .before ++ (Request tag q ∷ [])) o) (w .since) .task (taskNumber p tag) q (x .waits))
+      rw (x .bound) at (from-call (w .before) (Request tag q) (w .since) .task (taskNumber p tag) q (x .waits))
 
   -- the promise for a list of calls
   pub all-served : (calls : List Call) → Served p s calls
   all-served calls =
       record {
         asked = asked-kept;
-        sent = λ k q w. served-from p v (afterCall p s (w .before) (w .call)) (orderly-after p v s (w .before ++ (w .call ∷ [])) o) (w .since) .core k q (w .went);
+        sent = λ k q w. from-call (w .before) (w .call) (w .since) .core k q (w .went);
         start = served-from p v s o calls;
         each-task = each-task p v s calls o;
         each-core = each-core p v s calls o;

@@ -106,7 +106,8 @@ module _ (p : Plan) (v : Valid p) (tags : (a b : ℕ) → a < p .tasks → b < p
           let us : List ℕ = listBelow n (fellow p i q) in
           let cs : List Call = comers p q j (fellow p i q) n in
           let before = comers-wait n (omega arith) in
-          by-bool (λ b. Only p q (heldBy t j k (us ++ cond b (n ∷ []) [])) (run p (cs ++ cond b (Request (p .task n .tag) q ∷ []) []))) (fellow p i q n)
+          by-bool (λ b. Only p q (heldBy t j k (us ++ cond b (n ∷ []) [])) (run p (cs ++ cond b (Request (p .task n .tag) q ∷ []) [])))
+          (fellow p i q n)
           (λ f. let x = fellow-facts p q i n f in
           let u = known-sharing p v n q (rw (ui .shared, x .used)) in
           let late : among n us ≡ false = is-not-true _ (λ a. let (m, _) = among-below n n (fellow p i q) a in omega arith) in
@@ -122,7 +123,8 @@ module _ (p : Plan) (v : Valid p) (tags : (a b : ℕ) → a < p .tasks → b < p
           let t : Terms = terms p q in
           let k : ℕ = processorOf p i in
           let us : List ℕ = listBelow (p .tasks) (fellow p i q) in
-          let self : among i us ≡ false = is-not-true _ (λ a. let (_, f) = among-below (p .tasks) i (fellow p i q) a in fellow-facts p q i i f .other refl) in
+          let self : among i us ≡ false = is-not-true _
+          (λ a. let (_, f) = among-below (p .tasks) i (fellow p i q) a in fellow-facts p q i i f .other refl) in
           let new = held-without t j k i us (λ s. other (ap (processorOf p) s)) self in
           only-told p q (heldBy t j k us) _ tag (comers-wait (p .tasks) (omega arith)) u (rw e new) ∙ rw (e, held-tasks t j k other us)
 

@@ -57,7 +57,8 @@ module _ (p : Plan) (v : Valid p) where
       go (line h b (x ∷ rest)) f _ =
           let told : answer p s (Request tag q) ≡ requestAnswer p i q (s .lines q) = rw e in requests refl (told ∙ ap (requestAnswer p i q) f)
 
-  task-begins : (i q : ℕ) (s : View) (c : Call) → Orderly p s → waiting i (step p s c .lines q) ≡ true → (waiting i (s .lines q) ≡ true) ⊎ Requests s i q c
+  task-begins : (i q : ℕ) (s : View) (c : Call) → Orderly p s → waiting i (step p s c .lines q) ≡ true
+      → (waiting i (s .lines q) ≡ true) ⊎ Requests s i q c
   task-begins i q s c o = go (moved p s q c)
     where
       go : {c : Call} {l : Line} → Move p s q c l → waiting i l ≡ true → (waiting i (s .lines q) ≡ true) ⊎ Requests s i q c

@@ -50,8 +50,11 @@ task-first n j u f l e = find-first n u (λ v. eqb (f v) j) l (eq-eqb _ _ e)
 pub max-there : (n : ℕ) (f : ℕ → ℕ) → 1 ≤ maxBelow n f → taskRanked n f (maxBelow n f) < n
 max-there n f a =
     on-le (taskRanked n f (maxBelow n f) < n) n (taskRanked n f (maxBelow n f))
-    (λ out. omega (arith, max-bound n (maxBelow n f - 1) f (λ u l. on-eq (f u ≤ maxBelow n f - 1) (f u) (maxBelow n f)
-    (λ e. omega (arith, task-first n (maxBelow n f) u f l e)) (λ ne. omega (arith, max-at n u f l)))))
+    (λ out. omega (
+      arith,
+      max-bound n (maxBelow n f - 1) f (λ u l. on-eq (f u ≤ maxBelow n f - 1) (f u) (maxBelow n f)
+          (λ e. omega (arith, task-first n (maxBelow n f) u f l e)) (λ ne. omega (arith, max-at n u f l))),
+    ))
     (λ l. l)
 
 -- where no two tasks share a rank, the last task of rank j is the first

@@ -101,7 +101,8 @@ module _ {n m : ℕ} {t : Terms} {R : ℕ → ℕ → ℕ} {c : ℕ} {g : ℕ �
   pub out-line : n ≤ i → standsIn i (queueFrom n R c g) ≡ false
   out-line l =
       let k = t .processor i in
-      own-tasks ∙ is-not-true _ (λ s. among-out i (taskRanked n (R k)) (maxBelow n (R k)) 1 ⊥ s (λ j a b e. omega (arith, full r k j a (omega arith))))
+      own-tasks ∙ is-not-true _
+      (λ s. among-out i (taskRanked n (R k)) (maxBelow n (R k)) 1 ⊥ s (λ j a b e. omega (arith, full r k j a (omega arith))))
 
 -- who holds: nobody in a free line, else the first task of the head
 module _ (n : ℕ) (R : ℕ → ℕ → ℕ) (i : ℕ) where

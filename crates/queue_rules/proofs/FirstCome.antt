@@ -13,7 +13,8 @@ no-tasks k [] a = refl
 no-tasks k (turn j u us ∷ q) a = let (n, m) = or-no (eqb j k) (hasTurn k q) a in rw n (no-tasks k q m)
 
 -- a turn at the tail
-tasks-last : (k v j : ℕ) (vs : List ℕ) (q : List Turn) → hasTurn k q ≡ false → tasksOf j (q ++ (turn k v vs ∷ [])) ≡ cond (eqb k j) (v ∷ vs) (tasksOf j q)
+tasks-last : (k v j : ℕ) (vs : List ℕ) (q : List Turn) → hasTurn k q ≡ false
+    → tasksOf j (q ++ (turn k v vs ∷ [])) ≡ cond (eqb k j) (v ∷ vs) (tasksOf j q)
 tasks-last k v j vs [] a = refl
 tasks-last k v j vs (turn l u us ∷ q) a =
     let (n, m) = or-no (eqb l k) (hasTurn k q) a in
@@ -63,13 +64,15 @@ module _ (t : Terms) where
   begun-queue (turn k u us ∷ q) = refl
 
   -- "the processor goes to the tail, that task keeps its first place"
-  pub sent-back : (k v j : ℕ) (vs : List ℕ) (rest : List Turn) → hasTurn k rest ≡ false → tasksOf j (queueOf (sendBack t k v vs rest)) ≡ cond (eqb k j) (v ∷ vs) (tasksOf j rest)
+  pub sent-back : (k v j : ℕ) (vs : List ℕ) (rest : List Turn) → hasTurn k rest ≡ false
+      → tasksOf j (queueOf (sendBack t k v vs rest)) ≡ cond (eqb k j) (v ∷ vs) (tasksOf j rest)
   sent-back k v j [] [] a = refl
   sent-back k v j (w ∷ ws) [] a = refl
   sent-back k v j vs (x ∷ rest) a = rw (begun-queue (x ∷ rest ++ (turn k v vs ∷ []))) (tasks-last k v j vs (x ∷ rest) a)
 
   -- all that leave is the first task of the head
-  pub first-served : (b k u j : ℕ) (us : List ℕ) (rest : List Turn) → hasTurn k rest ≡ false → tasksOf j (queueOf (leave t b (turn k u us ∷ rest))) ≡ cond (eqb k j) us (tasksOf j rest)
+  pub first-served : (b k u j : ℕ) (us : List ℕ) (rest : List Turn) → hasTurn k rest ≡ false
+      → tasksOf j (queueOf (leave t b (turn k u us ∷ rest))) ≡ cond (eqb k j) us (tasksOf j rest)
   first-served b k u j [] rest a =
       rw (begun-queue rest) (by-eq (λ (d : Bool). tasksOf j rest ≡ cond d [] (tasksOf j rest)) k j (λ e. rw (← e) (no-tasks k rest a)) (λ d. refl))
   first-served b k u j (v ∷ vs) rest a =

@@ -119,8 +119,8 @@ module _ (t : Terms) (k : ℕ) (done : Line → Bool) (Own : List ℕ → ℕ �
       pub kept-bound : (l : Line) (m n : ℕ) → Sound t known procs l → Own (tasksOf k (queueOf l)) m → done l ≡ false → t .wait k + m ≤ n → Waiting n l
       kept-bound l m n is-free o nd le = absurd (kept .some o)
       kept-bound l m n (is-held {h = h} {b = b} {k = j} {u = u} {us = us} {rest = q} c pr) o nd le =
-          by-eq (λ (d : Bool). Own (cond d (u ∷ us) (tasksOf k q)) m → cond d 0 (t .budget j) + others q ≤ t .wait k → Waiting n (line h b (turn j u us ∷ q)))
-          j k
+          by-eq (λ (d : Bool). Own (cond d (u ∷ us) (tasksOf k q)) m → cond d 0 (t .budget j) + others q ≤ t .wait k
+          → Waiting n (line h b (turn j u us ∷ q))) j k
           (λ e x l. behind {h = h} {n = n} e (after-more (kept .next e x nd) (omega arith)))
           (λ e x l. beyond {b = b} {m = others q + m} {n = n} (far-bound q m _ x (omega arith)) (omega arith))
           o (omega (arith, load-le t known procs (but (t .budget) k) pr, fit .waits k))

@@ -129,5 +129,6 @@ module _ (n : ℕ) (f : ℕ → Bool) {us : List ℕ} (o : Once us) (h : (j : �
 -- more tasks ahead, a greater limit
 pub limit-more : (t : Terms) (i : ℕ) (a b : List ℕ) → sumOf (t .hold) a ≤ sumOf (t .hold) b → length a ≤ length b → limit t i a ≤ limit t i b
 limit-more t i a b s l =
-    let m : (length a + 1) * t .wait (t .processor i) ≤ (length b + 1) * t .wait (t .processor i) = mul-le-mul {n₁ = length a + 1} {n₂ = length b + 1} (omega arith) (omega arith) in
+    let w : ℕ = t .wait (t .processor i) in
+    let m : (length a + 1) * w ≤ (length b + 1) * w = mul-le-mul {n₁ = length a + 1} {n₂ = length b + 1} (omega arith) (omega arith) in
     omega (arith, m)

@@ -30,9 +30,12 @@ but f k l = cond (eqb l k) 0 (f l)
 
 pub but-lt : (f : ℕ → ℕ) (k n : ℕ) → k < n → f k + sumBelow n (but f k) ≤ sumBelow n f
 but-lt f k n lt =
-    omega (arith, sum-insert n k (λ _. true) (λ l. not (eqb l k)) f lt refl (rw (eq-eqb k k refl)) (λ j _ d. rw (ne-eqb j k d)),
-    sum-same n (but f k) (λ l. cond (not (eqb l k)) (f l) 0) 
-    (λ l _. by-bool (λ b. cond b 0 (f l) ≡ cond (not b) (f l) 0) (eqb l k) (λ _. refl) (λ _. refl)))
+    omega (
+      arith,
+      sum-insert n k (λ _. true) (λ l. not (eqb l k)) f lt refl (rw (eq-eqb k k refl)) (λ j _ d. rw (ne-eqb j k d)),
+      sum-same n (but f k) (λ l. cond (not (eqb l k)) (f l) 0)
+          (λ l _. by-bool (λ b. cond b 0 (f l) ≡ cond (not b) (f l) 0) (eqb l k) (λ _. refl) (λ _. refl)),
+    )
 
 -- a processor that has no turn adds nothing
 pub load-but : (f : ℕ → ℕ) (k : ℕ) (q : List Turn) → hasTurn k q ≡ false → load f q ≡ load (but f k) q

@@ -45,5 +45,6 @@ module _ (t : Terms) (known : ℕ → Bool) (procs : ℕ) (i : ℕ) where
     ticked-waiting is-free n = λ w. w
     ticked-waiting (is-held {h = h} {b = b} {k = k} {u = u} {us = us} {rest = rest} c pr) n =
         by-test (λ l. waiting i l ≡ true → waiting i (line h b (turn k u us ∷ rest)) ≡ true) (eqb (h - 1) 0)
-        (λ _ w. let (s, _) = and-parts (inLine i (leave t (b - 1) (turn k u us ∷ rest))) _ w in leave-waiting h (b - 1) k u us rest (omega arith) pr n s)
+        (λ _ w. let (s, _) = and-parts (inLine i (leave t (b - 1) (turn k u us ∷ rest))) _ w in
+        leave-waiting h (b - 1) k u us rest (omega arith) pr n s)
         (λ _ w. w)
