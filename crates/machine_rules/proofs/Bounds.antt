@@ -63,15 +63,13 @@ module _ (p : Plan) (v : Valid p) (q k : ℕ) (done : Line → Bool) (Own : List
     less : most + isTick c ≤ n
     bound : Bound most l
 
+  level : {n : ℕ} {c : Call} {l : Line} → isTick c ≡ 0 → Bound n l → Lowered n c l
+  level {n} z x = record { most = n; less = omega arith; bound = x }
+
   lowered : {s : View} {c : Call} {l : Line} {n : ℕ} → Orderly p s → Bound n (s .lines q) → done l ≡ false → Move p s q c l → Lowered n c l
-  lowered {n = n} w x d (stays z) = record { most = n; less = omega arith; bound = x }
-  lowered {n = n} w x d (enters tag h) =
-      record { most = n; less = omega arith; bound = kept-entered (terms p q) k done Own kept (taskNumber p tag) x }
-  lowered {n = n} w x d (leaves tag) = record {
-    most = n;
-    less = omega arith;
-    bound = kept-released (terms p q) k done Own kept (known p q) (p .processors) (fits p v q) (w .sound q) x d;
-  }
+  lowered w x d (stays z) = level z x
+  lowered w x d (enters tag h) = level refl (kept-entered (terms p q) k done Own kept (taskNumber p tag) x)
+  lowered w x d (leaves tag) = level refl (kept-released (terms p q) k done Own kept (known p q) (p .processors) (fits p v q) (w .sound q) x d)
   lowered {n = n} w x d Moves.ticks = record {
     most = n - 1;
     less = omega (arith, bound-some w x);
