@@ -18,6 +18,7 @@ use Rattle.machine_rules.proofs.Moves as Moves
 use Rattle.machine_rules.proofs.SoundLines.{known, fits}
 use Rattle.machine_rules.proofs.OnceLines.{Orderly, orderly-step}
 
+-- with this the bound holds also where the call itself counts, so that a grant that comes too late is refused in InTime and not here
 tick-le : (c : Call) → isTick c ≤ 1
 tick-le (Request tag q) = omega arith
 tick-le (Release tag q) = omega arith

@@ -63,7 +63,7 @@ module _ (t : Terms) where
   begun-queue [] = refl
   begun-queue (turn k u us ∷ q) = refl
 
-  -- "the processor goes to the tail, that task keeps its first place"
+  -- "the processor goes to the tail, that task keeps its first place". By cases, so that a rule with another order is refused for its order
   pub sent-back : (k v j : ℕ) (vs : List ℕ) (rest : List Turn) → hasTurn k rest ≡ false
       → tasksOf j (queueOf (sendBack t k v vs rest)) ≡ cond (eqb k j) (v ∷ vs) (tasksOf j rest)
   sent-back k v j [] [] a = refl
