@@ -1,29 +1,28 @@
 -- The longest wait: its figures, and that no request is told more. Who stands ahead of a task is one of its fellows, and stands there
 -- once; so their hold times are at most those of all fellows.
-use Rattle.folds.proofs.Ground.{ℕ, _+_, _*_, _≤_, _<_, Bool, true, false, cond, _&&_, not, true≢false, _≡_, refl, sym, ap, _∙_, List, [], _∷_, eqb, length, arith, eq-eqb, ne-eqb}
+use Rattle.folds.proofs.Ground.{ℕ, _+_, _*_, _≤_, _<_, true, false, true≢false, _≡_, sym, ap, _∙_, List, [], _∷_, length, arith, eq-eqb, ne-eqb}
 use Rattle.folds.specs.Below.{countBelow, listBelow}
-use Rattle.folds.proofs.Tests.{and-parts, first-zero}
+use Rattle.folds.proofs.Tests.{first-zero}
 use Rattle.folds.proofs.Figures.{sum-same}
-use Rattle.folds.proofs.Arrays.{by-eq}
 use Rattle.plan_reading.specs.Plan.{Plan, Valid}
-use Rattle.analysis_equations.specs.Sharing.{processorOf, uses, global}
-use Rattle.analysis_equations.specs.HoldTimes.{holdTime, holdAt, fellow, waitTime}
+use Rattle.analysis_equations.specs.Sharing.{processorOf, global}
+use Rattle.analysis_equations.specs.HoldTimes.{holdAt, fellow, waitTime}
 use Rattle.analysis_equations.specs.Blocking.{fellowHolds}
 use Rattle.analysis_equations.specs.Questions.{taskNumber, useCode}
-use Rattle.analysis_equations.proofs.Laws.{uses-out}
+use Rattle.analysis_equations.proofs.Laws.{fellow-hold}
 use Rattle.queue_rules.specs.Rules.{Line, line, among, inLine, tasksOf, queueOf, sumOf, aheadIn, limit}
 use Rattle.queue_rules.proofs.Lists.{list-length, list-sum}
 use Rattle.queue_rules.proofs.Sound.{sound-queue}
 use Rattle.queue_rules.proofs.Once.{Once, EachOnce, once-tasks, ahead-among, ahead-once, tasks-none, tasks-own, once-sum, once-length, limit-more}
-use Rattle.machine_rules.specs.declared.Answer.the-variants.{Waits, Refused}
+use Rattle.machine_rules.specs.declared.Answer.the-variants.{Waits}
 use Rattle.machine_rules.specs.declared.Call.{Call}
 use Rattle.machine_rules.specs.declared.Call.the-variants.{Request}
-use Rattle.machine_rules.specs.Machine.{View, terms, requestCode, callCode, requestAnswer, acceptedAnswer, answer, after}
+use Rattle.machine_rules.specs.Machine.{View, terms, requestCode, requestAnswer, answer, after}
 use Rattle.machine_rules.specs.Waiting.{Event, Bounded, Asked}
 use Rattle.machine_rules.specs.Longest.{fellows, longestWait, NeverLonger}
-use Rattle.machine_rules.proofs.SoundLines.{known, SoundAt, accepted}
+use Rattle.machine_rules.proofs.SoundLines.{known, SoundAt, accepted, known-sharing}
 use Rattle.machine_rules.proofs.OnceLines.{Orderly, orderly-after}
-use Rattle.machine_rules.proofs.Promise.{all-served}
+use Rattle.machine_rules.proofs.Promise.{told, all-served}
 
 module _ (p : Plan) where
   -- how many fellows there are, and their hold times added up
@@ -31,35 +30,22 @@ module _ (p : Plan) where
   unfolding fellows
   fellows-count i q = list-length (p .tasks) (fellow p i q)
 
-  -- a fellow's hold time, where q is global
-  pub fellow-hold : (i q j : ℕ) → global p q ≡ true → cond (fellow p i q j) (holdAt p j q) 0 ≡ cond (fellow p i q j) (holdTime p j q) 0
-  unfolding holdAt
-  fellow-hold i q j g = go (eqb (processorOf p j) (processorOf p i)) (uses p j q) (not (eqb j i))
-    where
-      go : (a u c : Bool) → cond ((a && u) && c) (cond (global p q && u) (holdTime p j q) 0) 0 ≡ cond ((a && u) && c) (holdTime p j q) 0
-      go true true c = rw g
-      go true false c = refl
-      go false u c = refl
-
-  pub fellows-holds : (i q : ℕ) → global p q ≡ true → sumOf (λ j. holdAt p j q) (fellows p i q) ≡ fellowHolds p i q
-  unfolding fellows fellowHolds
-  fellows-holds i q g =
-      list-sum (λ j. holdAt p j q) (p .tasks) (fellow p i q) ∙ sum-same (p .tasks) _ _ (λ j l. fellow-hold i q j g)
-
   -- the longest wait in figures: the sum of the fellows' hold times, and one wait time more than there are fellows
   pub longest-figures : (i q : ℕ) → global p q ≡ true
       → longestWait p i q ≡ fellowHolds p i q + (length (fellows p i q) + 1) * waitTime p (processorOf p i) q
-  unfolding longestWait
-  longest-figures i q g = ap (λ (x : ℕ). x + (length (fellows p i q) + 1) * waitTime p (processorOf p i) q) (fellows-holds i q g)
+  unfolding longestWait fellows fellowHolds
+  longest-figures i q g =
+      ap (λ (x : ℕ). x + (length (fellows p i q) + 1) * waitTime p (processorOf p i) q)
+      (list-sum (λ j. holdAt p j q) (p .tasks) (fellow p i q) ∙ sum-same (p .tasks) _ _ (λ j l. fellow-hold p i q j g))
 
 module _ (p : Plan) (v : Valid p) where
   -- a task of its processor that is in line, and another, is a fellow
   line-fellows : (i q : ℕ) {l : Line} → SoundAt p q l
       → (j : ℕ) → among j (tasksOf (processorOf p i) (queueOf l)) ≡ true → (j ≡ i → ⊥) → (j < p .tasks) × (fellow p i q j ≡ true)
   line-fellows i q w j a d =
-      let x = tasks-own (terms p q) (known p q) (p .processors) j (processorOf p i) (sound-queue (terms p q) (known p q) (p .processors) w) a in
-      let used = and-parts (global p q) (uses p j q) (x .1) .1 in
-      (uses-out p j q _ used (λ s m t r. rw (← t) (v .section-fits s m .task)), rw (eq-eqb _ _ (x .0), used, ne-eqb j i d))
+      let (e, k) = tasks-own (terms p q) (known p q) (p .processors) j (processorOf p i) (sound-queue (terms p q) (known p q) (p .processors) w) a in
+      let r = known-sharing p v j q k in
+      (r .task, rw (eq-eqb _ _ e, r .used, ne-eqb j i d))
 
   -- with some fellows ahead, each once, the limit is at most the longest wait
   record AtMost (i q ahead most : ℕ) : Type 0 where
@@ -76,7 +62,8 @@ module _ (p : Plan) (v : Valid p) where
       record { few = few; short = limit-more (terms p q) i us all sums few }
 
   -- so it is for a task that asks, and for one that waits
-  told-most : (i q a m : ℕ) (l : Line) → SoundAt p q l → EachOnce (queueOf l) → inLine i l ≡ false → requestAnswer p i q l ≡ Waits a m → AtMost i q a m
+  told-most : (i q a m : ℕ) (l : Line) → SoundAt p q l → EachOnce (queueOf l) → inLine i l ≡ false
+      → requestAnswer p i q l ≡ Waits a m → AtMost i q a m
   told-most i q a m (line h b []) w o new e = absurd (true≢false cc)
   told-most i q a m (line h b (x ∷ rest)) w o new e =
       let us : List ℕ = tasksOf (processorOf p i) (x ∷ rest) in
@@ -89,26 +76,17 @@ module _ (p : Plan) (v : Valid p) where
   waiting-most : (i q : ℕ) (l : Line) → SoundAt p q l → EachOnce (queueOf l) → limit (terms p q) i (aheadIn (terms p q) i l) ≤ longestWait p i q
   waiting-most i q l w o =
       fellows-most i q (ahead-once i (once-tasks (processorOf p i) o))
-      (λ j c. let x = ahead-among i j (tasksOf (processorOf p i) (queueOf l)) c in line-fellows i q w j (x .0) (x .1)) .short
+      (λ j c. let (x, d) = ahead-among i j (tasksOf (processorOf p i) (queueOf l)) c in line-fellows i q w j x d) .short
 
   request-most : (s : View) (tag q a m : ℕ) → Orderly p s → answer p s (Request tag q) ≡ Waits a m → AtMost (taskNumber p tag) q a m
-  unfolding answer
-  request-most s tag q a m o =
-      by-eq
-      (λ (d : Bool). cond d (acceptedAnswer p s (Request tag q)) (Refused (callCode p s (Request tag q))) ≡ Waits a m → AtMost (taskNumber p tag) q a m)
-      (callCode p s (Request tag q)) 0
-      (λ e x. told-most (taskNumber p tag) q a m (s .lines q) (o .sound q) (o .once q) (accepted p s tag q e .new) x)
-      (λ n x. absurd (true≢false cc))
+  request-most s tag q a m o e =
+      let t = told p s tag q a m e in
+      told-most (taskNumber p tag) q a m (s .lines q) (o .sound q) (o .once q) (accepted p s tag q (t .code) .new) (t .waits)
 
   -- a request that waits is one of which the question is not refused
   pub waits-asked : (s : View) (tag q a m : ℕ) → answer p s (Request tag q) ≡ Waits a m → useCode p tag q ≡ 0
-  unfolding answer requestCode
-  waits-asked s tag q a m =
-      by-eq
-      (λ (d : Bool). cond d (acceptedAnswer p s (Request tag q)) (Refused (callCode p s (Request tag q))) ≡ Waits a m → useCode p tag q ≡ 0)
-      (callCode p s (Request tag q)) 0
-      (λ e x. first-zero (useCode p tag q) _ e)
-      (λ n x. absurd (true≢false cc))
+  unfolding requestCode
+  waits-asked s tag q a m e = first-zero (useCode p tag q) _ (told p s tag q a m e .code)
 
   -- a wait that is bounded is bounded by more
   bounded-more : {e g : Event p} {s : View} {cs : List Call} {m n : ℕ} → m ≤ n → Bounded p e g s cs m → Bounded p e g s cs n

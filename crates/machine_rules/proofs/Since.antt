@@ -1,5 +1,5 @@
 -- Everybody who waits after a list of calls has done so since the start, or since a call of the list.
-use Rattle.folds.proofs.Ground.{ℕ, Bool, true, false, _&&_, _||_, not, and-false, true≢false, _≡_, refl, sym, ap, _∙_, _⊎_, inl, inr, List, [], _∷_, _++_, eq-eqb, ne-eqb, not-true, not-false}
+use Rattle.folds.proofs.Ground.{ℕ, Bool, true, false, _&&_, _||_, not, and-false, true≢false, _≡_, refl, sym, ap, _∙_, _⊎_, inl, inr, ⊎-elim, List, [], _∷_, _++_, eq-eqb, not-true}
 use Rattle.folds.proofs.Tests.{and-parts}
 use Rattle.plan_reading.specs.Plan.{Plan, Valid}
 use Rattle.analysis_equations.specs.Questions.{taskNumber}
@@ -8,8 +8,8 @@ use Rattle.queue_rules.proofs.Stays.{entered-waiting, released-waiting, ticked-
 use Rattle.machine_rules.specs.declared.Answer.the-variants.{Waits}
 use Rattle.machine_rules.specs.declared.Call.{Call}
 use Rattle.machine_rules.specs.declared.Call.the-variants.{Request}
-use Rattle.machine_rules.specs.Machine.{View, fresh, terms, callCode, requestAnswer, step, answer, after, run}
-use Rattle.machine_rules.specs.Waiting.{Event, grants, ends, occurs, Asked, Sent, StillWaits, StillWithout, TaskSince, asked-since, task-since-start, CoreSince, sent-since, core-since-start, EachSince}
+use Rattle.machine_rules.specs.Machine.{View, fresh, terms, callCode, requestAnswer, step, answer, after}
+use Rattle.machine_rules.specs.Waiting.{Event, grants, ends, occurs, StillWaits, StillWithout, TaskSince, asked-since, task-since-start, CoreSince, sent-since, core-since-start, EachSince}
 use Rattle.machine_rules.proofs.Moves.{Move, stays, enters, leaves, ticks, moved}
 use Rattle.machine_rules.proofs.SoundLines.{known, fits}
 use Rattle.machine_rules.proofs.OnceLines.{Orderly, orderly-fresh, orderly-step}
@@ -19,42 +19,22 @@ after-last p s [] c = refl
 after-last p s (d ∷ cs) c = after-last p (step p s d) cs c
 
 -- A wait that is seen in a state, which a call ends by event e, and that begins by calls of which `Begins` tells
-module _ (p : Plan) (v : Valid p) (seen : View → Bool) (e : Event p) (Begins : View → Call → Type 0)
-    (goes-on : (s : View) (c : Call) → seen (step p s c) ≡ true → e s c ≡ false)
-    (begins : (s : View) (c : Call) → Orderly p s → seen (step p s c) ≡ true → (seen s ≡ true) ⊎ Begins s c) where
-  -- a call by which it began, and the calls since
-  record Began (s : View) (cs : List Call) : Type 0 where
-    before : List Call
-    call : Call
-    since : List Call
-    list : cs ≡ before ++ (call ∷ since)
-    begun : Begins (after p s before) call
-    went : seen (step p (after p s before) call) ≡ true
-    still : occurs p e (step p (after p s before) call) since ≡ false
+module _ (p : Plan) (seen : View → Bool) (e : Event p) (Begins : View → Call → Type 0) where
+  -- it goes on since the start, or since a call by which it began
+  data Since (s : View) (cs : List Call) : Type 0 where
+    at-start : seen s ≡ true → occurs p e s cs ≡ false → Since s cs
+    by-call : (before : List Call) (call : Call) (since : List Call) → cs ≡ before ++ (call ∷ since) → Begins (after p s before) call
+        → seen (step p (after p s before) call) ≡ true → occurs p e (step p (after p s before) call) since ≡ false → Since s cs
 
-  began : (s : View) (cs : List Call) → Orderly p s → seen (after p s cs) ≡ true
-      → ((seen s ≡ true) × (occurs p e s cs ≡ false)) ⊎ Began s cs
-  began s [] o w = inl (w, refl)
-  began s (c ∷ cs) o w = go (began (step p s c) cs (orderly-step p v s c o) w)
-    where
-      here : seen (step p s c) ≡ true → occurs p e (step p s c) cs ≡ false → (seen s ≡ true) ⊎ Begins s c
-          → ((seen s ≡ true) × (occurs p e s (c ∷ cs) ≡ false)) ⊎ Began s (c ∷ cs)
-      here x y (inl h) = inl (h, rw (goes-on s c x, y))
-      here x y (inr h) = inr (record { before = []; call = c; since = cs; list = refl; begun = h; went = x; still = y })
-
-      go : ((seen (step p s c) ≡ true) × (occurs p e (step p s c) cs ≡ false)) ⊎ Began (step p s c) cs
-          → ((seen s ≡ true) × (occurs p e s (c ∷ cs) ≡ false)) ⊎ Began s (c ∷ cs)
-      go (inl h) = here (h .0) (h .1) (begins s c o (h .0))
-      go (inr h) =
-          inr (record {
-            before = c ∷ h .before;
-            call = h .call;
-            since = h .since;
-            list = ap (λ (l : List Call). c ∷ l) (h .list);
-            begun = h .begun;
-            went = h .went;
-            still = h .still;
-          })
+  module _ (v : Valid p) (goes-on : (s : View) (c : Call) → seen (step p s c) ≡ true → e s c ≡ false)
+      (begins : (s : View) (c : Call) → Orderly p s → seen (step p s c) ≡ true → (seen s ≡ true) ⊎ Begins s c) where
+    seen-since : (s : View) (cs : List Call) → Orderly p s → seen (after p s cs) ≡ true → Since s cs
+    seen-since s [] o w = at-start w refl
+    seen-since s (c ∷ cs) o w = go (seen-since (step p s c) cs (orderly-step p v s c o) w)
+      where
+        go : Since (step p s c) cs → Since s (c ∷ cs)
+        go (at-start x y) = ⊎-elim (λ h. at-start h (rw (goes-on s c x, y))) (λ h. by-call [] c cs refl h x y) (begins s c o x)
+        go (by-call before d since l b x y) = by-call (c ∷ before) d since (ap (λ (l : List Call). c ∷ l) l) b x y
 
 module _ (p : Plan) (v : Valid p) where
   -- ── tasks ──
@@ -69,54 +49,46 @@ module _ (p : Plan) (v : Valid p) where
   unfolding answer
   told-wait s tag q e w = go (s .lines q) refl w
     where
-      told : answer p s (Request tag q) ≡ requestAnswer p (taskNumber p tag) q (s .lines q)
-      told = rw e
-
       i : ℕ
       i = taskNumber p tag
 
       go : (l : Line) → s .lines q ≡ l → waiting i (entered (terms p q) i l) ≡ true → Requests s i q (Request tag q)
-      go (line h b []) f x =
-          let l : Line = entered (terms p q) i (line h b []) in
-          absurd (true≢false (sym (and-parts (inLine i l) (not (holds i l)) x .1) ∙ rw (eq-eqb i i refl)))
-      go (line h b (x ∷ rest)) f _ = requests refl (told ∙ ap (requestAnswer p i q) f)
+      go (line h b []) f x = absurd (true≢false (sym (rw (eq-eqb i i refl) at x)))
+      go (line h b (x ∷ rest)) f _ =
+          let told : answer p s (Request tag q) ≡ requestAnswer p i q (s .lines q) = rw e in requests refl (told ∙ ap (requestAnswer p i q) f)
 
-  task-begins : (i q : ℕ) (s : View) (c : Call) → Orderly p s → waiting i (step p s c .lines q) ≡ true → (waiting i (s .lines q) ≡ true) ⊎ Requests s i q c
+  task-begins : (i q : ℕ) (s : View) (c : Call) → Orderly p s → waiting i (step p s c .lines q) ≡ true
+      → (waiting i (s .lines q) ≡ true) ⊎ Requests s i q c
   task-begins i q s c o = go (moved p s q c)
     where
-      came : (tag : ℕ) → callCode p s (Request tag q) ≡ 0 → waiting i (entered (terms p q) (taskNumber p tag) (s .lines q)) ≡ true
-          → (waiting i (s .lines q) ≡ true) ⊎ (taskNumber p tag ≡ i) → (waiting i (s .lines q) ≡ true) ⊎ Requests s i q (Request tag q)
-      came tag e w (inl h) = inl h
-      came tag e w (inr h) = inr (rw h at (told-wait s tag q e (rw (← h) at w)))
-
       go : {c : Call} {l : Line} → Move p s q c l → waiting i l ≡ true → (waiting i (s .lines q) ≡ true) ⊎ Requests s i q c
       go (stays z) w = inl w
-      go (enters tag e) w = came tag e w (entered-waiting (terms p q) (known p q) (p .processors) i (taskNumber p tag) (s .lines q) w)
+      go (enters tag e) w =
+          ⊎-elim (λ h. inl h) (λ h. inr (rw h at (told-wait s tag q e (rw (← h) at w))))
+          (entered-waiting (terms p q) (known p q) (p .processors) i (taskNumber p tag) (s .lines q) w)
       go (leaves tag) w = inl (released-waiting (terms p q) (known p q) (p .processors) i (fits p v q) (o .sound q) (o .once q) w)
       go ticks w = inl (ticked-waiting (terms p q) (known p q) (p .processors) i (fits p v q) (o .sound q) (o .once q) w)
 
   -- each task that waits has asked
   pub each-task : (s : View) (calls : List Call) → Orderly p s → (i q : ℕ) → waiting i (after p s calls .lines q) ≡ true → TaskSince p s calls i q
   each-task s calls o i q w =
-      go (began p v (λ s. waiting i (s .lines q)) (grants p i q) (λ s c. Requests s i q c) goes (task-begins i q) s calls o w)
+      go (seen-since p (λ s. waiting i (s .lines q)) (grants p i q) (λ s c. Requests s i q c) v goes (task-begins i q) s calls o w)
     where
       goes : (s : View) (c : Call) → waiting i (step p s c .lines q) ≡ true → grants p i q s c ≡ false
       goes s c x =
-          let y = not-true (holds i (step p s c .lines q)) (and-parts (inLine i (step p s c .lines q)) _ x .1) in rw y (and-false (not (holds i (s .lines q))))
+          let l = step p s c .lines q in
+          let (_, n) = and-parts (inLine i l) _ x in
+          rw (not-true (holds i l) n) (and-false (not (holds i (s .lines q))))
 
-      out : (before since : List Call) (c : Call) → calls ≡ before ++ (c ∷ since) → Requests (after p s before) i q c
-          → occurs p (grants p i q) (step p (after p s before) c) since ≡ false → StillWaits p s calls i q
-      out before since _ l (requests {tag = tag} {a = a} {m = m} e t) n =
-          record {
+      go : Since p (λ s. waiting i (s .lines q)) (grants p i q) (λ s c. Requests s i q c) s calls → TaskSince p s calls i q
+      go (at-start x y) = task-since-start x y
+      go (by-call before _ since l (requests {tag = tag} {a = a} {m = m} e t) x y) =
+          asked-since (record {
             tag = tag;
             task = e;
             request = record { before = before; since = since; list = l; ahead = a; limit = m; answered = t };
-            still = rw (after-last p s before (Request tag q)) n;
-          }
-
-      go : ((waiting i (s .lines q) ≡ true) × (occurs p (grants p i q) s calls ≡ false)) ⊎ Began p v _ _ _ goes (task-begins i q) s calls → TaskSince p s calls i q
-      go (inl h) = task-since-start (h .0) (h .1)
-      go (inr h) = asked-since (out (h .before) (h .since) (h .call) (h .list) (h .begun) (h .still))
+            still = rw (after-last p s before (Request tag q)) y;
+          })
 
   -- ── cores ──
 
@@ -124,30 +96,24 @@ module _ (p : Plan) (v : Valid p) where
   abbrev Comes : ℕ → ℕ → View → Call → Type 0
   Comes k q s c = (not (queued k (s .lines q)) || isHead k (s .lines q)) ≡ true
 
-  core-begins : (k q : ℕ) (s : View) (c : Call) → Orderly p s → without k (step p s c .lines q) ≡ true → (without k (s .lines q) ≡ true) ⊎ Comes k q s c
-  core-begins k q s c o w = go (queued k (s .lines q)) (isHead k (s .lines q))
-    where
-      go : (a b : Bool) → ((a && not b) ≡ true) ⊎ ((not a || b) ≡ true)
-      go true true = inr refl
-      go true false = inl refl
-      go false b = inr refl
+  core-begins : (queued head : Bool) → ((queued && not head) ≡ true) ⊎ ((not queued || head) ≡ true)
+  core-begins true true = inr refl
+  core-begins true false = inl refl
+  core-begins false b = inr refl
 
   -- each core that is without the resource came to the queue, or was sent to its tail
   pub each-core : (s : View) (calls : List Call) → Orderly p s → (k q : ℕ) → without k (after p s calls .lines q) ≡ true → CoreSince p s calls k q
   each-core s calls o k q w =
-      go (began p v (λ s. without k (s .lines q)) (ends p k q) (Comes k q) goes (core-begins k q) s calls o w)
+      go (seen-since p (λ s. without k (s .lines q)) (ends p k q) (Comes k q) v (λ s c x. rw x)
+      (λ s c _ _. core-begins (queued k (s .lines q)) (isHead k (s .lines q))) s calls o w)
     where
-      goes : (s : View) (c : Call) → without k (step p s c .lines q) ≡ true → ends p k q s c ≡ false
-      goes s c x = rw x
-
-      go : ((without k (s .lines q) ≡ true) × (occurs p (ends p k q) s calls ≡ false)) ⊎ Began p v (λ s. without k (s .lines q)) (ends p k q) (Comes k q) goes (core-begins k q) s calls
-          → CoreSince p s calls k q
-      go (inl h) = core-since-start (h .0) (h .1)
-      go (inr h) =
-          let last = after-last p s (h .before) (h .call) in
+      go : Since p (λ s. without k (s .lines q)) (ends p k q) (Comes k q) s calls → CoreSince p s calls k q
+      go (at-start x y) = core-since-start x y
+      go (by-call before c since l b x y) =
+          let last = after-last p s before c in
           sent-since (record {
-            sent = record { before = h .before; call = h .call; since = h .since; list = h .list; came = h .begun; went = rw last (h .went) };
-            still = rw last (h .still);
+            sent = record { before = before; call = c; since = since; list = l; came = b; went = rw last x };
+            still = rw last y;
           })
 
   -- from a fresh machine on

@@ -122,6 +122,7 @@ module _ (p : Plan) where
     asked-since : StillWaits s calls i q → TaskSince s calls i q
     task-since-start : waiting i (s .lines q) ≡ true → occurs (grants i q) s calls ≡ false → TaskSince s calls i q
 
+  -- and so for a core
   pub data CoreSince (s : View) (calls : List Call) (k q : ℕ) : Type 0 where
     sent-since : StillWithout s calls k q → CoreSince s calls k q
     core-since-start : without k (s .lines q) ≡ true → occurs (ends k q) s calls ≡ false → CoreSince s calls k q

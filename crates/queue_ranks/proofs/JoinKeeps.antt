@@ -1,84 +1,49 @@
 -- A line that is sound stays so when a task joins.
-use Rattle.folds.proofs.Ground.{ℕ, suc, _+_, _-_, _<_, _≤_, _≡_, sym, ap, _∙_, _≢_, arith}
+use Rattle.folds.proofs.Ground.{ℕ, _+_, _-_, _<_, _≤_, _≡_, sym, ap, _∙_, add-one, arith}
 use Rattle.folds.specs.Below.{maxBelow}
-use Rattle.folds.proofs.Figures.{max-at, max-same}
+use Rattle.folds.proofs.Figures.{max-at}
 use Rattle.queue_rules.specs.Rules.{Terms}
 use Rattle.queue_ranks.specs.Ranks.{taskRanked}
 use Rattle.folds.proofs.Searches.{on-eq}
-use Rattle.queue_ranks.proofs.Ranked.{At, Ranked, Queued, Timed, full}
-use Rattle.queue_ranks.proofs.Same.{same-task}
+use Rattle.queue_ranks.proofs.Ranked.{Ranked, Queued, Timed, held-timed, owner, ranked-at, sole, full}
+use Rattle.queue_ranks.proofs.Same.{other-ranked, other-max, other-task}
+use Rattle.queue_ranks.proofs.Slots.{slots-stay, slots-last}
 use Rattle.queue_ranks.proofs.Join.{Joins, join-other, join-max, join-task, join-last}
 
 module _ {n : ℕ} {t : Terms} {R S : ℕ → ℕ → ℕ} {i : ℕ} (x : Joins n t R S i) where
-  other-max : (k : ℕ) → k ≢ t .processor i → maxBelow n (R k) ≡ maxBelow n (S k)
-  other-max k ne = max-same n (R k) (S k) (λ u l. join-other x k u ne l)
-
-  grows : (k : ℕ) → maxBelow n (R k) ≤ maxBelow n (S k)
-  grows k =
-      on-eq (maxBelow n (R k) ≤ maxBelow n (S k)) k (t .processor i)
-      (λ e. rw e (omega (arith, join-max x))) (λ ne. omega (arith, other-max k ne))
-
   -- whoever has a rank stays the task of that rank
   pub task-stays : (k j : ℕ) → 1 ≤ j → j ≤ maxBelow n (R k) → taskRanked n (S k) j ≡ taskRanked n (R k) j
   task-stays k j a b =
       on-eq (taskRanked n (S k) j ≡ taskRanked n (R k) j) k (t .processor i)
-      (λ e. rw e (join-task x j a (rw e at b)))
-      (λ ne. sym (same-task n (R k) (S k) (λ u l. join-other x k u ne l) j))
+      (λ e. rw e (join-task x j a (rw e at b))) (λ ne. sym (other-task (join-other x) k j ne))
 
   pub join-ranked : Ranked n t R → 1 ≤ t .hold i → Ranked n t S
-  join-ranked r some = record {
-    own = λ k u l ne. on-eq (S k u ≡ 0) u i
-        (λ e. rw e (x .elsewhere k (λ p. ne (p ∙ ap (t .processor) (sym e))) ∙ r .own k i (x .inside) (λ p. ne (p ∙ ap (t .processor) (sym e)))))
-        (λ d. x .kept k u l d ∙ r .own k u l ne);
-    alone = λ u l a. on-eq (taskRanked n (S (t .processor u)) (S (t .processor u) u) ≡ u) u i
+  join-ranked r some = let k = t .processor i in other-ranked (join-other x) r (record {
+    own = λ u l a. on-eq (k ≡ t .processor u) u i (λ e. ap (t .processor) (sym e)) (λ d. owner r k u l (omega (arith, x .kept k u l d)));
+    alone = λ u l a. on-eq (taskRanked n (S k) (S k u) ≡ u) u i
         (λ e. rw (e, x .new) (join-last x))
-        (λ d. let k = t .processor u in let b : 1 ≤ R k u = omega (arith, x .kept k u l d) in
-        rw (x .kept k u l d) (task-stays k (R k u) b (max-at n u (R k) l) ∙ r .alone u l b));
-    backed = λ u l a. on-eq (taskRanked n (S (t .processor u)) (S (t .processor u) u - 1) < n) u i
-        (λ e. rw (e, x .new) (before r (t .processor i) (suc (maxBelow n (R (t .processor i))) - 1) (omega (arith, x .new, rw e at a)) (omega arith)))
-        (λ d. let k = t .processor u in let b : 2 ≤ R k u = omega (arith, x .kept k u l d) in
-        rw (x .kept k u l d) (before r k (R k u - 1) (omega arith) (omega (arith, max-at n u (R k) l))));
-    uses = λ u l a. on-eq (1 ≤ t .hold u) u i (λ e. rw e some)
-        (λ d. r .uses u l (omega (arith, x .kept (t .processor u) u l d)));
-  }
-    where
-      before : Ranked n t R → (k j : ℕ) → 1 ≤ j → j ≤ maxBelow n (R k) → taskRanked n (S k) j < n
-      before r k j a b = rw (task-stays k j a b) (full r k j a b)
+        (λ d. let b : 1 ≤ R k u = omega (arith, x .kept k u l d) in
+        rw (x .kept k u l d) (join-task x (R k u) b (max-at n u (R k) l) ∙ sole r k u l b));
+    backed = λ u l a. let b : S k u - 1 ≤ maxBelow n (R k) = omega (arith, join-max x, max-at n u (S k) l) in
+        rw (join-task x (S k u - 1) (omega arith) b) (full r k (S k u - 1) (omega arith) b);
+    uses = λ u l a. on-eq (1 ≤ t .hold u) u i (λ e. rw e some) (λ d. ranked-at r k .uses u l (omega (arith, x .kept k u l d)));
+  })
 
   -- its processor is in the queue
   pub join-queued : {m c : ℕ} {g : ℕ → ℕ} → Queued n m R c g → 1 ≤ maxBelow n (R (t .processor i)) → Queued n m S c g
-  join-queued {m} {c} {g} w a = record {
-    placed = w .placed;
-    served = λ j l. omega (arith, w .served j l, grows (g j));
-    once = w .once;
-    stands = λ k b. on-eq (At c g k) k (t .processor i) (λ e. rw e (w .stands (t .processor i) a))
-        (λ ne. w .stands k (omega (arith, other-max k ne)));
-  }
+  join-queued w a = slots-stay (other-max (join-other x)) w a (omega (arith, join-max x))
 
   -- its processor joins too, in the next slot
   pub join-queued-new : {m c : ℕ} {g : ℕ → ℕ} (f : ℕ → ℕ) → Queued n m R c g → maxBelow n (R (t .processor i)) ≡ 0 → t .processor i < m
       → ((j : ℕ) → j < c → f j ≡ g j) → f c ≡ t .processor i → Queued n m S (c + 1) f
-  join-queued-new {m} {c} {g} f w z pm same last = record {
-    placed = λ j l. on-eq (f j < m) j c (λ e. rw (e, last) pm) (λ ne. rw (same j (omega arith)) (w .placed j (omega arith)));
-    served = λ j l. on-eq (1 ≤ maxBelow n (S (f j))) j c (λ e. rw (e, last) (omega (arith, join-max x)))
-        (λ ne. rw (same j (omega arith)) (omega (arith, w .served j (omega arith), grows (g j))));
-    once = λ j k a b e. on-eq (j ≡ k) j c
-        (λ p. on-eq (j ≡ k) k c (λ q. p ∙ sym q) (λ q. absurd (free k (omega arith) (sym e ∙ ap f p ∙ last))))
-        (λ p. on-eq (j ≡ k) k c (λ q. absurd (free j (omega arith) (e ∙ ap f q ∙ last)))
-        (λ q. w .once j k (omega arith) (omega arith) (sym (same j (omega arith)) ∙ e ∙ same k (omega arith))));
-    stands = λ k b. on-eq (At (c + 1) f k) k (t .processor i) (λ e. record { index = c; within = omega arith; is = last ∙ sym e })
-        (λ ne. let y : At c g k = w .stands k (omega (arith, other-max k ne)) in
-        record { index = y .index; within = omega (arith, y .within); is = same (y .index) (y .within) ∙ y .is });
-  }
-    where
-      free : (j : ℕ) → j < c → f j ≢ t .processor i
-      free j l e = let y : 1 ≤ maxBelow n (R (t .processor i)) = rw (sym (same j l) ∙ e) at (w .served j l) in omega arith
+  join-queued-new {c = c} f w z small same last =
+      rw (add-one c) (slots-last (other-max (join-other x)) f w z (omega (arith, join-max x)) small same last)
 
   -- a held line goes on as it was
   pub join-timed : {m c : ℕ} {g : ℕ → ℕ} {h b : ℕ} (d : ℕ) (f : ℕ → ℕ) → Queued n m R c g → Timed n t R c g h b → 1 ≤ c → 1 ≤ d → f 0 ≡ g 0
       → Timed n t S d f h b
   join-timed {m} {c} {g} {h} {b} d f w k a a2 e = record {
-    idle = λ z. let bad : ⊥ = omega arith in absurd bad;
+    idle = λ z. omega arith;
     runs = λ _. rw (e, task-stays (g 0) 1 (omega arith) (w .served 0 a)) (k .runs a);
   }
 
@@ -86,7 +51,5 @@ module _ {n : ℕ} {t : Terms} {R S : ℕ → ℕ → ℕ} {i : ℕ} (x : Joins 
   pub join-timed-new : (f : ℕ → ℕ) → maxBelow n (R (t .processor i)) ≡ 0 → f 0 ≡ t .processor i → 1 ≤ t .hold i
       → t .hold i ≤ t .budget (t .processor i)
       → Timed n t S 1 f (t .hold i) (t .budget (t .processor i))
-  join-timed-new f z e some within = record {
-    idle = λ y. let bad : ⊥ = omega arith in absurd bad;
-    runs = λ _. let a : taskRanked n (S (t .processor i)) 1 ≡ i = rw z at (join-last x) in rw (e, a) (some, omega arith, within, omega arith);
-  }
+  join-timed-new f z e some within =
+      let a : taskRanked n (S (t .processor i)) 1 ≡ i = rw z at (join-last x) in held-timed (omega arith) (rw (e, a) (omega arith))

@@ -1,14 +1,14 @@
 -- The first task of the head leaves, or a head begins: the rules' line after it, over ranks and slots.
-use Rattle.folds.proofs.Ground.{ℕ, zero, suc, _-_, _<_, _≤_, Bool, cond, _≡_, refl, sym, ap, _∙_, _≢_, List, [], _∷_, _++_, eqb, arith, le-leb, lt-leb}
+use Rattle.folds.proofs.Ground.{ℕ, suc, _-_, _<_, _≤_, Bool, cond, _≡_, sym, ap, _∙_, _≢_, List, [], _∷_, _++_, eqb, arith, le-leb, lt-leb}
 use Rattle.folds.specs.Below.{maxBelow}
 use Rattle.folds.proofs.Figures.{max-at, max-bound}
 use Rattle.folds.proofs.Arrays.{by-eq}
 use Rattle.queue_rules.specs.Rules.{Terms, Turn, line, begin, leave, ticked}
 use Rattle.queue_ranks.specs.Ranks.{listFrom, taskRanked, othersOf, turnOf, queueFrom}
 use Rattle.folds.proofs.Searches.{find-same, same-eqb}
-use Rattle.queue_ranks.proofs.Lists.{list-same, list-shift, list-snoc}
+use Rattle.queue_ranks.proofs.Lists.{list-first, list-same, list-shift, list-snoc}
 use Rattle.queue_ranks.proofs.Ranked.{Queued}
-use Rattle.queue_ranks.proofs.Same.{same-task, same-turn}
+use Rattle.queue_ranks.proofs.Same.{other-task, other-turn}
 
 -- the ranks S are R without the first task of processor k: its others have moved up
 pub record Leaves (n : ℕ) (R S : ℕ → ℕ → ℕ) (k : ℕ) : Type 0 where
@@ -39,7 +39,7 @@ module _ {n : ℕ} {R S : ℕ → ℕ → ℕ} {k : ℕ} (x : Leaves n R S k) wh
   after-first l =
       by-eq (λ (b : Bool). taskRanked n (S l) 1 ≡ cond b (taskRanked n (R l) 2) (taskRanked n (R l) 1)) l k
       (λ e. rw e (leave-task 1 (omega arith)))
-      (λ ne. sym (same-task n (R l) (S l) (λ u a. leave-other l u ne a) 1))
+      (λ ne. sym (other-task leave-other l 1 ne))
 
   -- with a second task: it is first now, and the others are behind it
   leave-others : 2 ≤ maxBelow n (R k) → othersOf n (R k) ≡ taskRanked n (S k) 1 ∷ othersOf n (S k)
@@ -51,10 +51,6 @@ module _ {n : ℕ} {R S : ℕ → ℕ → ℕ} {k : ℕ} (x : Leaves n R S k) wh
       (list-shift (maxBelow n (S k) - 1) 2 (taskRanked n (R k))
       ∙ list-same (maxBelow n (S k) - 1) 2 (λ j. taskRanked n (R k) (suc j)) (taskRanked n (S k)) (λ j b l. sym (leave-task j (omega arith)))))
 
-  leave-empty : maxBelow n (R k) ≤ 1 → othersOf n (R k) ≡ []
-  unfolding listFrom
-  leave-empty a = let m : maxBelow n (R k) - 1 ≡ 0 = omega arith in rw m
-
 -- ── a head begins ──
 module _ (n : ℕ) (t : Terms) (R : ℕ → ℕ → ℕ) where
   pub begin-none : (c : ℕ) (g : ℕ → ℕ) → c ≡ 0 → begin t (queueFrom n R c g) ≡ line 0 0 (queueFrom n R c g)
@@ -63,9 +59,7 @@ module _ (n : ℕ) (t : Terms) (R : ℕ → ℕ → ℕ) where
 
   pub begin-some : (c : ℕ) (g : ℕ → ℕ) → 1 ≤ c
       → begin t (queueFrom n R c g) ≡ line (t .hold (taskRanked n (R (g 0)) 1)) (t .budget (g 0)) (queueFrom n R c g)
-  unfolding listFrom
-  begin-some zero g a = let bad : ⊥ = omega arith in absurd bad
-  begin-some (suc c) g a = refl
+  begin-some c g a = rw (list-first c 0 (λ i. turnOf n R (g i)) a)
 
   -- ── a tick ──
   pub tick-none : (c : ℕ) (g : ℕ → ℕ) (h b : ℕ) → c ≡ 0 → ticked t (line h b (queueFrom n R c g)) ≡ line h b (queueFrom n R c g)
@@ -75,15 +69,13 @@ module _ (n : ℕ) (t : Terms) (R : ℕ → ℕ → ℕ) where
   pub tick-some : (c : ℕ) (g : ℕ → ℕ) (h b : ℕ) → 1 ≤ c
       → ticked t (line h b (queueFrom n R c g))
       ≡ cond (eqb (h - 1) 0) (leave t (b - 1) (queueFrom n R c g)) (line (h - 1) (b - 1) (queueFrom n R c g))
-  unfolding listFrom
-  tick-some zero g h b a = let bad : ⊥ = omega arith in absurd bad
-  tick-some (suc c) g h b a = refl
+  tick-some c g h b a = rw (list-first c 0 (λ i. turnOf n R (g i)) a)
 
 -- ── the line; the head is g 0, c others are queued ──
 module _ {n m : ℕ} (t : Terms) {R S : ℕ → ℕ → ℕ} {c : ℕ} {g : ℕ → ℕ} (x : Leaves n R S (g 0)) (w : Queued n m R (suc c) g) where
   behind-turn : (j : ℕ) → 1 ≤ j → j < suc c → turnOf n R (g j) ≡ turnOf n S (g j)
   behind-turn j a l =
-      same-turn n R S (g j) (λ u b. leave-other x (g j) u (λ e. omega (arith, w .once j 0 l (omega arith) e)) b)
+      other-turn (leave-other x) (g j) (λ e. omega (arith, w .once j 0 l (omega arith) e))
 
   behind : (f : ℕ → ℕ) → ((j : ℕ) → j < c → f j ≡ g (suc j)) → listFrom c 1 (λ j. turnOf n R (g j)) ≡ listFrom c 0 (λ j. turnOf n S (f j))
   behind f h =
@@ -95,7 +87,7 @@ module _ {n m : ℕ} (t : Terms) {R S : ℕ → ℕ → ℕ} {c : ℕ} {g : ℕ 
   pub leave-last : (b : ℕ) (f : ℕ → ℕ) → maxBelow n (R (g 0)) ≤ 1 → ((j : ℕ) → j < c → f j ≡ g (suc j))
       → leave t b (queueFrom n R (suc c) g) ≡ begin t (queueFrom n S c f)
   unfolding listFrom
-  leave-last b f a h = rw (leave-empty x a, behind f h)
+  leave-last b f a h = let m : maxBelow n (R (g 0)) - 1 ≡ 0 = omega arith in rw (m, behind f h)
 
   -- the next is granted within the budget left
   pub leave-next : (b : ℕ) → 2 ≤ maxBelow n (R (g 0)) → t .hold (taskRanked n (S (g 0)) 1) ≤ b

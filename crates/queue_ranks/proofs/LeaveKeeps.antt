@@ -1,143 +1,59 @@
 -- A line that is sound stays so when the first task of the head leaves, and is when a head begins.
-use Rattle.folds.proofs.Ground.{ℕ, zero, suc, _-_, _<_, _≤_, _≡_, refl, sym, ap, _∙_, _≢_, arith}
+use Rattle.folds.proofs.Ground.{ℕ, suc, _-_, _<_, _≤_, _≡_, refl, ap, _∙_, arith}
 use Rattle.folds.specs.Below.{maxBelow}
-use Rattle.folds.proofs.Figures.{max-same}
 use Rattle.queue_rules.specs.Rules.{Terms}
+use Rattle.queue_rules.proofs.Sound.{Clock}
 use Rattle.queue_ranks.specs.Ranks.{taskRanked}
-use Rattle.folds.proofs.Searches.{on-eq}
-use Rattle.queue_ranks.proofs.Ranked.{At, Ranked, Queued, Timed, task-rank, owner, sole, full}
-use Rattle.queue_ranks.proofs.Same.{same-task}
+use Rattle.queue_ranks.proofs.Ranked.{Ranked, Queued, Timed, held-timed, task-rank, owner, ranked-at, sole, full}
+use Rattle.queue_ranks.proofs.Same.{other-ranked, other-max}
+use Rattle.queue_ranks.proofs.Slots.{slots-stay, slots-first, slots-back}
 use Rattle.queue_ranks.proofs.Leave.{Leaves, leave-other, leave-max, leave-task}
 
 -- ── ranks ──
 pub leave-ranked : {n : ℕ} {t : Terms} {R S : ℕ → ℕ → ℕ} {k : ℕ} → Leaves n R S k → Ranked n t R → Ranked n t S
-leave-ranked {n} {t} {R} {S} {k} x r = record {
-  own = λ l u a ne. on-eq (S l u ≡ 0) l k
-      (λ e. rw e (omega (arith, x .fall u a, rw e at (r .own l u a ne))))
-      (λ d. x .kept l u d a ∙ r .own l u a ne);
-  alone = λ u a b. on-eq (taskRanked n (S (t .processor u)) (S (t .processor u) u) ≡ u) (t .processor u) k
-      (λ e. rw e (head-alone u a (rw e at b)))
-      (λ d. rw (← leave-other x (t .processor u) u d a)
-      (sym (same-task n (R (t .processor u)) (S (t .processor u)) (λ v c. leave-other x (t .processor u) v d c) (R (t .processor u) u))
-      ∙ r .alone u a (rw (leave-other x (t .processor u) u d a) b)));
-  backed = λ u a b. on-eq (taskRanked n (S (t .processor u)) (S (t .processor u) u - 1) < n) (t .processor u) k
-      (λ e. rw e (head-backed u a (sym e) (rw e at b)))
-      (λ d. rw (
-        ← leave-other x (t .processor u) u d a,
-        ← same-task n (R (t .processor u)) (S (t .processor u)) (λ v c. leave-other x (t .processor u) v d c) (R (t .processor u) u - 1),
-      )
-      (r .backed u a (rw (leave-other x (t .processor u) u d a) b)));
-  uses = λ u a b. r .uses u a (on-eq (1 ≤ R (t .processor u) u) (t .processor u) k
-      (λ e. rw e (omega (arith, x .fall u a, rw e at b)))
-      (λ d. rw (leave-other x (t .processor u) u d a) b));
-}
-  where
-    head-alone : (u : ℕ) → u < n → 1 ≤ S k u → taskRanked n (S k) (S k u) ≡ u
-    head-alone u a b =
-        let f : suc (S k u) ≡ R k u = omega (arith, x .fall u a) in
-        leave-task x (S k u) b ∙ rw f (sole r k u a (omega arith))
-
-    head-backed : (u : ℕ) → u < n → k ≡ t .processor u → 2 ≤ S k u → taskRanked n (S k) (S k u - 1) < n
-    head-backed u a e b =
-        let f : suc (S k u - 1) ≡ R k u - 1 = omega (arith, x .fall u a) in
-        let y : taskRanked n (R k) (R k u - 1) < n = rw e (r .backed u a (rw (← e) (omega (arith, x .fall u a)))) in
-        rw (leave-task x (S k u - 1) (omega arith), f) y
+leave-ranked {n} {t} {R} {S} {k} x r = other-ranked (leave-other x) r (record {
+  own = λ u l a. owner r k u l (omega (arith, x .fall u l));
+  alone = λ u l a. let f : suc (S k u) ≡ R k u = omega (arith, x .fall u l) in leave-task x (S k u) a ∙ rw f (sole r k u l (omega arith));
+  backed = λ u l a. let f : suc (S k u - 1) ≡ R k u - 1 = omega (arith, x .fall u l) in
+      rw (leave-task x (S k u - 1) (omega arith), f) (ranked-at r k .backed u l (omega arith));
+  uses = λ u l a. ranked-at r k .uses u l (omega (arith, x .fall u l));
+})
 
 -- ── the queue of processors; the head is g 0, c others are queued ──
 module _ {n m : ℕ} {R S : ℕ → ℕ → ℕ} {c : ℕ} {g : ℕ → ℕ} (x : Leaves n R S (g 0)) (w : Queued n m R (suc c) g) where
-  other-max : (k : ℕ) → k ≢ g 0 → maxBelow n (R k) ≡ maxBelow n (S k)
-  other-max k ne = max-same n (R k) (S k) (λ u l. leave-other x k u ne l)
-
-  shrinks : (k : ℕ) → maxBelow n (S k) ≤ maxBelow n (R k)
-  shrinks k =
-      on-eq (maxBelow n (S k) ≤ maxBelow n (R k)) k (g 0)
-      (λ e. rw e (omega (arith, leave-max x))) (λ ne. omega (arith, other-max k ne))
-
-  -- who is not head keeps its tasks
-  behind-served : (i : ℕ) → i < c → 1 ≤ maxBelow n (S (g (suc i)))
-  behind-served i l =
-      omega (arith, other-max (g (suc i)) (λ e. omega (arith, w .once (suc i) 0 (omega arith) (omega arith) e)), w .served (suc i) (omega arith))
-
   -- the next task is granted
   pub next-queued : 2 ≤ maxBelow n (R (g 0)) → Queued n m S (suc c) g
-  next-queued a = record {
-    placed = w .placed;
-    served = served;
-    once = w .once;
-    stands = λ k b. w .stands k (omega (arith, shrinks k));
-  }
-    where
-      served : (i : ℕ) → i < suc c → 1 ≤ maxBelow n (S (g i))
-      served zero l = omega (arith, leave-max x)
-      served (suc i) l = behind-served i (omega arith)
+  next-queued a = slots-stay (other-max (leave-other x)) w (omega arith) (omega (arith, leave-max x))
 
   -- the processor leaves
   pub last-queued : (f : ℕ → ℕ) → maxBelow n (R (g 0)) ≤ 1 → ((j : ℕ) → j < c → f j ≡ g (suc j)) → Queued n m S c f
-  last-queued f a same = record {
-    placed = λ i l. rw (same i l) (w .placed (suc i) (omega arith));
-    served = λ i l. rw (same i l) (behind-served i l);
-    once = λ i j p q e. omega (arith, w .once (suc i) (suc j) (omega arith) (omega arith) (sym (same i p) ∙ e ∙ same j q));
-    stands = λ k b. let y : At (suc c) g k = w .stands k (omega (arith, shrinks k)) in find k b (y .index) (y .within) (y .is);
-  }
-    where
-      find : (k : ℕ) → 1 ≤ maxBelow n (S k) → (i : ℕ) → i < suc c → g i ≡ k → At c f k
-      find k b zero l e =
-          let z : 1 ≤ maxBelow n (S (g 0)) = rw e b in
-          let bad : ⊥ = omega (arith, leave-max x) in absurd bad
-      find k b (suc i) l e = record { index = i; within = omega arith; is = same i (omega arith) ∙ e }
+  last-queued f a same = slots-first (other-max (leave-other x)) f w refl (omega (arith, leave-max x)) same
 
   -- the processor goes to the tail
   pub back-queued : (f : ℕ → ℕ) → 2 ≤ maxBelow n (R (g 0)) → ((j : ℕ) → j < c → f j ≡ g (suc j)) → f c ≡ g 0 → Queued n m S (suc c) f
-  back-queued f a same last = record {
-    placed = λ i l. on-eq (f i < m) i c (λ e. rw (e, last) (w .placed 0 (omega arith)))
-        (λ ne. rw (same i (omega arith)) (w .placed (suc i) (omega arith)));
-    served = λ i l. on-eq (1 ≤ maxBelow n (S (f i))) i c (λ e. rw (e, last) (omega (arith, leave-max x)))
-        (λ ne. rw (same i (omega arith)) (behind-served i (omega arith)));
-    once = λ i j p q e. on-eq (i ≡ j) i c
-        (λ d. on-eq (i ≡ j) j c (λ d2. d ∙ sym d2) (λ ne. absurd (apart j (omega arith) (sym e ∙ ap f d ∙ last))))
-        (λ ne. on-eq (i ≡ j) j c (λ d. absurd (apart i (omega arith) (e ∙ ap f d ∙ last)))
-        (λ ne2. omega (arith, w .once (suc i) (suc j) (omega arith) (omega arith) (sym (same i (omega arith)) ∙ e ∙ same j (omega arith)))));
-    stands = λ k b. let y : At (suc c) g k = w .stands k (omega (arith, shrinks k)) in find k (y .index) (y .within) (y .is);
-  }
-    where
-      apart : (j : ℕ) → j < c → f j ≢ g 0
-      apart j l e = omega (arith, w .once (suc j) 0 (omega arith) (omega arith) (sym (same j l) ∙ e))
-
-      find : (k i : ℕ) → i < suc c → g i ≡ k → At (suc c) f k
-      find k zero l e = record { index = c; within = omega arith; is = last ∙ e }
-      find k (suc i) l e = record { index = i; within = omega arith; is = same i (omega arith) ∙ e }
+  back-queued f a same last = slots-back f (other-max (leave-other x)) w (omega (arith, leave-max x)) same last
 
 -- ── the hold and the budget left ──
 pub free-timed : (n : ℕ) (t : Terms) (R : ℕ → ℕ → ℕ) (c : ℕ) (g : ℕ → ℕ) → c ≡ 0 → Timed n t R c g 0 0
-free-timed n t R c g e = record { idle = λ _. (refl, refl); runs = λ a. let bad : ⊥ = omega arith in absurd bad }
+free-timed n t R c g e = record { idle = λ _. (refl, refl); runs = λ a. omega arith }
 
 -- a tick that does not end the hold
 pub tick-timed : {n : ℕ} {t : Terms} {R : ℕ → ℕ → ℕ} {c : ℕ} {g : ℕ → ℕ} {h b : ℕ} → Timed n t R c g h b → 1 ≤ c → 2 ≤ h
     → Timed n t R c g (h - 1) (b - 1)
-tick-timed k a l = record {
-  idle = λ e. let bad : ⊥ = omega arith in absurd bad;
-  runs = λ _. let y = k .runs a in (omega arith, omega arith, omega arith, omega arith);
-}
+tick-timed k a l = let (one, lent, covered, budgeted) = k .runs a in held-timed a (omega arith)
 
 module _ {n : ℕ} {t : Terms} {R : ℕ → ℕ → ℕ} (r : Ranked n t R) (within : (u : ℕ) → u < n → t .hold u ≤ t .budget (t .processor u)) where
   -- the first task of a queue has a hold time, and it is within the budget
-  pub first-fits : (k : ℕ) → 1 ≤ maxBelow n (R k) → (1 ≤ t .hold (taskRanked n (R k) 1)) × (t .hold (taskRanked n (R k) 1) ≤ t .budget k)
+  first-fits : (k : ℕ) → 1 ≤ maxBelow n (R k) → let h : ℕ = t .hold (taskRanked n (R k) 1) in Clock h (t .budget k) h (t .budget k)
   first-fits k a =
-      let l : taskRanked n (R k) 1 < n = full r k 1 (omega arith) a in
-      fits (taskRanked n (R k) 1) l (task-rank n 1 (R k) l)
-    where
-      fits : (u : ℕ) → u < n → R k u ≡ 1 → (1 ≤ t .hold u) × (t .hold u ≤ t .budget k)
-      fits u l e = let o : k ≡ t .processor u = owner r k u l (omega arith) in (r .uses u l (rw (← o) (omega arith)), rw o (within u l))
+      let u : ℕ = taskRanked n (R k) 1 in
+      let l : u < n = full r k 1 (omega arith) a in
+      let e : R k u ≡ 1 = task-rank n 1 (R k) l in
+      omega (arith, ranked-at r k .uses u l (omega arith), within u l, ap (t .budget) (owner r k u l (omega arith)))
 
   pub begin-timed : {m : ℕ} (c : ℕ) (g : ℕ → ℕ) → Queued n m R c g → 1 ≤ c → Timed n t R c g (t .hold (taskRanked n (R (g 0)) 1)) (t .budget (g 0))
-  begin-timed c g w a = record {
-    idle = λ z. let bad : ⊥ = omega arith in absurd bad;
-    runs = λ _. let y = first-fits (g 0) (w .served 0 a) in (y .0, omega arith, y .1, omega arith);
-  }
+  begin-timed c g w a = held-timed a (first-fits (g 0) (w .served 0 a))
 
   pub next-timed : (c : ℕ) (g : ℕ → ℕ) (b : ℕ) → 1 ≤ maxBelow n (R (g 0)) → t .hold (taskRanked n (R (g 0)) 1) ≤ b → b ≤ t .budget (g 0) → 1 ≤ c
       → Timed n t R c g (t .hold (taskRanked n (R (g 0)) 1)) b
-  next-timed c g b a l z o = record {
-    idle = λ e. let bad : ⊥ = omega arith in absurd bad;
-    runs = λ _. let y = first-fits (g 0) a in (y .0, omega arith, l, z);
-  }
+  next-timed c g b a l z o = let x = first-fits (g 0) a in held-timed o (omega arith)

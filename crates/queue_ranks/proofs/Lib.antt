@@ -1,6 +1,7 @@
 pub mod Lists
 pub mod Ranked
 pub mod Same
+pub mod Slots
 pub mod Reading
 pub mod Join
 pub mod JoinKeeps

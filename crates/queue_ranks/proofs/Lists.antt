@@ -1,5 +1,5 @@
 -- Laws of listFrom.
-use Rattle.folds.proofs.Ground.{ℕ, zero, suc, _+_, _<_, _≤_, _≡_, refl, ap, ap₂, List, [], _∷_, _++_, length, getD, arith}
+use Rattle.folds.proofs.Ground.{ℕ, zero, suc, _+_, _-_, _<_, _≤_, _≡_, refl, ap, ap₂, List, [], _∷_, _++_, length, getD, arith}
 use Rattle.queue_ranks.specs.Ranks.{listFrom}
 
 module _ {A : Type 0} where
@@ -9,6 +9,11 @@ module _ {A : Type 0} where
   list-same zero i f g h = refl
   list-same (suc n) i f g h =
       ap₂ (λ (x : A) (l : List A). x ∷ l) (h i (omega arith) (omega arith)) (list-same n (suc i) f g (λ k a b. h k (omega arith) (omega arith)))
+
+  -- the first of a list
+  pub list-first : (n i : ℕ) (f : ℕ → A) → 1 ≤ n → listFrom n i f ≡ f i ∷ listFrom (n - 1) (suc i) f
+  unfolding listFrom
+  list-first n i f a = let e : n ≡ suc (n - 1) = omega arith in ap (λ (m : ℕ). listFrom m i f) e
 
   -- from one number later on
   pub list-shift : (n i : ℕ) (f : ℕ → A) → listFrom n (suc i) f ≡ listFrom n i (λ k. f (suc k))

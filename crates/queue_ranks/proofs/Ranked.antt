@@ -1,11 +1,11 @@
 -- What a sound line is, over ranks and slots.
 use Rattle.folds.proofs.Ground.{ℕ, zero, suc, _+_, _-_, _<_, _≤_, Bool, cond, _≡_, sym, ap, _∙_, _≢_, eqb, ltb, le-antisymm, arith, eqb-true, eq-eqb, lt-ltb, le-ltb}
 use Rattle.folds.specs.Below.{maxBelow}
-use Rattle.folds.proofs.Tests.{find-le}
 use Rattle.folds.proofs.Figures.{max-at, max-bound}
 use Rattle.folds.proofs.Ranges.{max-where-bound, max-where-at}
 use Rattle.folds.proofs.Arrays.{by-eq}
 use Rattle.queue_rules.specs.Rules.{Terms}
+use Rattle.queue_rules.proofs.Sound.{Clock}
 use Rattle.queue_ranks.specs.Ranks.{taskRanked}
 use Rattle.folds.proofs.Searches.{on-eq, on-le, find-passes, find-first, pigeon}
 
@@ -34,6 +34,11 @@ pub record Timed (n : ℕ) (t : Terms) (R : ℕ → ℕ → ℕ) (c : ℕ) (g : 
   pub idle : c ≡ 0 → (h ≡ 0) × (b ≡ 0)
   pub runs : 1 ≤ c → (1 ≤ h) × (h ≤ t .hold (taskRanked n (R (g 0)) 1)) × (h ≤ b) × (b ≤ t .budget (g 0))
 
+-- a held line, whose clock runs
+pub held-timed : {n : ℕ} {t : Terms} {R : ℕ → ℕ → ℕ} {c : ℕ} {g : ℕ → ℕ} {h b : ℕ} → 1 ≤ c
+    → Clock h b (t .hold (taskRanked n (R (g 0)) 1)) (t .budget (g 0)) → Timed n t R c g h b
+held-timed a k = record { idle = λ z. omega arith; runs = λ _. (k .runs, k .lent, k .covered, k .budgeted) }
+
 -- the task found at a rank has it, and is the first that has
 pub task-rank : (n j : ℕ) (f : ℕ → ℕ) → taskRanked n f j < n → f (taskRanked n f j) ≡ j
 task-rank n j f l = eqb-true _ _ (find-passes n (λ u. eqb (f u) j) l)
@@ -41,21 +46,16 @@ task-rank n j f l = eqb-true _ _ (find-passes n (λ u. eqb (f u) j) l)
 pub task-first : (n j u : ℕ) (f : ℕ → ℕ) → u < n → f u ≡ j → taskRanked n f j ≤ u
 task-first n j u f l e = find-first n u (λ v. eqb (f v) j) l (eq-eqb _ _ e)
 
-pub task-le : (n j : ℕ) (f : ℕ → ℕ) → taskRanked n f j ≤ n
-task-le n j f = find-le n (λ u. eqb (f u) j)
-
 -- the greatest rank is some task's
 pub max-there : (n : ℕ) (f : ℕ → ℕ) → 1 ≤ maxBelow n f → taskRanked n f (maxBelow n f) < n
 max-there n f a =
     on-le (taskRanked n f (maxBelow n f) < n) n (taskRanked n f (maxBelow n f))
-    (λ out. let b : maxBelow n f ≤ maxBelow n f - 1 = max-bound n (maxBelow n f - 1) f (less out) in omega arith)
+    (λ out. omega (
+      arith,
+      max-bound n (maxBelow n f - 1) f (λ u l. on-eq (f u ≤ maxBelow n f - 1) (f u) (maxBelow n f)
+          (λ e. omega (arith, task-first n (maxBelow n f) u f l e)) (λ ne. omega (arith, max-at n u f l))),
+    ))
     (λ l. l)
-  where
-    less : n ≤ taskRanked n f (maxBelow n f) → (u : ℕ) → u < n → f u ≤ maxBelow n f - 1
-    less out u l =
-        on-eq (f u ≤ maxBelow n f - 1) (f u) (maxBelow n f)
-        (λ e. let x = task-first n (maxBelow n f) u f l e in let bad : ⊥ = omega arith in absurd bad)
-        (λ ne. omega (arith, max-at n u f l))
 
 -- where no two tasks share a rank, the last task of rank j is the first
 pub seated : (n : ℕ) (f : ℕ → ℕ) → ((u : ℕ) → u < n → 1 ≤ f u → taskRanked n f (f u) ≡ u) → (j : ℕ) → 1 ≤ j
@@ -72,39 +72,52 @@ seated n f alone j a =
     one : (u : ℕ) → u < n → f u ≡ j → taskRanked n f j ≡ u
     one u l e = rw e at (alone u l (rw e a))
 
+-- the same of the ranks f in the queue of one processor k: a move changes those of one processor
+pub record RankedAt (n : ℕ) (t : Terms) (k : ℕ) (f : ℕ → ℕ) : Type 0 where
+  pub own : (u : ℕ) → u < n → 1 ≤ f u → k ≡ t .processor u
+  pub alone : (u : ℕ) → u < n → 1 ≤ f u → taskRanked n f (f u) ≡ u
+  pub backed : (u : ℕ) → u < n → 2 ≤ f u → taskRanked n f (f u - 1) < n
+  pub uses : (u : ℕ) → u < n → 1 ≤ f u → 1 ≤ t .hold u
+
+pub ranked-each : {n : ℕ} {t : Terms} {R : ℕ → ℕ → ℕ} → ((k : ℕ) → RankedAt n t k (R k)) → Ranked n t R
+ranked-each {n} {t} {R} r = record {
+  own = λ k u l ne. on-le (R k u ≡ 0) 1 (R k u) (λ a. absurd (ne (r k .own u l a))) (λ a. omega arith);
+  alone = λ u. r (t .processor u) .alone u;
+  backed = λ u. r (t .processor u) .backed u;
+  uses = λ u. r (t .processor u) .uses u;
+}
+
 module _ {n : ℕ} {t : Terms} {R : ℕ → ℕ → ℕ} (r : Ranked n t R) where
   -- who has a rank in k's queue is k's
   pub owner : (k u : ℕ) → u < n → 1 ≤ R k u → k ≡ t .processor u
   owner k u l a =
-      on-eq (k ≡ t .processor u) k (t .processor u) (λ e. e)
-      (λ ne. let z = r .own k u l ne in let bad : ⊥ = omega arith in absurd bad)
+      on-eq (k ≡ t .processor u) k (t .processor u) (λ e. e) (λ ne. omega (arith, r .own k u l ne))
+
+  pub ranked-at : (k : ℕ) → RankedAt n t k (R k)
+  ranked-at k = record {
+    own = owner k;
+    alone = λ u l a. let o = owner k u l a in rw o (r .alone u l (rw (← o) a));
+    backed = λ u l a. let o = owner k u l (omega arith) in rw o (r .backed u l (rw (← o) a));
+    uses = λ u l a. r .uses u l (rw (← owner k u l a) a);
+  }
 
   -- and alone at it
   pub sole : (k u : ℕ) → u < n → 1 ≤ R k u → taskRanked n (R k) (R k u) ≡ u
-  sole k u l a = let o = owner k u l a in rw o (r .alone u l (rw (← o) a))
+  sole k = ranked-at k .alone
 
   -- no rank is left out
   down : (k d j : ℕ) → 1 ≤ j → j + d ≡ maxBelow n (R k) → taskRanked n (R k) j < n
   down k zero j a e = let i : j ≡ maxBelow n (R k) = omega arith in rw i (max-there n (R k) (omega arith))
   down k (suc d) j a e =
-      let l : taskRanked n (R k) (suc j) < n = down k d (suc j) (omega arith) (omega arith) in
-      step (taskRanked n (R k) (suc j)) l (task-rank n (suc j) (R k) l)
-    where
-      step : (u : ℕ) → u < n → R k u ≡ suc j → taskRanked n (R k) j < n
-      step u l f =
-          let o : k ≡ t .processor u = owner k u l (omega arith) in
-          let x : taskRanked n (R k) (R k u - 1) < n = rw o (r .backed u l (rw (← o) (omega arith))) in
-          let y : R k u - 1 ≡ j = omega arith in
-          rw y at x
+      let u : ℕ = taskRanked n (R k) (suc j) in
+      let l : u < n = down k d (suc j) (omega arith) (omega arith) in
+      let f : R k u ≡ suc j = task-rank n (suc j) (R k) l in
+      let x = ranked-at k .backed u l (omega arith) in
+      let y : R k u - 1 ≡ j = omega arith in
+      rw y at x
 
   pub full : (k j : ℕ) → 1 ≤ j → j ≤ maxBelow n (R k) → taskRanked n (R k) j < n
   full k j a b = down k (maxBelow n (R k) - j) j a (omega arith)
-
-  -- the task of a rank is k's
-  pub task-owner : (k j : ℕ) → 1 ≤ j → j ≤ maxBelow n (R k) → t .processor (taskRanked n (R k) j) ≡ k
-  task-owner k j a b =
-      let l : taskRanked n (R k) j < n = full k j a b in
-      sym (owner k (taskRanked n (R k) j) l (omega (arith, task-rank n j (R k) l)))
 
   -- there are no more ranks than tasks
   pub ranks-few : (k : ℕ) → maxBelow n (R k) ≤ n
@@ -118,7 +131,9 @@ module _ {n : ℕ} {t : Terms} {R : ℕ → ℕ → ℕ} (r : Ranked n t R) wher
 
   -- a task outside its processor's queue makes the ranks fewer than the tasks
   pub room : (i : ℕ) → i < n → R (t .processor i) i ≡ 0 → maxBelow n (R (t .processor i)) < n
-  room i lt out = pigeon n (suc (maxBelow n f)) pick small distinct
+  room i lt out =
+      pigeon n (suc (maxBelow n f)) pick (λ j l. let (a, _) = at j l in a)
+      (λ j k a b e. let (_, x) = at j a in let (_, y) = at k b in sym x ∙ ap f e ∙ y)
     where
       f : ℕ → ℕ
       f = R (t .processor i)
@@ -126,17 +141,10 @@ module _ {n : ℕ} {t : Terms} {R : ℕ → ℕ → ℕ} (r : Ranked n t R) wher
       pick : ℕ → ℕ
       pick j = cond (eqb j 0) i (taskRanked n f j)
 
-      small : (j : ℕ) → j < suc (maxBelow n f) → pick j < n
-      small j l =
-          by-eq (λ (d : Bool). cond d i (taskRanked n f j) < n) j 0 (λ e. lt) (λ ne. full (t .processor i) j (omega arith) (omega arith))
-
-      rank : (j : ℕ) → j < suc (maxBelow n f) → f (pick j) ≡ j
-      rank j l =
-          by-eq (λ (d : Bool). f (cond d i (taskRanked n f j)) ≡ j) j 0 (λ e. omega arith)
-          (λ ne. task-rank n j f (full (t .processor i) j (omega arith) (omega arith)))
-
-      distinct : (j k : ℕ) → j < suc (maxBelow n f) → k < suc (maxBelow n f) → pick j ≡ pick k → j ≡ k
-      distinct j k a b e = sym (rank j a) ∙ ap f e ∙ rank k b
+      at : (j : ℕ) → j < suc (maxBelow n f) → (pick j < n) × (f (pick j) ≡ j)
+      at j l =
+          by-eq (λ (d : Bool). let u : ℕ = cond d i (taskRanked n f j) in (u < n) × (f u ≡ j)) j 0 (λ e. (lt, omega arith))
+          (λ ne. let a = full (t .processor i) j (omega arith) (omega arith) in (a, task-rank n j f a))
 
 -- a queue has at most as many processors as there are
 pub queued-few : {n m : ℕ} {R : ℕ → ℕ → ℕ} {c : ℕ} {g : ℕ → ℕ} → Queued n m R c g → c ≤ m

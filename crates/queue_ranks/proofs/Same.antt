@@ -1,12 +1,12 @@
 -- Ranks and slots that agree: they show one queue, and are sound together.
-use Rattle.folds.proofs.Ground.{ℕ, _-_, _<_, _≡_, refl, sym, ap, ap₂, _∙_, List, eqb, arith}
+use Rattle.folds.proofs.Ground.{ℕ, _-_, _<_, _≡_, sym, ap, ap₂, _∙_, _≢_, List, eqb}
 use Rattle.folds.specs.Below.{maxBelow}
 use Rattle.folds.proofs.Figures.{max-same}
 use Rattle.queue_rules.specs.Rules.{Terms, turn}
 use Rattle.queue_ranks.specs.Ranks.{taskRanked, othersOf, turnOf, queueFrom}
-use Rattle.folds.proofs.Searches.{find-same}
+use Rattle.folds.proofs.Searches.{on-eq, find-same}
 use Rattle.queue_ranks.proofs.Lists.{list-same}
-use Rattle.queue_ranks.proofs.Ranked.{At, Ranked, Queued, Timed}
+use Rattle.queue_ranks.proofs.Ranked.{At, Ranked, RankedAt, Queued, Timed, ranked-each, ranked-at}
 
 -- one queue of tasks
 module _ (n : ℕ) (f g : ℕ → ℕ) (same : (u : ℕ) → u < n → f u ≡ g u) where
@@ -21,13 +21,8 @@ same-turn n R S k h = ap₂ (λ (u : ℕ) (us : List ℕ). turn k u us) (same-ta
 
 -- the whole queue
 module _ (n : ℕ) (R S : ℕ → ℕ → ℕ) (same : (k u : ℕ) → u < n → R k u ≡ S k u) (c : ℕ) where
-  pub same-queue-slots : (g f : ℕ → ℕ) → ((j : ℕ) → j < c → g j ≡ f j) → queueFrom n R c g ≡ queueFrom n S c f
-  same-queue-slots g f e =
-      list-same c 0 (λ j. turnOf n R (g j)) (λ j. turnOf n S (f j))
-      (λ j a l. same-turn n R S (g j) (same (g j)) ∙ ap (turnOf n S) (e j (omega arith)))
-
   pub same-queue : (g : ℕ → ℕ) → queueFrom n R c g ≡ queueFrom n S c g
-  same-queue g = same-queue-slots g g (λ j l. refl)
+  same-queue g = list-same c 0 (λ j. turnOf n R (g j)) (λ j. turnOf n S (g j)) (λ j a l. same-turn n R S (g j) (same (g j)))
 
   pub same-queued : (m : ℕ) (g f : ℕ → ℕ) → ((j : ℕ) → j < c → g j ≡ f j) → Queued n m R c g → Queued n m S c f
   same-queued m g f e w = record {
@@ -44,12 +39,28 @@ module _ (n : ℕ) (R S : ℕ → ℕ → ℕ) (same : (k u : ℕ) → u < n →
     runs = λ a. rw (← e 0 a, ← same-task n (R (g 0)) (S (g 0)) (same (g 0)) 1) (k .runs a);
   }
 
-pub same-ranked : (n : ℕ) (t : Terms) (R S : ℕ → ℕ → ℕ) → ((k u : ℕ) → u < n → R k u ≡ S k u) → Ranked n t R → Ranked n t S
-same-ranked n t R S same r = record {
-  own = λ k u l ne. sym (same k u l) ∙ r .own k u l ne;
-  alone = λ u l a. let k = t .processor u in
-      rw (← same k u l) (sym (same-task n (R k) (S k) (same k) (R k u)) ∙ r .alone u l (rw (same k u l) a));
-  backed = λ u l a. let k = t .processor u in
-      rw (← same k u l, ← same-task n (R k) (S k) (same k) (R k u - 1)) (r .backed u l (rw (same k u l) a));
-  uses = λ u l a. r .uses u l (rw (same (t .processor u) u l) a);
+same-ranked-at : {n : ℕ} {t : Terms} {k : ℕ} (f g : ℕ → ℕ) → ((u : ℕ) → u < n → f u ≡ g u) → RankedAt n t k f → RankedAt n t k g
+same-ranked-at {n} f g same r = record {
+  own = λ u l a. r .own u l (rw (same u l) a);
+  alone = λ u l a. rw (← same u l, ← same-task n f g same (f u)) (r .alone u l (rw (same u l) a));
+  backed = λ u l a. rw (← same u l, ← same-task n f g same (f u - 1)) (r .backed u l (rw (same u l) a));
+  uses = λ u l a. r .uses u l (rw (same u l) a);
 }
+
+pub same-ranked : (n : ℕ) (t : Terms) (R S : ℕ → ℕ → ℕ) → ((k u : ℕ) → u < n → R k u ≡ S k u) → Ranked n t R → Ranked n t S
+same-ranked n t R S same r = ranked-each (λ k. same-ranked-at (R k) (S k) (same k) (ranked-at r k))
+
+-- a move changes the ranks of one processor k and no other's
+module _ {n : ℕ} {R S : ℕ → ℕ → ℕ} {k : ℕ} (same : (l u : ℕ) → l ≢ k → u < n → R l u ≡ S l u) where
+  pub other-ranked : {t : Terms} → Ranked n t R → RankedAt n t k (S k) → Ranked n t S
+  other-ranked {t} r x =
+      ranked-each (λ l. on-eq (RankedAt n t l (S l)) l k (λ e. rw e x) (λ d. same-ranked-at (R l) (S l) (λ u a. same l u d a) (ranked-at r l)))
+
+  pub other-max : (l : ℕ) → l ≢ k → maxBelow n (R l) ≡ maxBelow n (S l)
+  other-max l d = max-same n (R l) (S l) (λ u a. same l u d a)
+
+  pub other-task : (l j : ℕ) → l ≢ k → taskRanked n (R l) j ≡ taskRanked n (S l) j
+  other-task l j d = same-task n (R l) (S l) (λ u a. same l u d a) j
+
+  pub other-turn : (l : ℕ) → l ≢ k → turnOf n R l ≡ turnOf n S l
+  other-turn l d = same-turn n R S l (λ u a. same l u d a)

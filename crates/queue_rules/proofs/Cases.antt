@@ -3,9 +3,12 @@ use Rattle.folds.proofs.Ground.{ℕ, _≤_, Bool, true, false, cond, _||_, true
 use Rattle.queue_rules.specs.Rules.{Terms, Turn, turn, Line, goOn, sendBack, leave}
 
 -- a proof for each outcome of a test
+pub by-bool : (P : Bool → Type 0) (b : Bool) → (b ≡ true → P true) → (b ≡ false → P false) → P b
+by-bool P true f g = f refl
+by-bool P false f g = g refl
+
 pub by-test : {A : Type 0} (R : A → Type 0) (b : Bool) {x y : A} → (b ≡ true → R x) → (b ≡ false → R y) → R (cond b x y)
-by-test R true f g = f refl
-by-test R false f g = g refl
+by-test R b {x} {y} f g = by-bool (λ b. R (cond b x y)) b f g
 
 -- the two ways on where a task is next
 pub by-leave : (t : Terms) (R : Line → Type 0) (b k u v : ℕ) (vs : List ℕ) (rest : List Turn) → (t .hold v ≤ b → R (goOn t b k v vs rest))

@@ -1,6 +1,7 @@
 pub mod Cases
 pub mod FirstCome
 pub mod Sound
+pub mod Kept
 pub mod Heads
 pub mod Own
 pub mod Waiting

@@ -12,13 +12,13 @@ module _ (t : Terms) (known : ℕ → Bool) (procs : ℕ) where
   turn-join : (k v : ℕ) (q : List Turn) → hasTurn k q ≡ false → (t .processor v ≡ k → ⊥) → hasTurn k (join t v q) ≡ false
   turn-join k v [] a n = rw (ne-eqb (t .processor v) k n)
   turn-join k v (turn j u us ∷ q) a n =
-      let x = or-no (eqb j k) (hasTurn k q) a in
-      by-test (λ z. hasTurn k z ≡ false) (eqb j (t .processor v)) (λ e. a) (λ e. rw (x .0) (turn-join k v q (x .1) n))
+      let (x, y) = or-no (eqb j k) (hasTurn k q) a in
+      by-test (λ z. hasTurn k z ≡ false) (eqb j (t .processor v)) (λ e. a) (λ e. rw x (turn-join k v q y n))
 
   turn-last : (k j u : ℕ) (us : List ℕ) (q : List Turn) → hasTurn k q ≡ false → (j ≡ k → ⊥) → hasTurn k (q ++ (turn j u us ∷ [])) ≡ false
   turn-last k j u us [] a n = rw (ne-eqb j k n)
   turn-last k j u us (turn l v vs ∷ q) a n =
-      let x = or-no (eqb l k) (hasTurn k q) a in rw (x .0) (turn-last k j u us q (x .1) n)
+      let (x, y) = or-no (eqb l k) (hasTurn k q) a in rw x (turn-last k j u us q y n)
 
   own-first : {k u : ℕ} {us : List ℕ} → Owns t known procs k (u ∷ us) → (t .processor u ≡ k) × (known u ≡ true)
   own-first {u = u} o = o .each u (rw (eq-eqb u u refl))
@@ -43,8 +43,8 @@ module _ (t : Terms) (known : ℕ → Bool) (procs : ℕ) where
       → Proper t known procs (q ++ (turn k u us ∷ []))
   proper-last k u us nobody a lt o = stands lt refl o nobody
   proper-last k u us (stands {k = j} {rest = q} l₁ a₁ o₁ r) a lt o =
-      let x = or-no (eqb j k) (hasTurn k q) a in
-      stands l₁ (turn-last j k u us q a₁ (λ e. eqb-false j k (x .0) (sym e))) o₁ (proper-last k u us r (x .1) lt o)
+      let (x, y) = or-no (eqb j k) (hasTurn k q) a in
+      stands l₁ (turn-last j k u us q a₁ (λ e. eqb-false j k x (sym e))) o₁ (proper-last k u us r y lt o)
 
   -- ── the moves ──
 
@@ -52,9 +52,8 @@ module _ (t : Terms) (known : ℕ → Bool) (procs : ℕ) where
     sound-begin : {q : List Turn} → Proper t known procs q → Sound t known procs (begin t q)
     sound-begin nobody = is-free
     sound-begin (stands {k = k} {u = u} lt a o r) =
-        let f = own-first o in
-        let l : t .hold u ≤ t .budget k = omega (arith, fit .within u (f .1), ap (t .budget) (f .0)) in
-        let c : Clock (t .hold u) (t .budget k) (t .hold u) (t .budget k) = omega (arith, fit .some u (f .1)) in
+        let (e, f) = own-first o in
+        let c : Clock (t .hold u) (t .budget k) (t .hold u) (t .budget k) = omega (arith, fit .some u f, fit .within u f, ap (t .budget) e) in
         is-held c (stands lt a o r)
 
     pub sound-leave : (b k u : ℕ) (us : List ℕ) (rest : List Turn) → b ≤ t .budget k → Proper t known procs (turn k u us ∷ rest)
@@ -62,7 +61,7 @@ module _ (t : Terms) (known : ℕ → Bool) (procs : ℕ) where
     sound-leave b k u [] rest le (stands lt a o r) = sound-begin r
     sound-leave b k u (v ∷ vs) rest le (stands lt a o r) =
         by-leave t (Sound t known procs) b k u v vs rest
-        (λ e. is-held (omega (arith, fit .some v (own-first (own-rest o) .1))) (stands lt a (own-rest o) r))
+        (λ e. let (_, f) = own-first (own-rest o) in is-held (omega (arith, fit .some v f)) (stands lt a (own-rest o) r))
         (sound-begin (proper-last k v vs r a lt (own-rest o)))
 
     pub sound-entered : (i : ℕ) {l : Line} → known i ≡ true → Sound t known procs l → Sound t known procs (entered t i l)

@@ -1,12 +1,13 @@
 -- Nobody stands in line twice, so the tasks ahead of one are at most all those that may be: a sum over them is at most the sum over
 -- all.
-use Rattle.folds.proofs.Ground.{ℕ, zero, suc, _+_, _*_, _-_, _≤_, _<_, Bool, true, false, cond, _||_, or-true, true≢false, _≡_, refl, sym, ap, _∙_, List, [], _∷_, _++_, eqb, length, mul-le-mul, arith, eq-eqb, eqb-true, eqb-false, ne-eqb}
+use Rattle.folds.proofs.Ground.{ℕ, _+_, _*_, _-_, _≤_, _<_, Bool, true, false, cond, _||_, or-true, true≢false, _≡_, refl, sym, ap, _∙_, List, [], _∷_, _++_, eqb, length, mul-le-mul, arith, eq-eqb, eqb-true, eqb-false, ne-eqb}
 use Rattle.folds.specs.Below.{sumBelow, listBelow}
 use Rattle.folds.proofs.Tests.{or-out, is-not-true}
 use Rattle.folds.proofs.Arrays.{by-eq}
-use Rattle.queue_rules.specs.Rules.{Terms, Turn, turn, Line, line, among, standsIn, tasksOf, queueOf, aheadOf, sumOf, begin, join, entered, leave, released, ticked, limit}
+use Rattle.queue_rules.specs.Rules.{Terms, Turn, turn, Line, line, among, standsIn, tasksOf, queueOf, aheadOf, sumOf, join, entered, leave, released, ticked, limit}
 use Rattle.queue_rules.proofs.Cases.{by-test, by-leave, or-no}
-use Rattle.queue_rules.proofs.Sound.{among-last, but, but-lt, Owns, Proper, nobody, stands}
+use Rattle.queue_rules.proofs.Sound.{among-last, but, but-lt, Proper, nobody, stands}
+use Rattle.queue_rules.proofs.FirstCome.{entered-queue, begun-queue}
 use Rattle.queue_rules.proofs.Lists.{list-sum, sum-ones}
 
 -- no task is in the list twice
@@ -24,36 +25,29 @@ pub data EachOnce : List Turn → Type 0 where
 once-last : (v : ℕ) {us : List ℕ} → among v us ≡ false → Once us → Once (us ++ (v ∷ []))
 once-last v a none = more refl none
 once-last v a (more {u = u} {us = us} b o) =
-    let n = or-no (eqb u v) (among v us) a in
-    more (among-last u v us ∙ rw (b, ne-eqb v u (λ e. eqb-false u v (n .0) (sym e)))) (once-last v (n .1) o)
+    let (n, m) = or-no (eqb u v) (among v us) a in
+    more (among-last u v us ∙ rw (b, ne-eqb v u (λ e. eqb-false u v n (sym e)))) (once-last v m o)
 
 each-last : (k u : ℕ) (us : List ℕ) {q : List Turn} → Once (u ∷ us) → EachOnce q → EachOnce (q ++ (turn k u us ∷ []))
 each-last k u us o empty = next o empty
 each-last k u us o (next p r) = next p (each-last k u us o r)
 
-once-rest : {u : ℕ} {us : List ℕ} → Once (u ∷ us) → Once us
-once-rest (more a o) = o
-
 module _ (t : Terms) where
   each-join : (v : ℕ) {q : List Turn} → standsIn v q ≡ false → EachOnce q → EachOnce (join t v q)
   each-join v a empty = next (more refl none) empty
   each-join v a (next {k = k} {u = u} {us = us} {rest = rest} o r) =
-      let n = or-no (among v (u ∷ us)) (standsIn v rest) a in
-      by-test EachOnce (eqb k (t .processor v)) (λ e. next (once-last v (n .0) o) r) (λ e. next o (each-join v (n .1) r))
-
-  each-begin : {q : List Turn} → EachOnce q → EachOnce (queueOf (begin t q))
-  each-begin empty = empty
-  each-begin (next o r) = next o r
+      let (n, m) = or-no (among v (u ∷ us)) (standsIn v rest) a in
+      by-test EachOnce (eqb k (t .processor v)) (λ e. next (once-last v n o) r) (λ e. next o (each-join v m r))
 
   each-leave : (b : ℕ) {q : List Turn} → EachOnce q → EachOnce (queueOf (leave t b q))
   each-leave b empty = empty
-  each-leave b (next {us = []} o r) = each-begin r
-  each-leave b (next {k = k} {u = u} {us = v ∷ vs} {rest = rest} o r) =
-      by-leave t (λ l. EachOnce (queueOf l)) b k u v vs rest (λ _. next (once-rest o) r) (each-begin (each-last k v vs (once-rest o) r))
+  each-leave b (next {us = []} {rest = rest} o r) = rw (begun-queue t rest) r
+  each-leave b (next {k = k} {u = u} {us = v ∷ vs} {rest = rest} (more _ o) r) =
+      by-leave t (λ l. EachOnce (queueOf l)) b k u v vs rest (λ _. next o r)
+      (rw (begun-queue t (rest ++ (turn k v vs ∷ []))) (each-last k v vs o r))
 
   pub each-entered : (i : ℕ) (l : Line) → standsIn i (queueOf l) ≡ false → EachOnce (queueOf l) → EachOnce (queueOf (entered t i l))
-  each-entered i (line h b []) a o = each-begin (each-join i {q = []} a o)
-  each-entered i (line h b (x ∷ rest)) a o = each-join i a o
+  each-entered i l a o = rw (entered-queue t i l) (each-join i a o)
 
   pub each-released : (l : Line) → EachOnce (queueOf l) → EachOnce (queueOf (released t l))
   each-released (line h b queue) o = each-leave b o
@@ -76,20 +70,20 @@ ahead-among i j (u ∷ us) =
     (λ _ a. absurd (true≢false (sym a)))
     (λ n a. or-out (eqb u j) (among j (aheadOf i us)) _ a
     (λ m. (rw m, λ e. n (eqb-true u j m ∙ e)))
-    (λ m. let x = ahead-among i j us m in (rw (x .0) (or-true (eqb u j)), x .1)))
+    (λ m. let (x, d) = ahead-among i j us m in (rw x (or-true (eqb u j)), d)))
 
 pub ahead-once : (i : ℕ) {us : List ℕ} → Once us → Once (aheadOf i us)
 ahead-once i none = none
 ahead-once i (more {u = u} {us = us} a o) =
     by-test Once (eqb u i) (λ _. none)
-    (λ _. more (is-not-true _ (λ m. true≢false (sym (ahead-among i u us m .0) ∙ a))) (ahead-once i o))
+    (λ _. more (is-not-true _ (λ m. let (x, _) = ahead-among i u us m in true≢false (sym x ∙ a))) (ahead-once i o))
 
 -- who is not in line is not among them
 pub tasks-none : (i k : ℕ) (q : List Turn) → standsIn i q ≡ false → among i (tasksOf k q) ≡ false
 tasks-none i k [] a = refl
 tasks-none i k (turn j u us ∷ rest) a =
-    let n = or-no (among i (u ∷ us)) (standsIn i rest) a in
-    by-test (λ us. among i us ≡ false) (eqb j k) (λ _. n .0) (λ _. tasks-none i k rest (n .1))
+    let (n, m) = or-no (among i (u ∷ us)) (standsIn i rest) a in
+    by-test (λ us. among i us ≡ false) (eqb j k) (λ _. n) (λ _. tasks-none i k rest m)
 
 -- each of them may come to the line, and is of that processor
 pub tasks-own : (t : Terms) (known : ℕ → Bool) (procs i k : ℕ) {q : List Turn} → Proper t known procs q → among i (tasksOf k q) ≡ true
@@ -97,7 +91,7 @@ pub tasks-own : (t : Terms) (known : ℕ → Bool) (procs i k : ℕ) {q : List T
 tasks-own t known procs i k nobody = λ a. absurd (true≢false (sym a))
 tasks-own t known procs i k (stands {k = j} {u = u} {us = us} {rest = rest} lt n o r) =
     by-eq (λ (d : Bool). among i (cond d (u ∷ us) (tasksOf k rest)) ≡ true → (t .processor i ≡ k) × (known i ≡ true)) j k
-    (λ e a. let x = o .each i a in (x .0 ∙ e, x .1))
+    (λ e a. let (x, k) = o .each i a in (x ∙ e, k))
     (λ d a. tasks-own t known procs i k r a)
 
 -- ── sums over them ──
@@ -105,8 +99,7 @@ tasks-own t known procs i k (stands {k = j} {u = u} {us = us} {rest = rest} lt n
 sum-but : (g : ℕ → ℕ) (v : ℕ) (us : List ℕ) → among v us ≡ false → sumOf g us ≡ sumOf (but g v) us
 sum-but g v [] a = refl
 sum-but g v (u ∷ us) a =
-    let n = or-no (eqb u v) (among v us) a in
-    rw (n .0) (ap (λ (x : ℕ). g u + x) (sum-but g v us (n .1)))
+    let (n, m) = or-no (eqb u v) (among v us) a in rw n (ap (λ (x : ℕ). g u + x) (sum-but g v us m))
 
 sum-once : (g : ℕ → ℕ) (n : ℕ) {us : List ℕ} → Once us → ((j : ℕ) → among j us ≡ true → j < n) → sumOf g us ≤ sumBelow n g
 sum-once g n none h = omega arith
@@ -126,7 +119,9 @@ sum-where g f (u ∷ us) h =
 module _ (n : ℕ) (f : ℕ → Bool) {us : List ℕ} (o : Once us) (h : (j : ℕ) → among j us ≡ true → (j < n) × (f j ≡ true)) where
   pub once-sum : (g : ℕ → ℕ) → sumOf g us ≤ sumOf g (listBelow n f)
   once-sum g =
-      omega (arith, sum-where g f us (λ j m. h j m .1), sum-once (λ j. cond (f j) (g j) 0) n o (λ j m. h j m .0), list-sum g n f)
+      let low : (j : ℕ) → among j us ≡ true → j < n = λ j m. let (l, _) = h j m in l in
+      let all : (j : ℕ) → among j us ≡ true → f j ≡ true = λ j m. let (_, t) = h j m in t in
+      omega (arith, sum-where g f us all, sum-once (λ j. cond (f j) (g j) 0) n o low, list-sum g n f)
 
   pub once-length : length us ≤ length (listBelow n f)
   once-length = omega (arith, once-sum (λ u. 1), sum-ones us, sum-ones (listBelow n f))
@@ -134,5 +129,6 @@ module _ (n : ℕ) (f : ℕ → Bool) {us : List ℕ} (o : Once us) (h : (j : �
 -- more tasks ahead, a greater limit
 pub limit-more : (t : Terms) (i : ℕ) (a b : List ℕ) → sumOf (t .hold) a ≤ sumOf (t .hold) b → length a ≤ length b → limit t i a ≤ limit t i b
 limit-more t i a b s l =
-    let m : (length a + 1) * t .wait (t .processor i) ≤ (length b + 1) * t .wait (t .processor i) = mul-le-mul {n₁ = length a + 1} {n₂ = length b + 1} (omega arith) (omega arith) in
+    let w : ℕ = t .wait (t .processor i) in
+    let m : (length a + 1) * w ≤ (length b + 1) * w = mul-le-mul {n₁ = length a + 1} {n₂ = length b + 1} (omega arith) (omega arith) in
     omega (arith, m)

@@ -12,4 +12,4 @@ module _ (t : Terms) (known : ℕ → Bool) (procs : ℕ) (i : ℕ) where
   own-stands (stands {k = k} {u = u} {us = us} {rest = q} lt a o r) =
       by-eq (λ (d : Bool). (among i (u ∷ us) || standsIn i q) ≡ among i (cond d (u ∷ us) (tasksOf (t .processor i) q))) k (t .processor i)
       (λ e. rw (own-stands r, no-tasks (t .processor i) q (rw (← e) a)) (or-false (among i (u ∷ us))))
-      (λ n. rw (is-not-true (among i (u ∷ us)) (λ m. n (sym (o .each i m .0)))) (own-stands r))
+      (λ n. rw (is-not-true (among i (u ∷ us)) (λ m. let (x, _) = o .each i m in n (sym x))) (own-stands r))

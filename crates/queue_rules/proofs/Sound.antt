@@ -1,9 +1,10 @@
 -- What holds of every line that the rules reach. That each of their moves keeps it is in Moves.
-use Rattle.folds.proofs.Ground.{ℕ, zero, suc, _+_, _≤_, _<_, Bool, true, false, cond, _||_, or-false, or-assoc, _≡_, refl, sym, ap, List, [], _∷_, _++_, eqb, arith}
+use Rattle.folds.proofs.Ground.{ℕ, _+_, _≤_, _<_, Bool, true, false, cond, _||_, not, or-false, or-assoc, _≡_, refl, sym, ap, List, [], _∷_, _++_, eqb, arith, eq-eqb, ne-eqb}
 use Rattle.folds.specs.Below.{sumBelow}
-use Rattle.folds.proofs.Arrays.{by-eq}
+use Rattle.folds.proofs.Figures.{sum-same}
+use Rattle.folds.proofs.Ranges.{sum-insert}
 use Rattle.queue_rules.specs.Rules.{Terms, Turn, turn, Line, line, free, queueOf, among, hasTurn}
-use Rattle.queue_rules.proofs.Cases.{or-no}
+use Rattle.queue_rules.proofs.Cases.{by-bool, or-no}
 
 -- What is asked of the terms, for those tasks that may come and with so many processors: a task may hold for a tick or more, and for
 -- no more than its processor's budget; a processor waits for the budgets of all others
@@ -27,27 +28,20 @@ load f (turn k u us ∷ rest) = f k + load f rest
 abbrev pub but : (ℕ → ℕ) → ℕ → ℕ → ℕ
 but f k l = cond (eqb l k) 0 (f l)
 
-but-le : (f : ℕ → ℕ) (k n : ℕ) → sumBelow n (but f k) ≤ sumBelow n f
-unfolding sumBelow
-but-le f k zero = omega arith
-but-le f k (suc n) =
-    let h = but-le f k n in
-    by-eq (λ (d : Bool). sumBelow n (but f k) + cond d 0 (f n) ≤ sumBelow n f + f n) n k (λ e. omega arith) (λ e. omega arith)
-
 pub but-lt : (f : ℕ → ℕ) (k n : ℕ) → k < n → f k + sumBelow n (but f k) ≤ sumBelow n f
-unfolding sumBelow
-but-lt f k zero lt = omega arith
-but-lt f k (suc n) lt =
-    by-eq (λ (d : Bool). f k + (sumBelow n (but f k) + cond d 0 (f n)) ≤ sumBelow n f + f n) n k
-    (λ e. let g : f n ≡ f k = ap f e in omega (arith, but-le f k n))
-    (λ e. let h = but-lt f k n (omega arith) in omega arith)
+but-lt f k n lt =
+    omega (
+      arith,
+      sum-insert n k (λ _. true) (λ l. not (eqb l k)) f lt refl (rw (eq-eqb k k refl)) (λ j _ d. rw (ne-eqb j k d)),
+      sum-same n (but f k) (λ l. cond (not (eqb l k)) (f l) 0)
+          (λ l _. by-bool (λ b. cond b 0 (f l) ≡ cond (not b) (f l) 0) (eqb l k) (λ _. refl) (λ _. refl)),
+    )
 
 -- a processor that has no turn adds nothing
 pub load-but : (f : ℕ → ℕ) (k : ℕ) (q : List Turn) → hasTurn k q ≡ false → load f q ≡ load (but f k) q
 load-but f k [] a = refl
 load-but f k (turn j u us ∷ rest) a =
-    let n = or-no (eqb j k) (hasTurn k rest) a in
-    rw (n .0) (ap (λ (x : ℕ). f j + x) (load-but f k rest (n .1)))
+    let (n, m) = or-no (eqb j k) (hasTurn k rest) a in rw n (ap (λ (x : ℕ). f j + x) (load-but f k rest m))
 
 -- the hold left and the budget left, of a hold time and a budget
 pub record Clock (h b hold budget : ℕ) : Type 0 where

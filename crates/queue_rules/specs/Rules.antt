@@ -29,6 +29,7 @@ free = line 0 0 []
 
 -- ── what a line shows ──
 
+-- its queue of processors
 abbrev pub queueOf : Line → List Turn
 queueOf (line h b queue) = queue
 
