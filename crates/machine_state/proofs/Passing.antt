@@ -1,13 +1,14 @@
 -- The queue of a resource by what is left of its processors' first seats, what a test that has passed tells of its head, and the
 -- row of a free resource.
 use Rattle.folds.proofs.Ground.{ℕ, zero, suc, _<_, _≤_, Bool, true, false, cond, _&&_, _||_, not, and-true, and-false, and-assoc, or-true, or-false, _≡_, refl, sym, ap, _∙_, List, eqb, leb, ltb, length, getD, set, replicate, length-replicate, getD-set-same, getD-set-other, arith, ltb-true, leb-true, lt-ltb, le-ltb}
+use Rattle.sizes.specs.Sizes.{mostTasks}
 use Rattle.folds.specs.Below.{allBelow, anyBelow}
 use Rattle.folds.specs.Bytes.{number, placedBelow}
-use Rattle.folds.proofs.Tests.{and-parts, all-at, all-same}
+use Rattle.folds.proofs.Tests.{and-parts, all-at, all-same, all-fails}
 use Rattle.folds.proofs.Arrays.{by-eq, placed-length, placed-at, stampedBelow, stamped-length}
 use Rattle.machine_state.specs.declared.LineRow.{LineRow}
 use Rattle.machine_state.specs.Shows.{slot}
-use Rattle.machine_state.specs.Inner.{seat, SeatSized, Headed, firstSeat, stands, tailTest, slotTest, coreTest, queueTest, clockTest, freeTest, lineTest}
+use Rattle.machine_state.specs.Inner.{seat, LineTables, Headed, firstSeat, stands, tailTest, slotTest, coreTest, queueTest, clockTest, freeTest, lineTest}
 use Rattle.machine_state.proofs.Numbers.{all-zero}
 
 -- what stands at x of a list in which the numbers f k with k below n are struck off
@@ -58,6 +59,16 @@ module _ (seats : List ℕ) (q : ℕ) (queue : List ℕ) where
       struck true x = sym (or-true (eqb x 0))
       struck false x = sym (or-false (eqb x 0))
 
+  -- a slot that fails, and the end of the loop over the slots
+  pub slot-fails : (c i : ℕ) → i < c → slotTest seats q queue i ≡ false → false ≡ queueTest seats q queue c
+  unfolding queueTest
+  slot-fails c i l e = rw (all-fails c i (slotTest seats q queue) l e)
+
+  pub slots-done : (c i : ℕ) {rest : List ℕ} {tail : Bool} {n : ℕ} → i ≡ c → rest ≡ restBelow i → allBelow i (slotTest seats q queue) ≡ true
+      → tail ≡ tailTest queue c → n ≡ number 8 rest 0 → (tail && eqb n 0) ≡ queueTest seats q queue c
+  unfolding queueTest
+  slots-done c i e r slots t b = rw (rw e at slots, t, b, r, e, cores-are c)
+
 -- the head of a queue that passes, and its first task
 pub head-passed : (seats : List ℕ) (q : ℕ) (l : LineRow) → queueTest seats q (l .queue) (l .queued) ≡ true → 1 ≤ l .queued → Headed seats q l
 unfolding queueTest slotTest
@@ -68,9 +79,9 @@ head-passed seats q l e some =
     let b = and-parts (ltb (slot l 0) 8) _ first in
     record { placed = ltb-true (slot l 0) 8 (b .0); some = leb-true 1 _ (b .1) }
 
-pub head-low : {figures seats : List ℕ} {q : ℕ} {l : LineRow} → SeatSized figures seats → q < 16 → Headed seats q l
-    → firstSeat seats q (slot l 0) < 65
-head-low {figures} {seats} {q} {l} t b h = t .seats-low (seat q (slot l 0) 0) (omega (arith, h .placed))
+pub head-low : {figures seats : List ℕ} {q : ℕ} {l : LineRow} → LineTables figures seats q → Headed seats q l
+    → firstSeat seats q (slot l 0) ≤ mostTasks
+head-low {figures} {seats} {q} {l} t h = t .sized .seats-low (seat q (slot l 0) 0) (omega arith)
 
 -- the row of a free resource
 pub free-line : (figures seats : List ℕ) (q : ℕ) (l : LineRow) → l .queued ≡ 0 → freeTest seats q l ≡ lineTest figures seats q l

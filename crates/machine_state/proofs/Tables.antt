@@ -51,9 +51,9 @@ module _ (s : Standing) where
       (ltb-true (s .resource) 16 (a .0), ltb-true (s .place) 64 (a .1))
 
   -- its seat by that test
-  pub key-at : (m : ℕ) → inLine ≡ true → keyOf s m ≡ seat (s .resource) m (s .place)
+  pub key-at : (m : ℕ) {k : ℕ} → k ≡ m → inLine ≡ true → seat (s .resource) k (s .place) ≡ keyOf s m
   unfolding keyOf
-  key-at m t = rw t
+  key-at m e t = rw (e, t)
 
   pub key-off : (m : ℕ) → inLine ≡ false → keyOf s m ≡ noSeat
   unfolding keyOf

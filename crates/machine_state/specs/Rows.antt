@@ -5,6 +5,7 @@ use mathlib.Core.Bool.{cond}
 use mathlib.Core.List.{List, [], _∷_}
 use lib.Dec.{ltb}
 use lib.ListN.{length}
+use Rattle.sizes.specs.Sizes.{mostProcessors, mostTasks, mostResources, absent}
 use Rattle.folds.specs.Below.{findBelow}
 use Rattle.plan_reading.specs.Plan.{Plan}
 use Rattle.queue_rules.specs.Rules as Rules
@@ -16,16 +17,16 @@ use Rattle.machine_state.specs.declared.LineRow.{LineRow}
 use Rattle.machine_state.specs.declared.State.{State}
 use Rattle.machine_state.specs.Shows.{noneInLine}
 
--- "Each global resource has a queue of processors": the j-th of them, 255 where there is none
+-- "Each global resource has a queue of processors": the j-th of them, absent where there is none
 abbrev pub slotOf : List Turn → ℕ → ℕ
-slotOf [] j = 255
+slotOf [] j = absent
 slotOf (turn k u us ∷ rest) zero = k
 slotOf (turn k u us ∷ rest) (suc j) = slotOf rest j
 
 -- the row of a resource with this line: how many processors are queued, which, and the "hold left" and "budget left"
 abbrev pub lineOf : Rules.Line → LineRow
 lineOf (Rules.line h b queue) =
-    record { queued = length queue; queue = listFrom 8 0 (slotOf queue); «hold_left» = h; «budget_left» = b }
+    record { queued = length queue; queue = listFrom mostProcessors 0 (slotOf queue); «hold_left» = h; «budget_left» = b }
 
 module _ (p : Plan) (s : View) where
   -- "A task holds or waits for (is in line for) at most one resource": the one that task i is in line for, R where there is none
@@ -44,4 +45,4 @@ module _ (p : Plan) (s : View) where
 
   -- the whole state
   abbrev pub stateOf : State
-  stateOf = record { lines = listFrom 16 0 (λ q. lineOf (s .lines q)); tasks = listFrom 64 0 standingOf }
+  stateOf = record { lines = listFrom mostResources 0 (λ q. lineOf (s .lines q)); tasks = listFrom mostTasks 0 standingOf }
