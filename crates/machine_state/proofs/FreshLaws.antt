@@ -32,7 +32,7 @@ fresh-sound p v =
     none q k b =
         any-none (p .tasks) (λ u. leb 1 (rank p (freshState .tasks) q k u))
         (λ u l. is-not-true _ (λ e.
-        let r = rank-of p (freshState .tasks) q k u (leb-true 1 (rank p (freshState .tasks) q k u) e) .1 in
+        let r = rank-of p (freshState .tasks) q k u (leb-true 1 (rank p (freshState .tasks) q k u) e) .resource in
         let n = ap (λ (x : Standing). x .resource) (row-fresh u (omega (arith, v .tasks))) in
         omega arith))
 

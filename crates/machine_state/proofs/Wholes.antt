@@ -17,7 +17,7 @@ use Rattle.machine_state.specs.declared.LineRow.{LineRow}
 use Rattle.machine_state.specs.declared.State.{State}
 use Rattle.machine_state.specs.Shows.{standing, noneInLine, lineAt, slot, rank}
 use Rattle.machine_state.specs.Sound.{idle, beside, alone, backed, taskFits, serves, slotFits, coreFits, holderOf, clockFits, lineFits, sound}
-use Rattle.machine_state.proofs.Tables.{rank-in, rank-out}
+use Rattle.machine_state.proofs.Tables.{Stands, rank-in, rank-out}
 use Rattle.machine_state.proofs.Good.{Good, Whole}
 
 -- ── tests over ranks ──
@@ -62,34 +62,34 @@ row-none r h =
     row-same r noneInLine (eqb-true _ _ (a .0)) (eqb-true _ _ (a .1))
 
 module _ (p : Plan) (ts : List Standing) where
-  -- who has a rank in k's queue is k's, and the rank is 1 more than its place
-  pub rank-of : (q k u : ℕ) → 1 ≤ rank p ts q k u
-      → (processorOf p u ≡ k) × (standing ts u .resource ≡ q) × (standing ts u .place + 1 ≡ rank p ts q k u)
-  rank-of q k u a =
-      let h = rank-out p ts q k (rank p ts q k u - 1) u (omega arith) in
-      (h .0, h .1, omega (arith, h .2))
+  -- who has a rank in k's queue is k's, and its place is 1 less than the rank
+  pub rank-of : (q k u : ℕ) → 1 ≤ rank p ts q k u → Stands (standing ts u) (processorOf p u) q k (rank p ts q k u - 1)
+  rank-of q k u a = rank-out p ts q k (rank p ts q k u - 1) u (omega arith)
 
   pub rank-none : (q k u : ℕ) → k ≢ processorOf p u → rank p ts q k u ≡ 0
   rank-none q k u ne =
-      on-eq (rank p ts q k u ≡ 0) (rank p ts q k u) 0 (λ e. e) (λ e. absurd (ne (sym (rank-of q k u (omega arith) .0))))
+      on-eq (rank p ts q k u ≡ 0) (rank p ts q k u) 0 (λ e. e) (λ e. absurd (ne (sym (rank-of q k u (omega arith) .core))))
 
   -- a task's own rank
   pub rank-own : (u : ℕ) → rank p ts (standing ts u .resource) (processorOf p u) u ≡ standing ts u .place + 1
-  rank-own u = rank-in p ts (standing ts u .resource) (processorOf p u) (standing ts u .place) u (refl, refl, refl)
+  rank-own u =
+      rank-in p ts (standing ts u .resource) (processorOf p u) (standing ts u .place) u
+      (record { core = refl; resource = refl; place = refl })
 
 -- ── hold times ──
 module _ (p : Plan) (v : Valid p) where
-  user-hold : (u q : ℕ) → global p q ≡ true → uses p u q ≡ true → 1 ≤ holdAt p u q
+  -- who uses a global resource has a hold time for it
+  pub hold-test : (u q : ℕ) → leb 1 (holdAt p u q) ≡ (global p q && uses p u q)
   unfolding holdAt
-  user-hold u q g h = rw (g, h) (hold-low p v u q h)
+  hold-test u q = go (global p q) (uses p u q) refl
+    where
+      go : (a b : Bool) → uses p u q ≡ b → leb 1 (cond (a && b) (holdTime p u q) 0) ≡ (a && b)
+      go true true e = le-leb 1 _ (hold-low p v u q e)
+      go true false e = refl
+      go false b e = refl
 
   pub hold-user : (u q : ℕ) → 1 ≤ holdAt p u q → (global p q && uses p u q) ≡ true
-  unfolding holdAt
-  hold-user u q = go (global p q && uses p u q)
-    where
-      go : (b : Bool) → 1 ≤ cond b (holdTime p u q) 0 → b ≡ true
-      go true h = refl
-      go false h = let bad : ⊥ = omega arith in absurd bad
+  hold-user u q h = sym (hold-test u q) ∙ le-leb 1 _ h
 
   -- who has a hold time is a task, and its resource is one
   pub holder-low : (u q : ℕ) → 1 ≤ holdAt p u q → (u < p .tasks) × (q < 16)
@@ -109,23 +109,22 @@ module _ (p : Plan) (v : Valid p) where
     pub server-low : (q k : ℕ) → 1 ≤ maxBelow (p .tasks) (rank p ts q k) → k < p .processors
     server-low q k a =
         any-out (p .tasks) (λ u. leb 1 (rank p ts q k u)) (k < p .processors) (max-serves (p .tasks) (rank p ts q k) a)
-        (λ u l e. omega (arith, rank-of p ts q k u (leb-true 1 _ e) .0, v .task-fits u l .processor))
+        (λ u l e. omega (arith, rank-of p ts q k u (leb-true 1 _ e) .core, v .task-fits u l .processor))
 
     -- ── from the test ──
     -- a row in line
-    record InLine (u : ℕ) : Type 0 where
-      hold : 1 ≤ holdAt p u (standing ts u .resource)
-      single : alone p ts u ≡ true
-      behind : backed p ts u ≡ true
+    pub record InLine (u : ℕ) : Type 0 where
+      pub hold : 1 ≤ holdAt p u (standing ts u .resource)
+      pub single : alone p ts u ≡ true
+      pub behind : backed p ts u ≡ true
 
-    row-of : (u : ℕ) → taskFits p ts u ≡ true → (standing ts u ≡ noneInLine) ⊎ InLine u
+    pub row-of : (u : ℕ) → taskFits p ts u ≡ true → (standing ts u ≡ noneInLine) ⊎ InLine u
     unfolding taskFits
     row-of u h =
         or-out (idle p ts u) (global p q && uses p u q && (alone p ts u && backed p ts u)) _ h (λ e. inl (row-none (standing ts u) e))
         (λ e. let a = and-parts (global p q && uses p u q) (alone p ts u && backed p ts u) e in
-        let b = and-parts (global p q) (uses p u q) (a .0) in
-        let c = and-parts (alone p ts u) (backed p ts u) (a .1) in
-        inr (record { hold = user-hold u q (b .0) (b .1); single = c .0; behind = c .1 }))
+        let b = and-parts (alone p ts u) (backed p ts u) (a .1) in
+        inr (record { hold = leb-true 1 _ (hold-test u q ∙ a .0); single = b .0; behind = b .1 }))
       where
         q : ℕ
         q = standing ts u .resource
@@ -137,22 +136,21 @@ module _ (p : Plan) (v : Valid p) where
           ⊎-elim (λ f. let n = ap (λ (r : Standing). r .resource) f in let bad : ⊥ = omega arith in absurd bad) (λ w. w)
           (row-of u (rows u (omega (arith, v .tasks))))
 
-      ranked : (q : ℕ) → q < 16 → Ranked (p .tasks) (terms p q) (rank p ts q)
+      pub ranked : (q : ℕ) → q < 16 → Ranked (p .tasks) (terms p q) (rank p ts q)
       ranked q b = record {
         own = λ k u l ne. rank-none p ts q k u ne;
-        alone = λ u l a. let e = rank-of p ts q (processorOf p u) u a .1 in
+        alone = λ u l a. let e = rank-of p ts q (processorOf p u) u a .resource in
             rw (← e) (alone-at (p .tasks) u (beside p ts u) l (in-line u q l b e .single));
         backed = before;
-        uses = λ u l a. let e = rank-of p ts q (processorOf p u) u a .1 in rw (← e) (in-line u q l b e .hold);
+        uses = λ u l a. let e = rank-of p ts q (processorOf p u) u a .resource in rw (← e) (in-line u q l b e .hold);
       }
         where
           before : (u : ℕ) → u < p .tasks → 2 ≤ rank p ts q (processorOf p u) u
               → taskRanked (p .tasks) (rank p ts q (processorOf p u)) (rank p ts q (processorOf p u) u - 1) < p .tasks
           before u l a =
               let h = rank-of p ts q (processorOf p u) u (omega arith) in
-              let j : rank p ts q (processorOf p u) u - 1 ≡ standing ts u .place = omega (arith, h .2) in
-              rw (j, ← h .1)
-              (or-out (eqb (standing ts u .place) 0) _ _ (in-line u q l b (h .1) .behind)
+              rw (← h .place, ← h .resource)
+              (or-out (eqb (standing ts u .place) 0) _ _ (in-line u q l b (h .resource) .behind)
               (λ e. let z = eqb-true (standing ts u .place) 0 e in let bad : ⊥ = omega arith in absurd bad)
               (λ e. any-out (p .tasks) (λ w. eqb (beside p ts u w) (standing ts u .place)) _ e
               (λ w m i. omega (arith, task-first (p .tasks) (standing ts u .place) w (beside p ts u) m (eqb-true _ _ i)))))

@@ -39,8 +39,7 @@ loop-holds c = (omega arith, refl)
 seat-of-requires : tie.Need-seat-of-requires Inv-loop μ-loop
 seat-of-requires c κs =
     let read = c .before .before .before .before in
-    let row = row-low (own read) (c .if1 .taken) in
-    record { core = rw (read .task .ensures) (low-processor _ (valid (turn read)) _ (omega arith)); resource = row .0; place = row .1 }
+    row-low (own read) _ (rw (read .task .ensures) (low-processor _ (valid (turn read)) _ (omega arith))) (c .if1 .taken)
 
 loop-again : tie.Need-loop-again Inv-loop μ-loop
 loop-again c =
@@ -63,6 +62,6 @@ key-table-spec =
     (tie.spec
     Inv-loop μ-loop (λ c κs. search needs) (λ c κs. search needs) loop-holds (λ c κs. search needs) (λ c. omega arith)
     (λ c. omega (arith, valid (turn c) .tasks)) seat-of-requires (λ c. omega arith)
-    (λ c. let read = c .before .before .before .before .before in omega (arith, valid (turn read) .tasks))
+    (λ c. let test = c .before in omega (arith, valid (turn (test .before .before .before .before)) .tasks))
     (λ c. omega arith) (λ c. omega arith) loop-again
     (λ c. keys-done _ (valid (c .before)) _ (c .before .loop .u) (omega arith) (c .before .loop .inv .1)))
