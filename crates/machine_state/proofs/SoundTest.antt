@@ -22,7 +22,7 @@ use Rattle.machine_state.specs.Sound.{idle, beside, alone, backed, taskF
 use Rattle.machine_state.specs.Inner.{seat, resourceSeats, noSeat, keyOf, Keys, seatedAt, Seats, InQueue, taskTest, firstSeat, tailTest, slotTest, coreTest, queueTest, clockTest, lineTest, stateTest}
 use Rattle.machine_state.proofs.Tables.{low-processor, key-own, key-on, rank-out}
 use Rattle.machine_state.proofs.Passing.{slot-high, head-passed}
-use Rattle.machine_state.proofs.Wholes.{both, row-none, rank-own, serves-max, server-low, hold-test, hold-user, holder-low, row-of, ranked}
+use Rattle.machine_state.proofs.Wholes.{both, row-none, rank-own, serves-max, server-low, alone-from, hold-test, hold-user, hold-task, hold-resource, row-of, servedAt, ranked}
 
 -- ── tests ──
 -- one that counts where another holds
@@ -91,39 +91,22 @@ module _ (p : Plan) (v : Valid p) (ts : List Standing) (figures keys seats : Lis
   row-is : (u : ℕ) → u < p .tasks → InQueue (standing ts u) (processorOf p u)
       → passes u ≡ (global p (standing ts u .resource) && uses p u (standing ts u .resource) && eqb (seatOf p ts u) (u + 1) && backed p ts u)
   unfolding taskTest
-  row-is u l h = rw (ne-eqb key noSeat (λ e. omega (arith, key-is)), hold-is, here-is, behind-is)
-    where
-      q : ℕ
-      q = standing ts u .resource
-
-      k : ℕ
-      k = processorOf p u
-
-      j : ℕ
-      j = standing ts u .place
-
-      key : ℕ
-      key = getD keys u 0
-
-      key-is : key ≡ seat q k j
-      key-is = ks .at u l ∙ key-own (standing ts u) k h
-
-      hold-is : leb 1 (getD figures (holdCell u (key / resourceSeats)) 0) ≡ (global p q && uses p u q)
-      hold-is =
-          let e : key / resourceSeats ≡ q = omega (arith, key-is) in
-          rw (e, fs .hold u q (omega (arith, v .tasks)) (h .resource)) (hold-test p v u q)
-
-      here-is : getD seats key 0 ≡ seatedAt p ts q k j
-      here-is = ap (λ (x : ℕ). getD seats x 0) key-is ∙ ss .at q k j (h .resource) (h .core) (h .place)
-
-      behind-is : (eqb (key % mostTasks) 0 || leb 1 (getD seats (key - 1) 0)) ≡ backed p ts u
-      behind-is =
-          let e : key % mostTasks ≡ j = omega (arith, key-is) in
-          rw e
-          (by-eq (λ (d : Bool). (d || leb 1 (getD seats (key - 1) 0)) ≡ (d || anyBelow (p .tasks) (λ w. eqb (beside p ts u w) j))) j 0 (λ z. refl)
-          (λ z. let before : key - 1 ≡ seat q k (j - 1) = omega (arith, key-is) in
-          let back : j - 1 + 1 ≡ j = omega arith in
-          rw (before, ss .at q k (j - 1) (h .resource) (h .core) (omega arith)) (seat-test p ts q k (j - 1) ∙ rw back)))
+  row-is u l h =
+      let s = standing ts u in
+      let k = processorOf p u in
+      let key = getD keys u 0 in
+      let at : key ≡ seat (s .resource) k (s .place) = ks .at u l ∙ key-own s k h in
+      let resource : key / resourceSeats ≡ s .resource = omega (arith, h) in
+      let hold : getD figures (holdCell u (s .resource)) 0 ≡ holdAt p u (s .resource) = fs .hold u _ (omega (arith, v .tasks)) (h .resource) in
+      let here : getD seats key 0 ≡ seatOf p ts u = ap (λ (x : ℕ). getD seats x 0) at ∙ ss .at _ k _ (h .resource) (h .core) (h .place) in
+      let place : key % mostTasks ≡ s .place = omega (arith, h) in
+      rw (ne-eqb key noSeat (λ e. omega (arith, h)), resource, hold, hold-test p v u (s .resource), here, place)
+      (ap (λ (d : Bool). global p (s .resource) && uses p u (s .resource) && eqb (seatOf p ts u) (u + 1) && d)
+      (by-eq (λ (d : Bool). (d || leb 1 (getD seats (key - 1) 0)) ≡ (d || anyBelow (p .tasks) (λ w. eqb (beside p ts u w) (s .place)))) (s .place) 0
+      (λ z. refl)
+      (λ z. let before : key - 1 ≡ seat (s .resource) k (s .place - 1) = omega (arith, h) in
+      let back : s .place - 1 + 1 ≡ s .place = omega arith in
+      rw (before, ss .at (s .resource) k (s .place - 1) (h .resource) (h .core) (omega (arith, h))) (seat-test p ts _ k (s .place - 1) ∙ rw back))))
 
   -- a task that sits in its own seat
   record Sits (u : ℕ) : Type 0 where
@@ -134,24 +117,22 @@ module _ (p : Plan) (v : Valid p) (ts : List Standing) (figures keys seats : Lis
 
   row-out : (u : ℕ) → u < mostTasks → passes u ≡ true → (idle p ts u ≡ true) ⊎ Sits u
   row-out u l t =
+      let user : Bool = global p (standing ts u .resource) && uses p u (standing ts u .resource) in
+      let here : Bool = eqb (seatOf p ts u) (u + 1) in
       on-eq ((idle p ts u ≡ true) ⊎ Sits u) (getD keys u 0) noSeat (λ e. inl (sym (row-idle u e) ∙ t))
       (λ n. on-le ((idle p ts u ≡ true) ⊎ Sits u) (p .tasks) u (λ a. absurd (n (ks .rest u l a)))
       (λ a. let w = key-on (standing ts u) (processorOf p u) (low-processor p v u a) (λ e. n (ks .at u a ∙ e)) in
       let b = and-parts (user && here) (backed p ts u) (sym (row-is u a w) ∙ t) in
       let d = and-parts user here (b .0) in
       inr (record { queue = w; user = d .0; here = eqb-true _ _ (d .1); behind = b .1 })))
-    where
-      user : Bool
-      user = global p (standing ts u .resource) && uses p u (standing ts u .resource)
-
-      here : Bool
-      here = eqb (seatOf p ts u) (u + 1)
 
   -- where all rows pass, no two tasks have one place
   fits : ((u : ℕ) → u < mostTasks → passes u ≡ true) → (u : ℕ) → u < mostTasks → taskFits p ts u ≡ true
   unfolding taskFits
   fits rows u l =
-      ⊎-elim (λ e. rw e) (λ w. rw (w .user, both (single w) (w .behind)) (or-true (idle p ts u))) (row-out u l (rows u l))
+      ⊎-elim (λ e. rw e)
+      (λ w. rw (w .user, both (alone-from (p .tasks) u (beside p ts u) (same w)) (w .behind)) (or-true (idle p ts u)))
+      (row-out u l (rows u l))
     where
       same : Sits u → (w : ℕ) → w < p .tasks → beside p ts u w ≡ beside p ts u u → w ≡ u
       same x w b e =
@@ -159,12 +140,6 @@ module _ (p : Plan) (v : Valid p) (ts : List Standing) (figures keys seats : Lis
           let small : w < mostTasks = omega (arith, v .tasks) in
           ⊎-elim (λ i. let z = ap (λ (s : Standing). s .resource) (row-none (standing ts w) i) in let bad : ⊥ = omega (arith, x .queue) in absurd bad)
           (λ y. let z = rw (h .core, h .resource, h .place) at (y .here) in omega (arith, x .here)) (row-out w small (rows w small))
-
-      single : Sits u → alone p ts u ≡ true
-      single x =
-          all-from (p .tasks) (λ w. eqb w u || not (eqb (beside p ts u w) (beside p ts u u)))
-          (λ w b. by-eq (λ (d : Bool). (d || not (eqb (beside p ts u w) (beside p ts u u))) ≡ true) w u (λ e. refl)
-          (λ ne. rw (ne-eqb (beside p ts u w) (beside p ts u u) (λ e. ne (same x w b e)))))
 
   row-in : ((u : ℕ) → u < mostTasks → taskFits p ts u ≡ true) → (u : ℕ) → u < mostTasks → passes u ≡ true
   unfolding keyOf
@@ -178,14 +153,15 @@ module _ (p : Plan) (v : Valid p) (ts : List Standing) (figures keys seats : Lis
 
       placed : 1 ≤ holdAt p u (standing ts u .resource) → backed p ts u ≡ true → passes u ≡ true
       placed h b =
-          let low = holder-low p v u (standing ts u .resource) h in
-          let r = ranked p v ts rows (standing ts u .resource) (low .1) in
+          let a = hold-task p v u (standing ts u .resource) h in
+          let q : standing ts u .resource < mostResources = omega (arith, hold-resource p v u (standing ts u .resource) h, v .resources) in
+          let r = ranked p v ts rows (standing ts u .resource) q in
           let k = processorOf p u in
           let own = rank-own p ts u in
-          let few = max-at (p .tasks) u (beside p ts u) (low .0) in
+          let few = max-at (p .tasks) u (beside p ts u) a in
           let w : InQueue (standing ts u) k =
-          record { core = low-processor p v u (low .0); resource = low .1; place = omega (arith, v .tasks, ranks-few r k) } in
-          row-is u (low .0) w ∙ both (both (hold-user p v u _ h) (eq-eqb _ _ (seat-is p ts _ r k _ u (low .0) own))) b
+          record { core = low-processor p v u a; resource = q; place = omega (arith, v .tasks, ranks-few r k) } in
+          row-is u a w ∙ both (both (hold-user p v u _ h) (eq-eqb _ _ (seat-is p ts _ r k _ u a own))) b
 
   rows-same : allBelow mostTasks passes ≡ allBelow mostTasks (taskFits p ts)
   rows-same =
@@ -207,14 +183,10 @@ module _ (p : Plan) (v : Valid p) (ts : List Standing) (figures keys seats : Lis
     serves-not k a =
         is-not-true (serves p ts q k) (λ t. omega (arith, server-low p v ts q k (serves-max (p .tasks) (rank p ts q k) t)))
 
-    -- a processor in slot i with a task in line, just once
-    abbrev served : ℕ → Bool
-    served i = serves p ts q (slot l i) && allBelow i (λ j. not (eqb (slot l j) (slot l i)))
-
-    slot-same : (i : ℕ) → slotTest seats q (l .queue) i ≡ served i
+    slot-same : (i : ℕ) → slotTest seats q (l .queue) i ≡ servedAt p v ts q l i
     unfolding slotTest
     slot-same i =
-        on-le (slotTest seats q (l .queue) i ≡ served i) mostProcessors (slot l i)
+        on-le (slotTest seats q (l .queue) i ≡ servedAt p v ts q l i) mostProcessors (slot l i)
         (λ a. rw (slot-high seats q (l .queue) i a, serves-not (slot l i) (omega (arith, v .processors))))
         (λ a. rw (lt-ltb (slot l i) mostProcessors a, serves-is (slot l i) a, none-any))
 
@@ -226,10 +198,10 @@ module _ (p : Plan) (v : Valid p) (ts : List Standing) (figures keys seats : Lis
         (all-same (l .queued) (slotTest seats q (l .queue)) below (λ i x. slot-same i ∙ rw (lt-ltb i (l .queued) x))
         ∙ sym (all-upto mostProcessors (l .queued) below few (λ i x a. rw (le-ltb i (l .queued) a))))
         ∙ all-both mostProcessors below (λ i. ltb i (l .queued) || eqb (slot l i) 255)
-        ∙ all-same mostProcessors _ (slotFits p ts q l) (λ i x. joined (ltb i (l .queued)) (served i) (eqb (slot l i) 255))
+        ∙ all-same mostProcessors _ (slotFits p ts q l) (λ i x. joined (ltb i (l .queued)) (servedAt p v ts q l i) (eqb (slot l i) 255))
       where
         below : ℕ → Bool
-        below i = cond (ltb i (l .queued)) (served i) true
+        below i = cond (ltb i (l .queued)) (servedAt p v ts q l i) true
 
         joined : (d a b : Bool) → (cond d a true && (d || b)) ≡ cond d a b
         joined true a b = and-true a
@@ -263,15 +235,11 @@ module _ (p : Plan) (v : Valid p) (ts : List Standing) (figures keys seats : Lis
     line-same : lineTest figures seats q l ≡ lineFits p ts q l
     unfolding lineTest lineFits queueTest
     line-same =
+        let few : Bool = leb (l .queued) mostProcessors in
+        let queue : Bool = queueTest seats q (l .queue) (l .queued) in
         and-under (few && queue) (λ t. clock-same (and-parts few queue t .1))
         ∙ ap (λ (d : Bool). d && clockFits p ts q l) (and-under few (λ t. ap₂ _&&_ (slots-same (leb-true (l .queued) mostProcessors t)) cores-same))
         ∙ simp and-assoc
-      where
-        few : Bool
-        few = leb (l .queued) mostProcessors
-
-        queue : Bool
-        queue = queueTest seats q (l .queue) (l .queued)
 
 -- the whole state
 pub sound-test : (p : Plan) → Valid p → (s : State) (figures keys seats : List ℕ) → Figures p figures

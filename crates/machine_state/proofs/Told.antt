@@ -20,7 +20,7 @@ use Rattle.machine_state.specs.Shows.{noStanding, noLine, noneInLine, st
 use Rattle.machine_state.specs.Sound.{sound}
 use Rattle.machine_state.specs.Rows.{slotOf, lineOf, resourceOf, placeOf, standingOf, stateOf}
 use Rattle.machine_state.proofs.Good.{Good, Whole}
-use Rattle.machine_state.proofs.Wholes.{row-same, rank-own, holder-low, hold-resource, whole-of}
+use Rattle.machine_state.proofs.Wholes.{row-same, rank-own, hold-task, hold-resource, whole-of}
 
 -- two rows of a resource that agree in what the struct has room for
 pub record SameRow (a b : LineRow) : Type 0 where
@@ -163,7 +163,7 @@ module _ (p : Plan) (v : Valid p) (s : State) (w : Whole p s) where
 
         told : (row ≡ noneInLine) ⊎ (1 ≤ holdAt p i (row .resource)) → row ≡ standingOf p (shows p s) i
         told (inl e) = e ∙ sym (row-out (none e))
-        told (inr h) = row-in h (holder-low p v i (row .resource) h .0)
+        told (inr h) = row-in h (hold-task p v i (row .resource) h)
 
 -- ── the whole state ──
 -- the rows of the state that some lines tell
