@@ -183,10 +183,10 @@ module _ (p : Plan) (v : Valid p) (ts : List Standing) (figures keys seats : Lis
     serves-not k a =
         is-not-true (serves p ts q k) (λ t. omega (arith, server-low p v ts q k (serves-max (p .tasks) (rank p ts q k) t)))
 
-    slot-same : (i : ℕ) → slotTest seats q (l .queue) i ≡ servedAt p v ts q l i
+    slot-same : (i : ℕ) → slotTest seats q (l .queue) i ≡ servedAt p ts q l i
     unfolding slotTest
     slot-same i =
-        on-le (slotTest seats q (l .queue) i ≡ servedAt p v ts q l i) mostProcessors (slot l i)
+        on-le (slotTest seats q (l .queue) i ≡ servedAt p ts q l i) mostProcessors (slot l i)
         (λ a. rw (slot-high seats q (l .queue) i a, serves-not (slot l i) (omega (arith, v .processors))))
         (λ a. rw (lt-ltb (slot l i) mostProcessors a, serves-is (slot l i) a, none-any))
 
@@ -198,10 +198,10 @@ module _ (p : Plan) (v : Valid p) (ts : List Standing) (figures keys seats : Lis
         (all-same (l .queued) (slotTest seats q (l .queue)) below (λ i x. slot-same i ∙ rw (lt-ltb i (l .queued) x))
         ∙ sym (all-upto mostProcessors (l .queued) below few (λ i x a. rw (le-ltb i (l .queued) a))))
         ∙ all-both mostProcessors below (λ i. ltb i (l .queued) || eqb (slot l i) 255)
-        ∙ all-same mostProcessors _ (slotFits p ts q l) (λ i x. joined (ltb i (l .queued)) (servedAt p v ts q l i) (eqb (slot l i) 255))
+        ∙ all-same mostProcessors _ (slotFits p ts q l) (λ i x. joined (ltb i (l .queued)) (servedAt p ts q l i) (eqb (slot l i) 255))
       where
         below : ℕ → Bool
-        below i = cond (ltb i (l .queued)) (servedAt p v ts q l i) true
+        below i = cond (ltb i (l .queued)) (servedAt p ts q l i) true
 
         joined : (d a b : Bool) → (cond d a true && (d || b)) ≡ cond d a b
         joined true a b = and-true a

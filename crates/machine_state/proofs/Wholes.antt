@@ -57,6 +57,10 @@ row-none r h =
     row-same r noneInLine (eqb-true _ _ (a .0)) (eqb-true _ _ (a .1))
 
 module _ (p : Plan) (ts : List Standing) where
+  -- slot i has a processor with a task in line, just once
+  abbrev pub servedAt : ℕ → LineRow → ℕ → Bool
+  servedAt q l i = serves p ts q (slot l i) && allBelow i (λ j. not (eqb (slot l j) (slot l i)))
+
   -- who has a rank in k's queue is k's, and its place is 1 less than the rank
   pub rank-of : (q k u : ℕ) → 1 ≤ rank p ts q k u → Stands (standing ts u) (processorOf p u) q k (rank p ts q k u - 1)
   rank-of q k u a = rank-out p ts q k (rank p ts q k u - 1) u (omega arith)
@@ -145,10 +149,6 @@ module _ (p : Plan) (v : Valid p) where
               (λ w m i. omega (arith, task-first (p .tasks) (standing ts u .place) w (beside p ts u) m (eqb-true _ _ i)))))
 
     -- ── a line, where the ranks are sound ──
-    -- slot i has a processor with a task in line, just once
-    abbrev pub servedAt : ℕ → LineRow → ℕ → Bool
-    servedAt q l i = serves p ts q (slot l i) && allBelow i (λ j. not (eqb (slot l j) (slot l i)))
-
     good-of : (q : ℕ) (l : LineRow) → Ranked (p .tasks) (terms p q) (rank p ts q) → lineFits p ts q l ≡ true → Good p ts q l
     unfolding lineFits slotFits coreFits clockFits
     good-of q l r h =
@@ -157,12 +157,11 @@ module _ (p : Plan) (v : Valid p) where
         let e = and-parts (allBelow (p .processors) (coreFits p ts q l)) (clockFits p ts q l) (c .1) in
         let few = leb-true (l .queued) mostProcessors (d .0) in
         let slots : (i : ℕ) → i < mostProcessors → slotFits p ts q l i ≡ true = λ i x. all-at mostProcessors i (slotFits p ts q l) (d .1) x in
-        let parts : (i : ℕ) → i < l .queued → (serves p ts q (slot l i) ≡ true) × (allBelow i (λ j. not (eqb (slot l j) (slot l i))) ≡ true) =
-        λ i x. and-parts (serves p ts q (slot l i)) _ (rw (lt-ltb i (l .queued) x) at (slots i (omega arith))) in
+        let passed : (i : ℕ) → i < l .queued → servedAt p ts q l i ≡ true = λ i x. rw (lt-ltb i (l .queued) x) at (slots i (omega arith)) in
         let served : (i : ℕ) → i < l .queued → 1 ≤ maxBelow (p .tasks) (rank p ts q (slot l i)) =
-        λ i x. serves-max (p .tasks) (rank p ts q (slot l i)) (parts i x .0) in
+        λ i x. serves-max (p .tasks) (rank p ts q (slot l i)) (and-parts (serves p ts q (slot l i)) _ (passed i x) .0) in
         let differ : (i j : ℕ) → j < l .queued → i < j → slot l i ≢ slot l j =
-        λ i j y x. eqb-false _ _ (not-true _ (all-at j i (λ i. not (eqb (slot l i) (slot l j))) (parts j y .1) x)) in
+        λ i j y x. eqb-false _ _ (not-true _ (all-at j i (λ i. not (eqb (slot l i) (slot l j))) (and-parts (serves p ts q (slot l j)) _ (passed j y) .1) x)) in
         record {
           small = few;
           ranked = r;
