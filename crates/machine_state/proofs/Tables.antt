@@ -18,28 +18,26 @@ use Rattle.machine_state.specs.Inner.{seat, noSeat, seatCount, keyOf, Ke
 module _ (p : Plan) where
   -- the seats of the tasks below n
   abbrev pub keysBelow : List Standing → ℕ → List ℕ
-  keysBelow ts n = placedBelow n (λ u. keyOf (standing ts u) (processorOf p u)) (replicate 64 noSeat)
+  keysBelow ts n = placedBelow n (λ u. keyOf (standing ts u) (processorOf p u)) (replicate mostTasks noSeat)
 
 -- who of the tasks below n sits where
 abbrev pub seatsBelow : List ℕ → ℕ → List ℕ
 seatsBelow keys n = stampedBelow n (λ u. getD keys u 0) (λ u. u + 1) (replicate seatCount 0)
 
 module _ (p : Plan) (v : Valid p) where
-  pub low-processor : (u : ℕ) → u < p .tasks → processorOf p u < 8
+  pub low-processor : (u : ℕ) → u < p .tasks → processorOf p u < mostProcessors
   low-processor u l = omega (arith, v .processors, v .task-fits u l .processor)
 
   -- the end of the loop over the tasks
   pub keys-done : (ts : List Standing) (n : ℕ) {t : List ℕ} → n ≡ p .tasks → t ≡ keysBelow p ts n → Keys p ts t
   keys-done ts n e f =
+      let none : List ℕ = replicate mostTasks noSeat in
       rw (f, e)
       (record {
-        long = placed-length (p .tasks) key (replicate 64 noSeat) ∙ length-replicate {A = ℕ} 64 noSeat;
-        at = λ u l. placed-at (p .tasks) u key (replicate 64 noSeat) 0 l (rw length-replicate (v .tasks));
-        rest = λ u l m. placed-later (p .tasks) u key (replicate 64 noSeat) 0 m ∙ getD-replicate {A = ℕ} 64 u noSeat 0 l;
+        long = placed-length (p .tasks) _ none ∙ length-replicate {A = ℕ} mostTasks noSeat;
+        at = λ u l. placed-at (p .tasks) u _ none 0 l (rw length-replicate (v .tasks));
+        rest = λ u l m. placed-later (p .tasks) u _ none 0 m ∙ getD-replicate {A = ℕ} mostTasks u noSeat 0 l;
       })
-    where
-      key : ℕ → ℕ
-      key u = keyOf (standing ts u) (processorOf p u)
 
 module _ (s : Standing) where
   -- the row names a resource and a place
@@ -106,7 +104,7 @@ module _ (p : Plan) (ts : List Standing) where
       go true false own on e = let bad : ⊥ = omega arith in absurd bad
       go false b own on e = let bad : ⊥ = omega arith in absurd bad
 
-  key-rank : (q k j u : ℕ) → processorOf p u < 8 → q < 16 → k < 8 → j < 64 → eqb (keyOf (standing ts u) (processorOf p u)) (seat q k j) ≡ eqb (rank p ts q k u) (j + 1)
+  key-rank : (q k j u : ℕ) → processorOf p u < mostProcessors → q < mostResources → k < mostProcessors → j < mostTasks → eqb (keyOf (standing ts u) (processorOf p u)) (seat q k j) ≡ eqb (rank p ts q k u) (j + 1)
   key-rank q k j u lm lq lk lj =
       same-test _ _
       (λ t. eq-eqb _ _ (rank-in q k j u (key-out (standing ts u) (processorOf p u) q k j lm lk lq lj (eqb-true _ _ t))))
@@ -127,19 +125,17 @@ stamped-last (suc n) m f x l =
     let ih : getD g x 0 ≡ s = stamped-last n m f x l in
     let len : length g ≡ m = stamped-length n f (λ k. k + 1) (replicate m 0) ∙ length-replicate m 0 in
     let low : s ≤ n = max-where-bound n n (λ k. eqb (f k) x) (λ k. k + 1) (λ k lk t. omega arith) in
+    let later : n + 1 ≡ max s (n + 1) = omega arith in
     by-eq (λ (b : Bool). getD (set g (f n) (n + 1)) x 0 ≡ max s (cond b (n + 1) 0)) (f n) x
-    (λ e. rw e (getD-set-same g x (n + 1) 0 (rw len l) ∙ later s low))
+    (λ e. rw e (getD-set-same g x (n + 1) 0 (rw len l) ∙ later))
     (λ d. getD-set-other g (f n) x (n + 1) 0 (λ e. d (sym e)) ∙ ih ∙ sym (max-zero s))
-  where
-    later : (s : ℕ) → s ≤ n → n + 1 ≡ max s (n + 1)
-    later s h = omega arith
 
 module _ (p : Plan) (v : Valid p) (ts : List Standing) (keys : List ℕ) (h : Keys p ts keys) where
   pub seat-high : (u : ℕ) → u < p .tasks → getD keys u 0 < seatCount
   seat-high u l = rw (h .at u l) (key-high (standing ts u) (processorOf p u) (low-processor p v u l))
 
   -- and that of any row, task or not
-  pub keys-low : (u : ℕ) → u < 64 → getD keys u 0 < seatCount
+  pub keys-low : (u : ℕ) → u < mostTasks → getD keys u 0 < seatCount
   keys-low u l =
       on-le (getD keys u 0 < seatCount) (p .tasks) u (λ m. omega (arith, h .rest u l m)) (λ m. seat-high u m)
 
@@ -155,18 +151,16 @@ module _ (p : Plan) (v : Valid p) (ts : List Standing) (keys : List ℕ) (h : Ke
   -- the end of the loop that seats the tasks
   pub seats-done : (n : ℕ) {t : List ℕ} → n ≡ p .tasks → t ≡ seatsBelow keys n → Seats p ts t
   seats-done n e f =
+      let key : ℕ → ℕ = λ u. getD keys u 0 in
       rw (f, e)
       (record {
         long = stamped-length (p .tasks) key (λ u. u + 1) (replicate seatCount 0) ∙ length-replicate {A = ℕ} seatCount 0;
-        at = λ q k j lq lk lj. stamped-last (p .tasks) seatCount key (seat q k j) (omega arith) ∙ max-same (p .tasks) _ _ (one q k j lq lk lj);
-        low = λ x l. omega (arith, v .tasks, stamped-last (p .tasks) seatCount key x l, last x);
+        at = λ q k j lq lk lj. stamped-last (p .tasks) seatCount key (seat q k j) (omega arith) ∙ max-same (p .tasks) _ _
+            (λ u l. rw (h .at u l, key-rank p ts q k j u (low-processor p v u l) lq lk lj));
+        low = λ x l. omega (
+          arith,
+          v .tasks,
+          stamped-last (p .tasks) seatCount key x l,
+          max-where-bound (p .tasks) (p .tasks) (λ u. eqb (key u) x) (λ u. u + 1) (λ u b t. omega arith),
+        );
       })
-    where
-      key : ℕ → ℕ
-      key u = getD keys u 0
-
-      one : (q k j : ℕ) → q < 16 → k < 8 → j < 64 → (u : ℕ) → u < p .tasks → cond (eqb (key u) (seat q k j)) (u + 1) 0 ≡ cond (eqb (rank p ts q k u) (j + 1)) (u + 1) 0
-      one q k j lq lk lj u l = rw (h .at u l, key-rank p ts q k j u (low-processor p v u l) lq lk lj)
-
-      last : (x : ℕ) → maxBelow (p .tasks) (λ u. cond (eqb (key u) x) (u + 1) 0) ≤ p .tasks
-      last x = max-where-bound (p .tasks) (p .tasks) (λ u. eqb (key u) x) (λ u. u + 1) (λ u l t. omega arith)

@@ -41,14 +41,9 @@ returns-2 : tie.Need-returns-2
 unfolding clockTest
 returns-2 c =
     let task = c .before .before in
-    rw (
-      ne-eqb _ _ (busy task .if1 .left),
-      c .before .hold-at .ensures,
-      c .budget-at .ensures,
-      task .wide2 .ensures .same,
-      task .before .before .wide .ensures .same,
-      add-zero,
-    )
+    let head = task .before .before in
+    rw (ne-eqb _ _ (busy task .if1 .left), c .before .hold-at .ensures, c .budget-at .ensures)
+    (rw (task .wide2 .ensures .same, head .wide .ensures .same, add-zero))
 
 pub clock-ok-spec : {M : Type 1} → statement M
 clock-ok-spec =
