@@ -1,6 +1,6 @@
 -- A state passes the test of soundness exactly when it is whole: the test says what the laws of ranks ask, and nothing less.
 use Rattle.folds.proofs.Ground.{ℕ, _+_, _-_, _<_, _≤_, Bool, true, false, cond, _&&_, _||_, not, or-true, _≡_, refl, sym, ap, ap₂, _∙_, _⊎_, inl, inr, ⊎-elim, _≢_, List, eqb, leb, arith, eqb-true, eqb-false, eq-eqb, ne-eqb, lt-ltb, le-ltb, leb-true, le-leb, not-true}
-use Rattle.sizes.specs.Sizes.{mostProcessors, absent}
+use Rattle.sizes.specs.Sizes.{mostProcessors, mostTasks, mostResources, absent}
 use Rattle.folds.specs.Below.{allBelow, anyBelow, maxBelow}
 use Rattle.folds.proofs.Tests.{and-parts, or-out, is-not-true, all-at, all-from, any-at, any-out}
 use Rattle.folds.proofs.Figures.{max-at}
@@ -16,7 +16,7 @@ use Rattle.queue_ranks.proofs.Ranked.{At, Ranked, task-rank, task-first, max-th
 use Rattle.machine_state.specs.declared.Standing.{Standing}
 use Rattle.machine_state.specs.declared.LineRow.{LineRow}
 use Rattle.machine_state.specs.declared.State.{State}
-use Rattle.machine_state.specs.Shows.{standing, noneInLine, lineAt, slot, rank}
+use Rattle.machine_state.specs.Shows.{standing, noneInLine, isIdle, lineAt, slot, rank}
 use Rattle.machine_state.specs.Sound.{idle, beside, alone, backed, taskFits, serves, slotFits, coreFits, holderOf, clockFits, lineFits, sound}
 use Rattle.machine_state.proofs.Tables.{Stands, rank-in, rank-out}
 use Rattle.machine_state.proofs.Good.{Good, Whole}
@@ -46,16 +46,19 @@ max-serves n f a =
     let b : 1 ≤ f (taskRanked n f (maxBelow n f)) = omega (arith, task-rank n (maxBelow n f) f l) in
     any-at n (taskRanked n f (maxBelow n f)) (λ u. leb 1 (f u)) l (le-leb 1 _ b)
 
--- ── rows and ranks ──
+-- ── by all fields ──
 pub row-same : (a b : Standing) → a .resource ≡ b .resource → a .place ≡ b .place → a ≡ b
 row-same a b e f = ap₂ (λ (x y : ℕ). record { resource = x; place = y }) e f
 
--- a row that is idle
-pub row-none : (r : Standing) → (eqb (r .resource) 255 && eqb (r .place) 255) ≡ true → r ≡ noneInLine
+pub row-none : (r : Standing) → isIdle r ≡ true → r ≡ noneInLine
 row-none r h =
-    let a = and-parts (eqb (r .resource) 255) (eqb (r .place) 255) h in
+    let a = and-parts (eqb (r .resource) absent) (eqb (r .place) absent) h in
     row-same r noneInLine (eqb-true _ _ (a .0)) (eqb-true _ _ (a .1))
 
+pub state-same : (s t : State) → s .lines ≡ t .lines → s .tasks ≡ t .tasks → s ≡ t
+state-same s t e f = ap₂ (λ (ls : List LineRow) (ts : List Standing). record { lines = ls; tasks = ts }) e f
+
+-- ── rows and ranks ──
 module _ (p : Plan) (ts : List Standing) where
   -- slot i has a processor with a task in line, just once
   abbrev pub servedAt : ℕ → LineRow → ℕ → Bool
@@ -122,14 +125,14 @@ module _ (p : Plan) (v : Valid p) where
         let b = and-parts (alone p ts u) (backed p ts u) (a .1) in
         inr (record { hold = leb-true 1 _ (hold-test u q ∙ a .0); single = b .0; behind = b .1 }))
 
-    module _ (rows : (u : ℕ) → u < 64 → taskFits p ts u ≡ true) where
+    module _ (rows : (u : ℕ) → u < mostTasks → taskFits p ts u ≡ true) where
       -- a row that names a resource is in line
-      in-line : (u q : ℕ) → u < p .tasks → q < 16 → standing ts u .resource ≡ q → InLine u
+      in-line : (u q : ℕ) → u < p .tasks → q < mostResources → standing ts u .resource ≡ q → InLine u
       in-line u q l b e =
           ⊎-elim (λ f. let n = ap (λ (r : Standing). r .resource) f in let bad : ⊥ = omega arith in absurd bad) (λ w. w)
           (row-of u (rows u (omega (arith, v .tasks))))
 
-      pub ranked : (q : ℕ) → q < 16 → Ranked (p .tasks) (terms p q) (rank p ts q)
+      pub ranked : (q : ℕ) → q < mostResources → Ranked (p .tasks) (terms p q) (rank p ts q)
       ranked q b = record {
         own = λ k u l ne. rank-none p ts q k u ne;
         alone = λ u l a. let e = rank-of p ts q (processorOf p u) u a .resource in
@@ -242,19 +245,19 @@ module _ (p : Plan) (v : Valid p) where
 pub whole-of : (p : Plan) → Valid p → (s : State) → sound p s ≡ true → Whole p s
 unfolding sound
 whole-of p v s h =
-    let a = and-parts (allBelow 64 (taskFits p (s .tasks))) _ h in
-    let rows : (u : ℕ) → u < 64 → taskFits p (s .tasks) u ≡ true = λ u l. all-at 64 u (taskFits p (s .tasks)) (a .0) l in
+    let a = and-parts (allBelow mostTasks (taskFits p (s .tasks))) _ h in
+    let rows : (u : ℕ) → u < mostTasks → taskFits p (s .tasks) u ≡ true = λ u l. all-at mostTasks u (taskFits p (s .tasks)) (a .0) l in
     record {
       rows = λ u l. ⊎-elim (λ e. inl e) (λ w. inr (w .hold)) (row-of p v (s .tasks) u (rows u l));
       lines = λ q l. good-of p v (s .tasks) q (lineAt s q) (ranked p v (s .tasks) rows q l)
-          (all-at 16 q (λ q. lineFits p (s .tasks) q (lineAt s q)) (a .1) l);
+          (all-at mostResources q (λ q. lineFits p (s .tasks) q (lineAt s q)) (a .1) l);
     }
 
 pub sound-of : (p : Plan) → Valid p → (s : State) → Whole p s → sound p s ≡ true
 unfolding sound taskFits
 sound-of p v s w =
-    both (all-from 64 (taskFits p (s .tasks)) (λ u l. row u (w .rows u l)))
-    (all-from 16 (λ q. lineFits p (s .tasks) q (lineAt s q)) (λ q l. of-good p v (s .tasks) q (lineAt s q) (w .lines q l)))
+    both (all-from mostTasks (taskFits p (s .tasks)) (λ u l. row u (w .rows u l)))
+    (all-from mostResources (λ q. lineFits p (s .tasks) q (lineAt s q)) (λ q l. of-good p v (s .tasks) q (lineAt s q) (w .lines q l)))
   where
     row : (u : ℕ) → (standing (s .tasks) u ≡ noneInLine) ⊎ (1 ≤ holdAt p u (standing (s .tasks) u .resource)) → taskFits p (s .tasks) u ≡ true
     row u (inl e) = rw e

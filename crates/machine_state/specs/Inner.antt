@@ -12,7 +12,7 @@ use Rattle.folds.specs.Bytes.{number}
 use Rattle.plan_reading.specs.Plan.{Plan, planOf, Checked}
 use Rattle.analysis_equations.specs.Sharing.{processorOf}
 use Rattle.machine_state.specs.declared.Standing.{Standing}
-use Rattle.machine_state.specs.Shows.{noLine, standing, slot, rank}
+use Rattle.machine_state.specs.Shows.{noLine, standing, slot, rank, isIdle}
 use Rattle.analysis_figures.specs.Figures.{figureCount, holdCell, budgetCell}
 use Rattle.machine_state.specs.declared.LineRow.{LineRow}
 use Rattle.machine_state.specs.declared.State.{State}
@@ -63,7 +63,7 @@ pub record Seats (p : Plan) (ts : List Standing) (t : List ℕ) : Type 0 where
 -- the place in the queue
 unfoldable pub taskTest : List ℕ → List ℕ → Standing → ℕ → ℕ → Bool
 taskTest figures seats s key u =
-    cond (eqb key noSeat) (eqb (s .resource) absent && eqb (s .place) absent)
+    cond (eqb key noSeat) (isIdle s)
     (leb 1 (getD figures (holdCell u (key / resourceSeats)) 0) && eqb (getD seats key 0) (u + 1)
     && (eqb (key % mostTasks) 0 || leb 1 (getD seats (key - 1) 0)))
 

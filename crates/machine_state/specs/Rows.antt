@@ -15,7 +15,7 @@ use Rattle.queue_ranks.specs.Ranks.{listFrom}
 use Rattle.machine_state.specs.declared.Standing.{Standing}
 use Rattle.machine_state.specs.declared.LineRow.{LineRow}
 use Rattle.machine_state.specs.declared.State.{State}
-use Rattle.machine_state.specs.Shows.{noneInLine}
+use Rattle.machine_state.specs.Shows.{noneInLine, inLineAt}
 
 -- "Each global resource has a queue of processors": the j-th of them, absent where there is none
 abbrev pub slotOf : List Turn → ℕ → ℕ
@@ -41,7 +41,7 @@ module _ (p : Plan) (s : View) where
   -- the row of task i
   unfoldable pub standingOf : ℕ → Standing
   standingOf i =
-      cond (ltb (resourceOf i) (p .resources)) (record { resource = resourceOf i; place = placeOf i (resourceOf i) }) noneInLine
+      cond (ltb (resourceOf i) (p .resources)) (inLineAt (resourceOf i) (placeOf i (resourceOf i))) noneInLine
 
   -- the whole state
   abbrev pub stateOf : State

@@ -1,6 +1,6 @@
 -- The state by value, and what it shows: for each resource a line by the rules.
 use Prim.Native.Nat.{ℕ, _+_, _-_}
-use mathlib.Core.Bool.{cond, _&&_}
+use mathlib.Core.Bool.{Bool, cond, _&&_}
 use mathlib.Core.List.{List, []}
 use lib.Dec.{eqb}
 use lib.ListN.{getD, replicate}
@@ -50,6 +50,10 @@ shows p s = record { lines = λ q. shownLine p (s .tasks) q (lineAt s q) }
 -- the filling of the row of a task that is in line for nothing
 abbrev pub noneInLine : Standing
 noneInLine = record { resource = absent; place = absent }
+
+-- a row with that filling
+abbrev pub isIdle : Standing → Bool
+isIdle s = eqb (s .resource) absent && eqb (s .place) absent
 
 -- the row of a task in line for q, in this place of its processor's queue
 abbrev pub inLineAt : ℕ → ℕ → Standing

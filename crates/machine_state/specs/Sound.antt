@@ -16,12 +16,12 @@ use Rattle.queue_ranks.specs.Ranks.{taskRanked}
 use Rattle.machine_state.specs.declared.Standing.{Standing}
 use Rattle.machine_state.specs.declared.LineRow.{LineRow}
 use Rattle.machine_state.specs.declared.State.{State}
-use Rattle.machine_state.specs.Shows.{standing, lineAt, slot, rank}
+use Rattle.machine_state.specs.Shows.{standing, lineAt, slot, rank, isIdle}
 
 module _ (p : Plan) (ts : List Standing) where
   -- task u is in line for nothing
   abbrev pub idle : ℕ → Bool
-  idle u = eqb (standing ts u .resource) absent && eqb (standing ts u .place) absent
+  idle u = isIdle (standing ts u)
 
   -- the rank of task v in the queue in which u stands
   abbrev pub beside : ℕ → ℕ → ℕ

@@ -1,7 +1,7 @@
 // The state of the machine by value, the test whether it is sound, and the tables by which a call looks it up. The functions here
 // are for the crates above: each says in its `requires` what it relies on.
 ghost use mathlib.Core.Path.{_≡_};
-ghost use mathlib.Core.Bool.{_&&_, not};
+ghost use mathlib.Core.Bool.{not};
 ghost use Prim.Native.Nat.{_≤_};
 ghost use lib.ListN.{replicate};
 ghost use lib.Dec.{eqb};
@@ -10,7 +10,7 @@ ghost use Rattle.folds.specs.Below.{allBelow};
 ghost use Rattle.folds.specs.Bytes.{placedBelow};
 ghost use Rattle.plan_reading.specs.Plan.{planOf, Checked};
 ghost use Rattle.analysis_figures.specs.Figures.{Known};
-ghost use Rattle.machine_state.specs.Shows.{freshState, noneInLine, inLineAt, movedUp};
+ghost use Rattle.machine_state.specs.Shows.{freshState, noneInLine, isIdle, inLineAt, movedUp};
 ghost use Rattle.machine_state.specs.Inner.{seat, seatCount, Keys, Seats, firstSeat, taskTest, tasksTest, tailTest, queueTest};
 ghost use Rattle.machine_state.specs.Inner.{clockTest, freeTest, lineTest, linesTest, stateTest, InQueue, Unseated, SeatTable};
 ghost use Rattle.machine_state.specs.Inner.{SeatSized, Sized, TaskSeat, QueueCount, QueueRow, LineTables, HeadRow, EightBytes};
@@ -92,7 +92,7 @@ pub fn moved_up(s: Standing) -> Standing
 
 // Whether a row has the filling of one that is in line for nothing.
 fn is_idle(s: Standing) -> bool
-    ensures { λ r. ⌜ r ≡ (eqb (s .resource) absent && eqb (s .place) absent) ⌝ }
+    ensures { λ r. ⌜ r ≡ isIdle s ⌝ }
 {
     (s.resource == sizes::ABSENT) & (s.place == sizes::ABSENT)
 }
