@@ -1,5 +1,5 @@
 -- A fresh state is sound, shows nobody in line, and is what such lines tell.
-use Rattle.folds.proofs.Ground.{ℕ, _<_, true, false, _≡_, refl, ap, fun-ext, List, leb, replicate, length-replicate, getD-replicate, List·getD-eq-default, arith, eq-eqb, le-ltb, leb-true}
+use Rattle.folds.proofs.Ground.{ℕ, _<_, true, false, _≡_, refl, ap, fun-ext, leb, length-replicate, getD-replicate, List·getD-eq-default, arith, eq-eqb, le-ltb, leb-true}
 use Rattle.folds.proofs.Tests.{all-from, any-none, is-not-true, find-none}
 use Rattle.sizes.specs.Sizes.{mostProcessors, mostTasks, mostResources, absent}
 use Rattle.plan_reading.specs.Plan.{Plan, Valid}

@@ -1,10 +1,11 @@
 -- Laws of eight bytes as one number: it tells whether all of them are 0, and whether those from some place on are 255.
-use Rattle.folds.proofs.Ground.{ℕ, zero, suc, _+_, _-_, _*_, _/_, _^_, _<_, _≤_, Bool, true, _||_, or-true, _≡_, refl, ap, _∙_, _↔_, List, eqb, ltb, getD, pow-succ', div-lt-iff-lt-mul, arith, eqb-true, eq-eqb, ltb-true, lt-ltb}
+use Rattle.folds.proofs.Ground.{ℕ, zero, suc, _+_, _-_, _*_, _/_, _^_, _<_, _≤_, Bool, true, _&&_, _||_, and-assoc, or-true, _≡_, refl, ap, _∙_, _↔_, List, eqb, ltb, getD, pow-succ', div-lt-iff-lt-mul, arith, eqb-true, eq-eqb, ne-eqb, ltb-true, lt-ltb}
 use lib.Pow.{pow-pos, pow-add}
 use Rattle.folds.specs.Below.{allBelow}
 use Rattle.folds.specs.Bytes.{number}
 use Rattle.folds.proofs.Tests.{same-test, all-at, all-from, or-out}
-use Rattle.folds.proofs.Searches.{on-eq, on-le}
+use Rattle.folds.proofs.Arrays.{by-eq}
+use Rattle.folds.proofs.Searches.{on-eq, on-le, same-eqb}
 use Rattle.machine_state.specs.Inner.{tailTest}
 
 module _ (s : List ℕ) where
@@ -13,24 +14,16 @@ module _ (s : List ℕ) where
   number-more zero at = omega arith
   number-more (suc w) at = refl
 
-  -- a number that is 0 has no other byte
-  zero-at : (w at x : ℕ) → number w s at ≡ 0 → at ≤ x → x < at + w → getD s x 0 ≡ 0
-  zero-at zero at x e l m = let bad : ⊥ = omega arith in absurd bad
-  zero-at (suc w) at x e l m =
-      on-eq (getD s x 0 ≡ 0) x at
-      (λ f. rw f (omega (arith, number-more w at)))
-      (λ f. zero-at w (at + 1) x (omega (arith, number-more w at)) (omega arith) (omega arith))
+  -- a number is 0 exactly when all its bytes are
+  zero-more : (a b : ℕ) → eqb (a + 256 * b) 0 ≡ (eqb a 0 && eqb b 0)
+  zero-more a b =
+      by-eq (λ (d : Bool). eqb (a + 256 * b) 0 ≡ (d && eqb b 0)) a 0
+      (λ e. same-eqb (a + 256 * b) 0 b 0 (λ z. omega arith) (λ z. omega arith))
+      (λ n. ne-eqb (a + 256 * b) 0 (λ z. n (omega arith)))
 
   pub all-zero : eqb (number 8 s 0) 0 ≡ allBelow 8 (λ k. eqb (getD s k 0) 0)
-  unfolding number
-  all-zero =
-      same-test (eqb (number 8 s 0) 0) (allBelow 8 (λ k. eqb (getD s k 0) 0))
-      (λ t. all-from 8 (λ k. eqb (getD s k 0) 0) (λ k l. eq-eqb _ 0 (zero-at 8 0 k (eqb-true _ 0 t) (omega arith) (omega arith))))
-      (λ t. let at : (k : ℕ) → k < 8 → getD s k 0 ≡ 0 = λ k l. eqb-true _ 0 (all-at 8 k (λ k. eqb (getD s k 0) 0) t l) in
-      eq-eqb (number 8 s 0) 0 (omega (
-        arith, at 0 (omega arith), at 1 (omega arith), at 2 (omega arith), at 3 (omega arith),
-        at 4 (omega arith), at 5 (omega arith), at 6 (omega arith), at 7 (omega arith),
-      )))
+  unfolding number allBelow
+  all-zero = simp (zero-more, and-assoc)
 
   module _ (low : (x : ℕ) → x < 8 → getD s x 0 < 256) where
     below : (w at : ℕ) → at + w ≤ 8 → number w s at < 256 ^ w

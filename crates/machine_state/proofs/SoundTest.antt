@@ -1,8 +1,8 @@
 -- The test by the tables is the test of soundness.
-use Rattle.folds.proofs.Ground.{ℕ, zero, suc, _+_, _-_, _/_, _%_, _<_, _≤_, Bool, true, false, cond, _&&_, _||_, not, and-true, and-assoc, or-true, _≡_, refl, sym, ap, ap₂, _∙_, _⊎_, inl, inr, ⊎-elim, _≢_, List, eqb, leb, ltb, getD, arith, eqb-true, eq-eqb, ne-eqb, lt-ltb, le-ltb, leb-true, le-leb}
+use Rattle.folds.proofs.Ground.{ℕ, _+_, _-_, _/_, _%_, _<_, _≤_, Bool, true, false, cond, _&&_, _||_, not, and-true, and-assoc, or-true, true≢false, _≡_, refl, sym, ap, ap₂, _∙_, _⊎_, inl, inr, ⊎-elim, List, eqb, leb, ltb, getD, arith, eqb-true, eq-eqb, ne-eqb, lt-ltb, le-ltb, leb-true, le-leb, not-true}
 use Rattle.sizes.specs.Sizes.{mostProcessors, mostTasks, mostResources}
 use Rattle.folds.specs.Below.{allBelow, anyBelow, maxBelow}
-use Rattle.folds.proofs.Tests.{and-parts, is-not-true, same-test, all-at, all-from, all-same, all-both, any-at, any-out}
+use Rattle.folds.proofs.Tests.{and-parts, is-not-true, same-test, all-at, all-from, all-same, all-both, any-at, any-none, any-out}
 use Rattle.folds.proofs.Figures.{max-at}
 use Rattle.folds.proofs.Arrays.{by-eq}
 use Rattle.folds.proofs.Ranges.{any-max}
@@ -18,7 +18,7 @@ use Rattle.machine_state.specs.declared.Standing.{Standing}
 use Rattle.machine_state.specs.declared.LineRow.{LineRow}
 use Rattle.machine_state.specs.declared.State.{State}
 use Rattle.machine_state.specs.Shows.{standing, noneInLine, lineAt, slot, rank}
-use Rattle.machine_state.specs.Sound.{idle, beside, alone, backed, taskFits, serves, slotFits, coreFits, holderOf, clockFits, lineFits, sound}
+use Rattle.machine_state.specs.Sound.{idle, beside, backed, taskFits, serves, slotFits, coreFits, holderOf, clockFits, lineFits, sound}
 use Rattle.machine_state.specs.Inner.{seat, resourceSeats, noSeat, keyOf, Keys, seatedAt, Seats, InQueue, taskTest, firstSeat, tailTest, slotTest, coreTest, queueTest, clockTest, lineTest, stateTest}
 use Rattle.machine_state.proofs.Tables.{low-processor, key-own, key-on, rank-out}
 use Rattle.machine_state.proofs.Passing.{slot-high, head-passed}
@@ -38,13 +38,10 @@ all-upto m n f l h =
 
 -- one that fails of all
 none-any : (n : ℕ) (f : ℕ → Bool) → not (anyBelow n f) ≡ allBelow n (λ k. not (f k))
-unfolding anyBelow allBelow
-none-any zero f = refl
-none-any (suc n) f = apart (anyBelow n f) (f n) ∙ ap (λ (b : Bool). b && not (f n)) (none-any n f)
-  where
-    apart : (a b : Bool) → not (a || b) ≡ (not a && not b)
-    apart true b = refl
-    apart false b = refl
+none-any n f =
+    same-test _ _
+    (λ t. all-from n (λ k. not (f k)) (λ k l. ap not (is-not-true (f k) (λ e. true≢false (sym (any-at n k f l e) ∙ not-true _ t)))))
+    (λ t. ap not (any-none n f (λ k l. not-true (f k) (all-at n k (λ k. not (f k)) t l))))
 
 zero-not : (x : ℕ) → eqb x 0 ≡ not (leb 1 x)
 zero-not x =

@@ -1,5 +1,5 @@
 -- Laws of the tables: the seats of the tasks, and who sits where.
-use Rattle.folds.proofs.Ground.{ℕ, zero, suc, _+_, _<_, _≤_, max, Bool, true, false, cond, _&&_, _≡_, refl, sym, ap, _∙_, _≢_, List, [], _∷_, eqb, ltb, length, getD, set, set-getD, replicate, length-replicate, getD-replicate, getD-set-same, getD-set-other, max-zero, arith, eqb-true, eq-eqb, ltb-true, lt-ltb}
+use Rattle.folds.proofs.Ground.{ℕ, zero, suc, _+_, _<_, _≤_, max, Bool, true, false, cond, _&&_, _≡_, refl, sym, _∙_, _≢_, List, eqb, ltb, length, getD, set, set-getD, replicate, length-replicate, getD-replicate, getD-set-same, getD-set-other, max-zero, arith, eqb-true, eq-eqb, ltb-true, lt-ltb}
 use Rattle.sizes.specs.Sizes.{mostProcessors, mostTasks, mostResources}
 use Rattle.folds.specs.Below.{maxBelow}
 use Rattle.folds.specs.Bytes.{placedBelow}
@@ -104,7 +104,8 @@ module _ (p : Plan) (ts : List Standing) where
       go true false own on e = let bad : ⊥ = omega arith in absurd bad
       go false b own on e = let bad : ⊥ = omega arith in absurd bad
 
-  key-rank : (q k j u : ℕ) → processorOf p u < mostProcessors → q < mostResources → k < mostProcessors → j < mostTasks → eqb (keyOf (standing ts u) (processorOf p u)) (seat q k j) ≡ eqb (rank p ts q k u) (j + 1)
+  key-rank : (q k j u : ℕ) → processorOf p u < mostProcessors → q < mostResources → k < mostProcessors → j < mostTasks
+      → eqb (keyOf (standing ts u) (processorOf p u)) (seat q k j) ≡ eqb (rank p ts q k u) (j + 1)
   key-rank q k j u lm lq lk lj =
       same-test _ _
       (λ t. eq-eqb _ _ (rank-in q k j u (key-out (standing ts u) (processorOf p u) q k j lm lk lq lj (eqb-true _ _ t))))
@@ -116,7 +117,8 @@ key-high s m l =
     (λ n. let w = key-on s m l n in omega (arith, key-own s m w))
 
 -- what stands at x is the last whose key is x, as its number plus 1
-pub stamped-last : (n m : ℕ) (f : ℕ → ℕ) (x : ℕ) → x < m → getD (stampedBelow n f (λ k. k + 1) (replicate m 0)) x 0 ≡ maxBelow n (λ k. cond (eqb (f k) x) (k + 1) 0)
+pub stamped-last : (n m : ℕ) (f : ℕ → ℕ) (x : ℕ) → x < m
+    → getD (stampedBelow n f (λ k. k + 1) (replicate m 0)) x 0 ≡ maxBelow n (λ k. cond (eqb (f k) x) (k + 1) 0)
 unfolding stampedBelow maxBelow
 stamped-last zero m f x l = getD-replicate m x 0 0 l
 stamped-last (suc n) m f x l =
@@ -157,10 +159,6 @@ module _ (p : Plan) (v : Valid p) (ts : List Standing) (keys : List ℕ) (h : Ke
         long = stamped-length (p .tasks) key (λ u. u + 1) (replicate seatCount 0) ∙ length-replicate {A = ℕ} seatCount 0;
         at = λ q k j lq lk lj. stamped-last (p .tasks) seatCount key (seat q k j) (omega arith) ∙ max-same (p .tasks) _ _
             (λ u l. rw (h .at u l, key-rank p ts q k j u (low-processor p v u l) lq lk lj));
-        low = λ x l. omega (
-          arith,
-          v .tasks,
-          stamped-last (p .tasks) seatCount key x l,
-          max-where-bound (p .tasks) (p .tasks) (λ u. eqb (key u) x) (λ u. u + 1) (λ u b t. omega arith),
-        );
+        low = λ x l. let last = max-where-bound (p .tasks) (p .tasks) (λ u. eqb (key u) x) (λ u. u + 1) (λ u b t. omega arith) in
+            omega (arith, v .tasks, stamped-last (p .tasks) seatCount key x l);
       })

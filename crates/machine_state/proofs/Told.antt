@@ -8,7 +8,7 @@ use Rattle.folds.proofs.Searches.{on-eq, on-le, find-is}
 use Rattle.plan_reading.specs.Plan.{Plan, Valid}
 use Rattle.analysis_equations.specs.Sharing.{processorOf}
 use Rattle.analysis_equations.specs.HoldTimes.{holdAt}
-use Rattle.queue_rules.specs.Rules.{Turn, queueOf, inLine, tasksOf, aheadOf}
+use Rattle.queue_rules.specs.Rules.{queueOf, inLine, tasksOf, aheadOf}
 use Rattle.machine_rules.specs.Machine.{View}
 use Rattle.queue_ranks.specs.Ranks.{listFrom, taskRanked, turnOf, queueFrom}
 use Rattle.queue_ranks.proofs.Lists.{list-length, list-get}

@@ -1,19 +1,16 @@
 -- One outcome of the tests at a time, a free line by its own; where the queue has passed, the clock's can read the head and its first
 -- task.
-use Rattle.folds.proofs.Ground.{true, _≡_, sym, _∙_, arith, le-leb, lt-leb, needs}
-use Rattle.machine_state.specs.Inner.{lineTest, queueTest}
+use Rattle.folds.proofs.Ground.{sym, _∙_, le-leb, lt-leb, needs}
+use Rattle.machine_state.specs.Inner.{lineTest}
 use Rattle.machine_state.proofs.Passing.{head-passed, free-line}
 use Rattle.machine_state.proofs.line_ok.Statement.{statement}
 use Rattle.machine_state.proofs.line_ok.Tie as tie
 
--- ── once the queue is looked at ──
-abbrev some : tie.After-queue-ok → tie.Else1
-some c = c .before .before .before .before
-
 clock-ok-requires : tie.Need-clock-ok-requires
 clock-ok-requires c κs =
-    let start = some (c .before) .before .before .before .before in
-    record { tables = start .pre; head = head-passed _ _ _ (sym (c .before .queue-ok .ensures) ∙ c .if3 .taken) }
+    let queue = c .before in
+    let some = queue .before .before .before .before in
+    record { tables = some .before .before .before .before .pre; head = head-passed _ _ _ (sym (queue .queue-ok .ensures) ∙ c .if3 .taken) }
 
 returns-2 : tie.Need-returns-2
 unfolding lineTest
