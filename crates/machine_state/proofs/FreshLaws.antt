@@ -36,7 +36,8 @@ fresh-sound p v =
 
     free : (q : ℕ) → q < mostResources → lineFits p (freshState .tasks) q freeLine ≡ true
     free q b =
-        both (all-from mostProcessors (slotFits p (freshState .tasks) q freeLine) (λ i l. rw (le-ltb i 0 (omega arith)) (eq-eqb _ _ (getD-replicate mostProcessors i absent 0 l))))
+        both (all-from mostProcessors (slotFits p (freshState .tasks) q freeLine)
+        (λ i l. rw (le-ltb i 0 (omega arith)) (eq-eqb _ _ (getD-replicate mostProcessors i absent 0 l))))
         (both (all-from (p .processors) (coreFits p (freshState .tasks) q freeLine) (λ k l. rw (none q k b))) refl)
 
 pub fresh-shows : (p : Plan) → shows p freshState ≡ fresh

@@ -13,7 +13,7 @@ use Rattle.analysis_equations.specs.Sharing.{processorOf}
 use Rattle.analysis_figures.specs.Figures.{Figures}
 use Rattle.machine_state.specs.declared.Standing.{Standing}
 use Rattle.machine_state.specs.Shows.{standing, rank}
-use Rattle.machine_state.specs.Inner.{seat, noSeat, seatCount, keyOf, Keys, Seats, InQueue, Sized}
+use Rattle.machine_state.specs.Inner.{seat, noSeat, seatCount, keyOf, Keys, Seats, InQueue, SeatSized, Sized}
 
 module _ (p : Plan) where
   -- the seats of the tasks below n
@@ -144,11 +144,8 @@ module _ (p : Plan) (v : Valid p) (ts : List Standing) (keys : List ℕ) (h : Ke
   -- so the tables have their sizes
   pub sized-by : {figures seats : List ℕ} → Figures p figures → Seats p ts seats → Sized figures keys seats
   sized-by f t =
-      record {
-        tables = record { figures-long = f .long; seats-long = t .long; seats-low = t .low };
-        keys-long = h .long;
-        keys-low = keys-low;
-      }
+      let tables : SeatSized _ _ = record { figures-long = f .long; seats-long = t .long; seats-low = t .low } in
+      record { tables = tables; keys-long = h .long; keys-low = keys-low }
 
   -- the end of the loop that seats the tasks
   pub seats-done : (n : ℕ) {t : List ℕ} → n ≡ p .tasks → t ≡ seatsBelow keys n → Seats p ts t

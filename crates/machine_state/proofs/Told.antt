@@ -156,10 +156,8 @@ pub record SameRows (s t : State) : Type 0 where
 -- what a sound state shows tells all of it
 pub rows-told : (p : Plan) → Valid p → (s : State) → sound p s ≡ true → SameRows s (stateOf p (shows p s))
 rows-told p v s h =
+    let w = whole-of p v s h in
     record {
       lines = λ q l. rw (line-at p (shows p s) q l) (line-told p v s w q l);
       tasks = λ i l. row-told p v s w i l ∙ sym (standing-at p (shows p s) i l);
     }
-  where
-    w : Whole p s
-    w = whole-of p v s h

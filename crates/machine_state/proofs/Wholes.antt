@@ -164,7 +164,8 @@ module _ (p : Plan) (v : Valid p) where
         let served : (i : ℕ) → i < l .queued → 1 ≤ maxBelow (p .tasks) (rank p ts q (slot l i)) =
         λ i x. serves-max (p .tasks) (rank p ts q (slot l i)) (and-parts (serves p ts q (slot l i)) _ (passed i x) .0) in
         let differ : (i j : ℕ) → j < l .queued → i < j → slot l i ≢ slot l j =
-        λ i j y x. eqb-false _ _ (not-true _ (all-at j i (λ i. not (eqb (slot l i) (slot l j))) (and-parts (serves p ts q (slot l j)) _ (passed j y) .1) x)) in
+        λ i j y x. let once = and-parts (serves p ts q (slot l j)) _ (passed j y) .1 in
+        eqb-false _ _ (not-true _ (all-at j i (λ i. not (eqb (slot l i) (slot l j))) once x)) in
         record {
           small = few;
           ranked = r;

@@ -1,15 +1,11 @@
 -- A task in the first place has its own seat looked at twice.
-use Rattle.folds.proofs.Ground.{ℕ, _+_, _*_, _-_, _/_, _%_, _≤_, Bool, true, false, _&&_, _||_, and-assoc, _≡_, refl, sym, ap, _∙_, List, eqb, leb, ltb, getD, arith, eq-eqb, ne-eqb, eqb-true, ltb-true, ltb-false, le-leb, needs}
+use Rattle.folds.proofs.Ground.{ℕ, _+_, _-_, _/_, _%_, _≤_, Bool, true, false, _&&_, _||_, and-assoc, _≡_, refl, sym, ap, _∙_, List, eqb, leb, ltb, getD, arith, eq-eqb, ne-eqb, eqb-true, ltb-true, ltb-false, le-leb, needs}
 use mir.Val.{boolByte}
 use Rattle.sizes.specs.Sizes.{mostTasks}
 use Rattle.analysis_figures.specs.Figures.{holdCell}
-use Rattle.machine_state.specs.Inner.{resourceSeats, noSeat, taskTest}
+use Rattle.machine_state.specs.Inner.{resourceSeats, taskTest}
 use Rattle.machine_state.proofs.task_ok.Statement.{statement}
 use Rattle.machine_state.proofs.task_ok.Tie as tie
-
--- the hold time that the code reads
-hold-at : (figures : List ℕ) (base key u : ℕ) → base ≡ u * noSeat → getD figures ((base + key) / resourceSeats) 0 ≡ getD figures (holdCell u (key / resourceSeats)) 0
-hold-at figures base key u e = ap (λ (k : ℕ). getD figures k 0) (omega arith)
 
 -- no further back than the first place
 back-low : (key : ℕ) (b : Bool) → ltb 0 (key % mostTasks) ≡ b → boolByte b ≤ key
@@ -42,7 +38,8 @@ returns-2 c =
     let seated = c .before .before .before .before in
     let start = seated .before .before .before in
     let a = start .args in
-    rw (ne-eqb _ _ (seated .if1 .left), c .before .wide .ensures .same, hold-at (a .figures .now) (a .base) (a .key) (a .u) (start .pre .counted))
+    let hold : (a .base + a .key) / resourceSeats ≡ holdCell (a .u) (a .key / resourceSeats) = omega (arith, start .pre .counted) in
+    rw (ne-eqb _ _ (seated .if1 .left), c .before .wide .ensures .same, hold)
     (back-same (a .seats .now) (a .key) (a .u) (leb 1 (getD (a .figures .now) (holdCell (a .u) (a .key / resourceSeats)) 0)) _ refl)
 
 pub task-ok-spec : {M : Type 1} → statement M
