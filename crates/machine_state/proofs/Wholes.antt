@@ -25,6 +25,20 @@ use Rattle.machine_state.proofs.Good.{Good, Whole}
 pub both : {a b : Bool} → a ≡ true → b ≡ true → (a && b) ≡ true
 both p q = rw (p, q)
 
+-- the parts of a test of four
+record Held (a b c d : Bool) : Type 0 where
+  first : a ≡ true
+  second : b ≡ true
+  third : c ≡ true
+  fourth : d ≡ true
+
+four-parts : (a b c d : Bool) → (a && b && (c && d)) ≡ true → Held a b c d
+four-parts a b c d e =
+    let x = and-parts (a && b) (c && d) e in
+    let y = and-parts a b (x .0) in
+    let z = and-parts c d (x .1) in
+    record { first = y .0; second = y .1; third = z .0; fourth = z .1 }
+
 -- u is alone at its rank f u
 alone-at : (n u : ℕ) (f : ℕ → ℕ) → u < n → allBelow n (λ v. eqb v u || not (eqb (f v) (f u))) ≡ true → taskRanked n f (f u) ≡ u
 alone-at n u f l h =
@@ -121,9 +135,8 @@ module _ (p : Plan) (v : Valid p) where
     row-of u h =
         let q = standing ts u .resource in
         or-out (idle p ts u) (global p q && uses p u q && (alone p ts u && backed p ts u)) _ h (λ e. inl (row-none (standing ts u) e))
-        (λ e. let a = and-parts (global p q && uses p u q) (alone p ts u && backed p ts u) e in
-        let b = and-parts (alone p ts u) (backed p ts u) (a .1) in
-        inr (record { hold = leb-true 1 _ (hold-test u q ∙ a .0); single = b .0; behind = b .1 }))
+        (λ e. let t = four-parts (global p q) (uses p u q) (alone p ts u) (backed p ts u) e in
+        inr (record { hold = leb-true 1 _ (hold-test u q ∙ both (t .first) (t .second)); single = t .third; behind = t .fourth }))
 
     module _ (rows : (u : ℕ) → u < mostTasks → taskFits p ts u ≡ true) where
       -- a row that names a resource is in line
@@ -137,29 +150,23 @@ module _ (p : Plan) (v : Valid p) where
         own = λ k u l ne. rank-none p ts q k u ne;
         alone = λ u l a. let e = rank-of p ts q (processorOf p u) u a .resource in
             rw (← e) (alone-at (p .tasks) u (beside p ts u) l (in-line u q l b e .single));
-        backed = before;
+        backed = λ u l a. let h = rank-of p ts q (processorOf p u) u (omega arith) in
+            rw (← h .place, ← h .resource)
+            (or-out (eqb (standing ts u .place) 0) _ _ (in-line u q l b (h .resource) .behind)
+            (λ e. let z = eqb-true (standing ts u .place) 0 e in let bad : ⊥ = omega arith in absurd bad)
+            (λ e. any-out (p .tasks) (λ w. eqb (beside p ts u w) (standing ts u .place)) _ e
+            (λ w m i. omega (arith, task-first (p .tasks) (standing ts u .place) w (beside p ts u) m (eqb-true _ _ i)))));
         uses = λ u l a. let e = rank-of p ts q (processorOf p u) u a .resource in rw (← e) (in-line u q l b e .hold);
       }
-        where
-          before : (u : ℕ) → u < p .tasks → 2 ≤ rank p ts q (processorOf p u) u
-              → taskRanked (p .tasks) (rank p ts q (processorOf p u)) (rank p ts q (processorOf p u) u - 1) < p .tasks
-          before u l a =
-              let h = rank-of p ts q (processorOf p u) u (omega arith) in
-              rw (← h .place, ← h .resource)
-              (or-out (eqb (standing ts u .place) 0) _ _ (in-line u q l b (h .resource) .behind)
-              (λ e. let z = eqb-true (standing ts u .place) 0 e in let bad : ⊥ = omega arith in absurd bad)
-              (λ e. any-out (p .tasks) (λ w. eqb (beside p ts u w) (standing ts u .place)) _ e
-              (λ w m i. omega (arith, task-first (p .tasks) (standing ts u .place) w (beside p ts u) m (eqb-true _ _ i)))))
 
     -- ── a line, where the ranks are sound ──
     good-of : (q : ℕ) (l : LineRow) → Ranked (p .tasks) (terms p q) (rank p ts q) → lineFits p ts q l ≡ true → Good p ts q l
     unfolding lineFits slotFits coreFits clockFits
     good-of q l r h =
-        let c = and-parts (leb (l .queued) mostProcessors && allBelow mostProcessors (slotFits p ts q l)) _ h in
-        let d = and-parts (leb (l .queued) mostProcessors) (allBelow mostProcessors (slotFits p ts q l)) (c .0) in
-        let e = and-parts (allBelow (p .processors) (coreFits p ts q l)) (clockFits p ts q l) (c .1) in
-        let few = leb-true (l .queued) mostProcessors (d .0) in
-        let slots : (i : ℕ) → i < mostProcessors → slotFits p ts q l i ≡ true = λ i x. all-at mostProcessors i (slotFits p ts q l) (d .1) x in
+        let t = four-parts (leb (l .queued) mostProcessors) (allBelow mostProcessors (slotFits p ts q l))
+        (allBelow (p .processors) (coreFits p ts q l)) (clockFits p ts q l) h in
+        let few = leb-true (l .queued) mostProcessors (t .first) in
+        let slots : (i : ℕ) → i < mostProcessors → slotFits p ts q l i ≡ true = λ i x. all-at mostProcessors i (slotFits p ts q l) (t .second) x in
         let passed : (i : ℕ) → i < l .queued → servedAt p ts q l i ≡ true = λ i x. rw (lt-ltb i (l .queued) x) at (slots i (omega arith)) in
         let served : (i : ℕ) → i < l .queued → 1 ≤ maxBelow (p .tasks) (rank p ts q (slot l i)) =
         λ i x. serves-max (p .tasks) (rank p ts q (slot l i)) (and-parts (serves p ts q (slot l i)) _ (passed i x) .0) in
@@ -172,21 +179,19 @@ module _ (p : Plan) (v : Valid p) where
           queued = record {
             placed = λ i x. server-low q (slot l i) (served i x);
             served = served;
-            once = λ i j x y s. on-eq (i ≡ j) i j (λ t. t)
+            once = λ i j x y s. on-eq (i ≡ j) i j (λ e. e)
                 (λ ne. on-le (i ≡ j) i j (λ a. absurd (differ i j y (omega arith) s)) (λ a. absurd (differ j i x a (sym s))));
             stands = λ k a. any-out (l .queued) (λ i. eqb (slot l i) k) (At (l .queued) (slot l) k)
-                (rw (max-serves (p .tasks) (rank p ts q k) a) at (all-at (p .processors) k (coreFits p ts q l) (e .0) (server-low q k a)))
-                (λ i x t. record { index = i; within = x; is = eqb-true _ _ t });
+                (rw (max-serves (p .tasks) (rank p ts q k) a) at (all-at (p .processors) k (coreFits p ts q l) (t .third) (server-low q k a)))
+                (λ i x e. record { index = i; within = x; is = eqb-true _ _ e });
           };
           rest = λ i x y. eqb-true (slot l i) absent (rw (le-ltb i (l .queued) x) at (slots i y));
           timed = record {
-            idle = λ z. let x = and-parts (eqb (l .«hold_left») 0) _ (rw (eq-eqb (l .queued) 0 z) at (e .1)) in
+            idle = λ z. let x = and-parts (eqb (l .«hold_left») 0) _ (rw (eq-eqb (l .queued) 0 z) at (t .fourth)) in
                 (eqb-true _ _ (x .0), eqb-true _ _ (x .1));
-            runs = λ z. let x = and-parts (leb 1 (l .«hold_left») && leb (l .«hold_left») (holdAt p (holderOf p ts q l) q)) _
-                (rw (ne-eqb (l .queued) 0 (λ i. omega arith)) at (e .1)) in
-                let y = and-parts (leb 1 (l .«hold_left»)) _ (x .0) in
-                let w = and-parts (leb (l .«hold_left») (l .«budget_left»)) _ (x .1) in
-                (leb-true _ _ (y .0), leb-true _ _ (y .1), leb-true _ _ (w .0), leb-true _ _ (w .1));
+            runs = λ z. let x = four-parts (leb 1 (l .«hold_left»)) (leb (l .«hold_left») (holdAt p (holderOf p ts q l) q)) _ _
+                (rw (ne-eqb (l .queued) 0 (λ i. omega arith)) at (t .fourth)) in
+                (leb-true _ _ (x .first), leb-true _ _ (x .second), leb-true _ _ (x .third), leb-true _ _ (x .fourth));
           };
         }
 

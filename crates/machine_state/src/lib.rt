@@ -22,7 +22,7 @@ pub const SEATS: usize = sizes::RESOURCES * sizes::PROCESSORS * sizes::TASKS + 1
 // The last of them.
 const NO_SEAT: u16 = (SEATS - 1) as u16;
 
-// The seats of one queue, and the queues for one resource.
+// The seats of one queue, the queues for one resource, and the seats of those.
 const PLACES: u16 = sizes::TASKS as u16;
 
 const QUEUES: u16 = sizes::PROCESSORS as u16;
