@@ -30,7 +30,8 @@ module _ (seats : List ℕ) (q : ℕ) (queue : List ℕ) where
 
   rest-at : (n k : ℕ) → k < mostProcessors → getD (restBelow n) k 0 ≡ cond (stands queue n k) 0 (firstSeat seats q k)
   rest-at n k l =
-      struck-at n (λ i. getD queue i 0) (placedBelow mostProcessors (firstSeat seats q) (replicate mostProcessors 0)) k (rw (placed-length, length-replicate) l)
+      struck-at n (λ i. getD queue i 0) (placedBelow mostProcessors (firstSeat seats q) (replicate mostProcessors 0)) k
+      (rw (placed-length, length-replicate) l)
       ∙ ap (λ (x : ℕ). cond (stands queue n k) 0 x)
       (placed-at mostProcessors k (firstSeat seats q) (replicate mostProcessors 0) 0 l (rw length-replicate (omega arith)))
 
@@ -39,7 +40,8 @@ module _ (seats : List ℕ) (q : ℕ) (queue : List ℕ) where
   unfolding slotTest
   slot-high i h = rw (le-ltb (getD queue i 0) mostProcessors h)
 
-  pub slot-is : (i k : ℕ) {rest : List ℕ} → k ≡ getD queue i 0 → k < mostProcessors → rest ≡ restBelow i → slotTest seats q queue i ≡ leb 1 (getD rest k 0)
+  pub slot-is : (i k : ℕ) {rest : List ℕ} → k ≡ getD queue i 0 → k < mostProcessors → rest ≡ restBelow i
+      → slotTest seats q queue i ≡ leb 1 (getD rest k 0)
   unfolding slotTest
   slot-is i k e l r = rw (r, ← e, lt-ltb k mostProcessors l, rest-at i k l) (struck (stands queue i k) (firstSeat seats q k))
     where
@@ -76,7 +78,8 @@ head-passed seats q l e some =
     let slots : Bool = allBelow (l .queued) (slotTest seats q (l .queue)) in
     let passed = and-parts slots _ (and-parts (slots && tailTest (l .queue) (l .queued)) _ e .0) .0 in
     let first = all-at (l .queued) 0 (slotTest seats q (l .queue)) passed some in
-    let b = and-parts (ltb (slot l 0) mostProcessors) _ (and-parts (ltb (slot l 0) mostProcessors && leb 1 (firstSeat seats q (slot l 0))) _ first .0) in
+    let low : Bool = ltb (slot l 0) mostProcessors in
+    let b = and-parts low _ (and-parts (low && leb 1 (firstSeat seats q (slot l 0))) _ first .0) in
     record { placed = ltb-true (slot l 0) mostProcessors (b .0); some = leb-true 1 _ (b .1) }
 
 pub head-low : {figures seats : List ℕ} {q : ℕ} {l : LineRow} → LineTables figures seats q → Headed seats q l
@@ -86,6 +89,4 @@ head-low {figures} {seats} {q} {l} t h = t .sized .seats-low (seat q (slot l 0) 
 -- the row of a free resource
 pub free-line : (figures seats : List ℕ) (q : ℕ) (l : LineRow) → l .queued ≡ 0 → freeTest seats q l ≡ lineTest figures seats q l
 unfolding freeTest lineTest queueTest coreTest clockTest allBelow anyBelow
-free-line figures seats q l e =
-    rw (e, all-same mostProcessors (λ k. eqb (firstSeat seats q k) 0 || false) (λ k. eqb (firstSeat seats q k) 0) (λ k b. or-false (eqb (firstSeat seats q k) 0)))
-    (and-assoc (tailTest (l .queue) 0 && allBelow mostProcessors (λ k. eqb (firstSeat seats q k) 0)) (eqb (l .«hold_left») 0) (eqb (l .«budget_left») 0))
+free-line figures seats q l e = rw e (simp (or-false, and-assoc))
