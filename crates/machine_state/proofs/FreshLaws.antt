@@ -1,6 +1,7 @@
 -- A fresh state is sound, shows nobody in line, and is what such lines tell.
-use Rattle.folds.proofs.Ground.{ℕ, _<_, true, false, _≡_, refl, ap, fun-ext, List, leb, replicate, length-replicate, getD-replicate, List·getD-eq-default, arith, eq-eqb, le-ltb, leb-true}
+use Rattle.folds.proofs.Ground.{ℕ, _<_, true, false, _≡_, refl, ap, fun-ext, leb, length-replicate, getD-replicate, List·getD-eq-default, arith, eq-eqb, le-ltb, leb-true}
 use Rattle.folds.proofs.Tests.{all-from, any-none, is-not-true, find-none}
+use Rattle.sizes.specs.Sizes.{mostProcessors, mostTasks, mostResources, absent}
 use Rattle.plan_reading.specs.Plan.{Plan, Valid}
 use Rattle.machine_rules.specs.Machine.{Lines, fresh}
 use Rattle.queue_ranks.specs.Ranks.{listFrom}
@@ -10,46 +11,42 @@ use Rattle.machine_state.specs.declared.Standing.{Standing}
 use Rattle.machine_state.specs.Shows.{standing, noneInLine, noLine, freeLine, lineAt, rank, shows, freshState}
 use Rattle.machine_state.specs.Sound.{taskFits, serves, slotFits, coreFits, clockFits, lineFits, sound}
 use Rattle.machine_state.specs.Rows.{resourceOf, standingOf, stateOf}
-use Rattle.machine_state.proofs.Wholes.{both, rank-of}
+use Rattle.machine_state.proofs.Wholes.{both, state-same, rank-of}
 
-row-fresh : (u : ℕ) → u < 64 → standing (freshState .tasks) u ≡ noneInLine
-row-fresh u l = getD-replicate 64 u noneInLine _ l
+row-fresh : (u : ℕ) → u < mostTasks → standing (freshState .tasks) u ≡ noneInLine
+row-fresh u l = getD-replicate mostTasks u noneInLine _ l
 
-line-fresh : (q : ℕ) → q < 16 → lineAt freshState q ≡ freeLine
-line-fresh q l = getD-replicate 16 q freeLine noLine l
+line-fresh : (q : ℕ) → q < mostResources → lineAt freshState q ≡ freeLine
+line-fresh q l = getD-replicate mostResources q freeLine noLine l
 
 pub fresh-sound : (p : Plan) → Valid p → sound p freshState ≡ true
 unfolding sound taskFits lineFits slotFits coreFits clockFits
 fresh-sound p v =
-    both (all-from 64 (taskFits p (freshState .tasks)) row)
-    (all-from 16 (λ q. lineFits p (freshState .tasks) q (lineAt freshState q)) (λ q l. rw (line-fresh q l) (free q l)))
+    both (all-from mostTasks (taskFits p (freshState .tasks)) (λ u l. rw (row-fresh u l)))
+    (all-from mostResources (λ q. lineFits p (freshState .tasks) q (lineAt freshState q)) (λ q l. rw (line-fresh q l) (free q l)))
   where
-    row : (u : ℕ) → u < 64 → taskFits p (freshState .tasks) u ≡ true
-    row u l = rw (row-fresh u l)
-
     -- nobody has a rank
-    none : (q k : ℕ) → q < 16 → serves p (freshState .tasks) q k ≡ false
+    none : (q k : ℕ) → q < mostResources → serves p (freshState .tasks) q k ≡ false
     none q k b =
         any-none (p .tasks) (λ u. leb 1 (rank p (freshState .tasks) q k u))
         (λ u l. is-not-true _ (λ e.
-        let r = rank-of p (freshState .tasks) q k u (leb-true 1 (rank p (freshState .tasks) q k u) e) .1 in
+        let r = rank-of p (freshState .tasks) q k u (leb-true 1 (rank p (freshState .tasks) q k u) e) .resource in
         let n = ap (λ (x : Standing). x .resource) (row-fresh u (omega (arith, v .tasks))) in
         omega arith))
 
-    free : (q : ℕ) → q < 16 → lineFits p (freshState .tasks) q freeLine ≡ true
+    free : (q : ℕ) → q < mostResources → lineFits p (freshState .tasks) q freeLine ≡ true
     free q b =
-        both (all-from 8 (slotFits p (freshState .tasks) q freeLine) (λ i l. rw (le-ltb i 0 (omega arith)) (eq-eqb _ _ (getD-replicate 8 i 255 0 l))))
+        both (all-from mostProcessors (slotFits p (freshState .tasks) q freeLine)
+        (λ i l. rw (le-ltb i 0 (omega arith)) (eq-eqb _ _ (getD-replicate mostProcessors i absent 0 l))))
         (both (all-from (p .processors) (coreFits p (freshState .tasks) q freeLine) (λ k l. rw (none q k b))) refl)
 
 pub fresh-shows : (p : Plan) → shows p freshState ≡ fresh
 unfolding shows listFrom
-fresh-shows p = ap (λ (l : Lines). record { lines = l }) (fun-ext line)
-  where
-    line : (q : ℕ) → shows p freshState .lines q ≡ fresh .lines q
-    line q =
-        on-le (shows p freshState .lines q ≡ fresh .lines q) 16 q
-        (λ l. rw (List·getD-eq-default (freshState .lines) noLine {n = q} (rw length-replicate l)))
-        (λ l. rw (line-fresh q l))
+fresh-shows p =
+    ap (λ (l : Lines). record { lines = l })
+    (fun-ext (λ q. on-le (shows p freshState .lines q ≡ fresh .lines q) mostResources q
+    (λ l. rw (List·getD-eq-default (freshState .lines) noLine {n = q} (rw length-replicate l)))
+    (λ l. rw (line-fresh q l))))
 
 -- fresh lines tell it, whatever the plan
 none-fresh : (p : Plan) (u : ℕ) → standingOf p fresh u ≡ noneInLine
@@ -60,5 +57,5 @@ none-fresh p u =
 pub fresh-told : (p : Plan) → stateOf p fresh ≡ freshState
 unfolding listFrom
 fresh-told p =
-    ap (λ (ts : List Standing). record { lines = replicate 16 freeLine; tasks = ts })
-    (list-same 64 0 (standingOf p fresh) (λ u. noneInLine) (λ u a l. none-fresh p u))
+    state-same (stateOf p fresh) freshState refl
+    (list-same mostTasks 0 (standingOf p fresh) (λ u. noneInLine) (λ u a l. none-fresh p u))

@@ -1,5 +1,6 @@
 -- A sound state over ranks: what the laws of ranks ask of each line, and what is left to say of each task's row.
 use Rattle.folds.proofs.Ground.{ℕ, _<_, _≤_, _≡_, _⊎_, List}
+use Rattle.sizes.specs.Sizes.{mostProcessors, mostTasks, mostResources, absent}
 use Rattle.plan_reading.specs.Plan.{Plan}
 use Rattle.analysis_equations.specs.HoldTimes.{holdAt}
 use Rattle.machine_rules.specs.Machine.{terms}
@@ -11,13 +12,13 @@ use Rattle.machine_state.specs.Shows.{standing, noneInLine, lineAt, slot
 
 -- the line of q, with the tasks' rows
 pub record Good (p : Plan) (ts : List Standing) (q : ℕ) (l : LineRow) : Type 0 where
-  pub small : l .queued ≤ 8
+  pub small : l .queued ≤ mostProcessors
   pub ranked : Ranked (p .tasks) (terms p q) (rank p ts q)
   pub queued : Queued (p .tasks) (p .processors) (rank p ts q) (l .queued) (slot l)
-  pub rest : (i : ℕ) → l .queued ≤ i → i < 8 → slot l i ≡ 255
+  pub rest : (i : ℕ) → l .queued ≤ i → i < mostProcessors → slot l i ≡ absent
   pub timed : Timed (p .tasks) (terms p q) (rank p ts q) (l .queued) (slot l) (l .«hold_left») (l .«budget_left»)
 
 -- the whole state
 pub record Whole (p : Plan) (s : State) : Type 0 where
-  pub rows : (u : ℕ) → u < 64 → (standing (s .tasks) u ≡ noneInLine) ⊎ (1 ≤ holdAt p u (standing (s .tasks) u .resource))
-  pub lines : (q : ℕ) → q < 16 → Good p (s .tasks) q (lineAt s q)
+  pub rows : (u : ℕ) → u < mostTasks → (standing (s .tasks) u ≡ noneInLine) ⊎ (1 ≤ holdAt p u (standing (s .tasks) u .resource))
+  pub lines : (q : ℕ) → q < mostResources → Good p (s .tasks) q (lineAt s q)

@@ -1,10 +1,11 @@
 -- Laws of eight bytes as one number: it tells whether all of them are 0, and whether those from some place on are 255.
-use Rattle.folds.proofs.Ground.{ℕ, zero, suc, _+_, _-_, _*_, _/_, _^_, _<_, _≤_, Bool, true, _||_, or-true, _≡_, refl, _↔_, List, eqb, ltb, getD, pow-succ', div-lt-iff-lt-mul, arith, eqb-true, eq-eqb, ltb-true, lt-ltb}
+use Rattle.folds.proofs.Ground.{ℕ, zero, suc, _+_, _-_, _*_, _/_, _^_, _<_, _≤_, Bool, true, _&&_, _||_, and-assoc, or-true, _≡_, refl, ap, _∙_, _↔_, List, eqb, ltb, getD, pow-succ', div-lt-iff-lt-mul, arith, eqb-true, eq-eqb, ne-eqb, ltb-true, lt-ltb}
 use lib.Pow.{pow-pos, pow-add}
 use Rattle.folds.specs.Below.{allBelow}
 use Rattle.folds.specs.Bytes.{number}
 use Rattle.folds.proofs.Tests.{same-test, all-at, all-from, or-out}
-use Rattle.folds.proofs.Searches.{on-eq, on-le}
+use Rattle.folds.proofs.Arrays.{by-eq}
+use Rattle.folds.proofs.Searches.{on-eq, on-le, same-eqb}
 use Rattle.machine_state.specs.Inner.{tailTest}
 
 module _ (s : List ℕ) where
@@ -13,25 +14,16 @@ module _ (s : List ℕ) where
   number-more zero at = omega arith
   number-more (suc w) at = refl
 
-  -- a number that is 0 has no other byte, and the other way round
-  zero-at : (w at x : ℕ) → number w s at ≡ 0 → at ≤ x → x < at + w → getD s x 0 ≡ 0
-  zero-at zero at x e l m = let bad : ⊥ = omega arith in absurd bad
-  zero-at (suc w) at x e l m =
-      on-eq (getD s x 0 ≡ 0) x at
-      (λ f. rw f (omega (arith, number-more w at)))
-      (λ f. zero-at w (at + 1) x (omega (arith, number-more w at)) (omega arith) (omega arith))
-
-  zero-from : (w at : ℕ) → ((x : ℕ) → at ≤ x → x < at + w → getD s x 0 ≡ 0) → number w s at ≡ 0
-  unfolding number
-  zero-from zero at h = refl
-  zero-from (suc w) at h =
-      omega (arith, number-more w at, h at (omega arith) (omega arith), zero-from w (at + 1) (λ x l m. h x (omega arith) (omega arith)))
+  -- a number is 0 exactly when all its bytes are
+  zero-more : (a b : ℕ) → eqb (a + 256 * b) 0 ≡ (eqb a 0 && eqb b 0)
+  zero-more a b =
+      by-eq (λ (d : Bool). eqb (a + 256 * b) 0 ≡ (d && eqb b 0)) a 0
+      (λ e. same-eqb (a + 256 * b) 0 b 0 (λ z. omega arith) (λ z. omega arith))
+      (λ n. ne-eqb (a + 256 * b) 0 (λ z. n (omega arith)))
 
   pub all-zero : eqb (number 8 s 0) 0 ≡ allBelow 8 (λ k. eqb (getD s k 0) 0)
-  all-zero =
-      same-test (eqb (number 8 s 0) 0) (allBelow 8 (λ k. eqb (getD s k 0) 0))
-      (λ t. all-from 8 (λ k. eqb (getD s k 0) 0) (λ k l. eq-eqb _ 0 (zero-at 8 0 k (eqb-true _ 0 t) (omega arith) (omega arith))))
-      (λ t. eq-eqb (number 8 s 0) 0 (zero-from 8 0 (λ x l m. eqb-true _ 0 (all-at 8 x (λ k. eqb (getD s k 0) 0) t (omega arith)))))
+  unfolding number allBelow
+  all-zero = simp (zero-more, and-assoc)
 
   module _ (low : (x : ℕ) → x < 8 → getD s x 0 < 256) where
     below : (w at : ℕ) → at + w ≤ 8 → number w s at < 256 ^ w
@@ -71,12 +63,6 @@ bits (suc n) =
     let more : 8 * suc n ≡ 8 + 8 * n = omega arith in
     rw (more, pow-add 2 8 (8 * n), ← bits n) (pow-succ' 256 n)
 
-power : (c : ℕ) → 1 ≤ c → 256 ^ c ≡ 256 * 2 ^ (8 * c - 8)
-power zero l = let bad : ⊥ = omega arith in absurd bad
-power (suc n) l =
-    let less : 8 * suc n - 8 ≡ 8 * n = omega arith in
-    rw (less, ← bits n) (pow-succ' 256 n)
-
 module _ (s : List ℕ) (low : (x : ℕ) → x < 8 → getD s x 0 < 256) (c : ℕ) (few : c ≤ 8) where
   -- a test of that is the test of the slots
   tail-tested : (b : Bool) → (b ≡ true → 18446744073709551616 ≤ number 8 s 0 + 256 ^ c)
@@ -114,7 +100,8 @@ module _ (s : List ℕ) (low : (x : ℕ) → x < 8 → getD s x 0 < 256) (c : �
       let k : ℕ = 2 ^ (8 * c - 8) in
       let taken : ℕ = 18446744073709551615 - number 8 s 0 in
       let pos : 0 < k = pow-pos (8 * c - 8) in
-      let e : 256 ^ c ≡ 256 * k = power c some in
+      let more : 8 * c ≡ 8 + (8 * c - 8) = omega arith in
+      let e : 256 ^ c ≡ 256 * k = bits c ∙ ap (λ (x : ℕ). 2 ^ x) more ∙ pow-add 2 8 (8 * c - 8) in
       let iff : (taken / k < 256) ↔ (taken < 256 * k) = div-lt-iff-lt-mul pos in
       tail-tested (ltb (taken / k) 256)
       (λ t. omega (arith, iff .0 (ltb-true (taken / k) 256 t)))

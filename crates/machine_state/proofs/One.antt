@@ -1,25 +1,26 @@
 -- A sound state is the one that its lines tell, so two that show the same are the same.
 use Rattle.folds.proofs.Ground.{ℕ, _<_, true, _≡_, sym, ap, ap₂, _∙_, List, length, ext-getD}
+use Rattle.sizes.specs.Sizes.{mostProcessors, mostTasks, mostResources}
 use Rattle.plan_reading.specs.Plan.{Plan, Valid}
 use Rattle.queue_rules.specs.Rules as Rules
 use Rattle.machine_rules.specs.Machine.{View}
 use Rattle.queue_ranks.proofs.Lists.{list-length}
-use Rattle.machine_state.specs.declared.Standing.{Standing}
 use Rattle.machine_state.specs.declared.LineRow.{LineRow}
 use Rattle.machine_state.specs.declared.State.{State}
 use Rattle.machine_state.specs.Shows.{noStanding, noLine, lineAt, shows}
 use Rattle.machine_state.specs.Sound.{sound}
 use Rattle.machine_state.specs.Rows.{slotOf, lineOf, standingOf, stateOf}
+use Rattle.machine_state.proofs.Wholes.{state-same}
 use Rattle.machine_state.proofs.Told.{SameRow, SameRows, line-at, rows-told}
 
 -- the lengths of a state's arrays
 pub record Shaped (s : State) : Type 0 where
-  pub tasks : length (s .tasks) ≡ 64
-  pub lines : length (s .lines) ≡ 16
-  pub queues : (q : ℕ) → q < 16 → length (lineAt s q .queue) ≡ 8
+  pub tasks : length (s .tasks) ≡ mostTasks
+  pub lines : length (s .lines) ≡ mostResources
+  pub queues : (q : ℕ) → q < mostResources → length (lineAt s q .queue) ≡ mostProcessors
 
 -- states of these lengths that agree in all rows are the same
-same-line : (a b : LineRow) → SameRow a b → length (a .queue) ≡ 8 → length (b .queue) ≡ 8 → a ≡ b
+same-line : (a b : LineRow) → SameRow a b → length (a .queue) ≡ mostProcessors → length (b .queue) ≡ mostProcessors → a ≡ b
 same-line a b r m n =
     ap₂ (λ (x : ℕ) (y : List ℕ). record { queued = x; queue = y; «hold_left» = a .«hold_left»; «budget_left» = a .«budget_left» }) (r .queued)
     (ext-getD 0 (a .queue) (b .queue) (m ∙ sym n) (λ j l. r .slots j (rw m at l)))
@@ -27,21 +28,19 @@ same-line a b r m n =
 
 same-state : (s t : State) → SameRows s t → Shaped s → Shaped t → s ≡ t
 same-state s t r m n =
-    ap₂ (λ (ls : List LineRow) (ts : List Standing). record { lines = ls; tasks = ts })
-    (ext-getD noLine (s .lines) (t .lines) (m .lines ∙ sym (n .lines)) (λ q l. line q (rw (m .lines) at l)))
+    state-same s t
+    (ext-getD noLine (s .lines) (t .lines) (m .lines ∙ sym (n .lines))
+    (λ q b. let l = rw (m .lines) at b in same-line (lineAt s q) (lineAt t q) (r .lines q l) (m .queues q l) (n .queues q l)))
     (ext-getD noStanding (s .tasks) (t .tasks) (m .tasks ∙ sym (n .tasks)) (λ i l. r .tasks i (rw (m .tasks) at l)))
-  where
-    line : (q : ℕ) → q < 16 → lineAt s q ≡ lineAt t q
-    line q l = same-line (lineAt s q) (lineAt t q) (r .lines q l) (m .queues q l) (n .queues q l)
 
 -- lines tell a state of these lengths
-row-long : (l : Rules.Line) → length (lineOf l .queue) ≡ 8
-row-long (Rules.line h b queue) = list-length 8 0 (slotOf queue)
+row-long : (l : Rules.Line) → length (lineOf l .queue) ≡ mostProcessors
+row-long (Rules.line h b queue) = list-length mostProcessors 0 (slotOf queue)
 
 told-shaped : (p : Plan) (s : View) → Shaped (stateOf p s)
 told-shaped p s = record {
-  tasks = list-length 64 0 (standingOf p s);
-  lines = list-length 16 0 (λ q. lineOf (s .lines q));
+  tasks = list-length mostTasks 0 (standingOf p s);
+  lines = list-length mostResources 0 (λ q. lineOf (s .lines q));
   queues = λ q l. rw (line-at p s q l) (row-long (s .lines q));
 }
 

@@ -1,5 +1,6 @@
 -- A sound state shows sound lines, in which nobody stands twice.
 use Rattle.folds.proofs.Ground.{ℕ, zero, suc, _+_, _<_, _≤_, Bool, true, false, true≢false, _≡_, refl, sym, ap, _∙_, _∷_, eqb, length, List·getD-eq-default, arith, eqb-true, ne-eqb}
+use Rattle.sizes.specs.Sizes.{mostResources}
 use Rattle.folds.specs.Below.{maxBelow}
 use Rattle.folds.proofs.Tests.{or-out, is-not-true}
 use Rattle.plan_reading.specs.Plan.{Plan, Valid}
@@ -39,11 +40,10 @@ once-from f (suc c) a h =
 -- nobody stands in a line over ranks twice
 module _ {n : ℕ} {t : Terms} {R : ℕ → ℕ → ℕ} (r : Ranked n t R) where
   turn-once : (k : ℕ) → 1 ≤ maxBelow n (R k) → Once (taskRanked n (R k) 1 ∷ othersOf n (R k))
-  turn-once k a = rw (all-tasks n (R k) a) (once-from (taskRanked n (R k)) (maxBelow n (R k)) 1 (λ i j l b h e. differ i j l b (omega arith) e))
-    where
-      differ : (i j : ℕ) → 1 ≤ i → i < j → j ≤ maxBelow n (R k) → taskRanked n (R k) i ≡ taskRanked n (R k) j → ⊥
-      differ i j l b h e =
-          omega (arith, task-rank n i (R k) (full r k i l (omega arith)), task-rank n j (R k) (full r k j (omega arith) h), ap (R k) e)
+  turn-once k a =
+      let at : (j : ℕ) → 1 ≤ j → j ≤ maxBelow n (R k) → R k (taskRanked n (R k) j) ≡ j = λ j l h. task-rank n j (R k) (full r k j l h) in
+      rw (all-tasks n (R k) a) (once-from (taskRanked n (R k)) (maxBelow n (R k)) 1
+      (λ i j l b h e. omega (arith, at i l (omega arith), at j (omega arith) (omega arith), ap (R k) e)))
 
   each-once : {m c : ℕ} {g : ℕ → ℕ} → Queued n m R c g → (d a : ℕ) → a + d ≤ c → EachOnce (listFrom d a (λ i. turnOf n R (g i)))
   unfolding listFrom
@@ -57,13 +57,11 @@ module _ {n m : ℕ} {t : Terms} {R : ℕ → ℕ → ℕ} (known : ℕ → Bool
   turn-owns k a = record {
     each = λ i e. among-out i (taskRanked n (R k)) (maxBelow n (R k)) 1 _ (ap (among i) (sym (all-tasks n (R k) a)) ∙ e)
         (λ j p l f. let b = full r k j p (omega arith) in
-        task i j p (rw f at b) (rw f at (task-rank n j (R k) b)));
+        let low : i < n = rw f at b in
+        let ranked : R k i ≡ j = rw f at (task-rank n j (R k) b) in
+        let o : k ≡ t .processor i = owner r k i low (omega arith) in
+        (sym o, user i (r .uses i low (rw (← o) (omega arith)))));
   }
-    where
-      task : (i j : ℕ) → 1 ≤ j → i < n → R k i ≡ j → (t .processor i ≡ k) × (known i ≡ true)
-      task i j p l e =
-          let o : k ≡ t .processor i = owner r k i l (omega arith) in
-          (sym o, user i (r .uses i l (rw (← o) (omega arith))))
 
   module _ {c : ℕ} {g : ℕ → ℕ} (w : Queued n m R c g) where
     -- nobody behind slot x has its processor
@@ -88,13 +86,13 @@ module _ {n m : ℕ} {t : Terms} {R : ℕ → ℕ → ℕ} (known : ℕ → Bool
       is-held (record { runs = x .0; lent = x .1; covered = x .2; budgeted = x .3 }) (proper w (suc c) 0 (omega arith))
 
 -- past the last line nobody stands
-pub shown-orderly : (p : Plan) → Valid p → (s : State) → length (s .lines) ≡ 16 → sound p s ≡ true → Orderly p (shows p s)
+pub shown-orderly : (p : Plan) → Valid p → (s : State) → length (s .lines) ≡ mostResources → sound p s ≡ true → Orderly p (shows p s)
 unfolding shows listFrom
 shown-orderly p v s long h = record { sound = λ q. at q .0; once = λ q. at q .1 }
   where
     at : (q : ℕ) → SoundAt p q (shows p s .lines q) × EachOnce (queueOf (shows p s .lines q))
     at q =
-        on-le (SoundAt p q (shows p s .lines q) × EachOnce (queueOf (shows p s .lines q))) 16 q
+        on-le (SoundAt p q (shows p s .lines q) × EachOnce (queueOf (shows p s .lines q))) mostResources q
         (λ l. rw (List·getD-eq-default (s .lines) noLine {n = q} (rw long l)) (is-free, empty))
         (λ l. let w = whole-of p v s h .lines q l in
         let user : (u : ℕ) → 1 ≤ holdAt p u q → known p q u ≡ true = λ u a. hold-user p v u q a in

@@ -1,5 +1,6 @@
 -- A sound state is told by what it shows: each row of a resource, and each row of a task.
-use Rattle.folds.proofs.Ground.{ℕ, zero, suc, _+_, _<_, _≤_, Bool, true, false, cond, not, _≡_, refl, sym, ap, _∙_, _⊎_, inl, inr, _≢_, List, eqb, leb, length, arith, eq-eqb, ne-eqb, lt-ltb, le-ltb, le-leb, lt-leb}
+use Rattle.folds.proofs.Ground.{ℕ, zero, suc, _+_, _<_, _≤_, Bool, true, false, cond, not, _≡_, refl, sym, ap, _∙_, ⊎-elim, _≢_, List, eqb, leb, length, arith, eq-eqb, ne-eqb, lt-ltb, le-ltb, le-leb, lt-leb}
+use Rattle.sizes.specs.Sizes.{mostProcessors, mostTasks, mostResources}
 use Rattle.folds.specs.Below.{maxBelow}
 use Rattle.folds.proofs.Tests.{all-from, find-none}
 use Rattle.folds.proofs.Figures.{max-at}
@@ -7,7 +8,7 @@ use Rattle.folds.proofs.Searches.{on-eq, on-le, find-is}
 use Rattle.plan_reading.specs.Plan.{Plan, Valid}
 use Rattle.analysis_equations.specs.Sharing.{processorOf}
 use Rattle.analysis_equations.specs.HoldTimes.{holdAt}
-use Rattle.queue_rules.specs.Rules.{Turn, queueOf, inLine, tasksOf, aheadOf}
+use Rattle.queue_rules.specs.Rules.{queueOf, inLine, tasksOf, aheadOf}
 use Rattle.machine_rules.specs.Machine.{View}
 use Rattle.queue_ranks.specs.Ranks.{listFrom, taskRanked, turnOf, queueFrom}
 use Rattle.queue_ranks.proofs.Lists.{list-length, list-get}
@@ -16,16 +17,16 @@ use Rattle.queue_ranks.proofs.Reading.{tasks-in, in-line, out-line}
 use Rattle.machine_state.specs.declared.Standing.{Standing}
 use Rattle.machine_state.specs.declared.LineRow.{LineRow}
 use Rattle.machine_state.specs.declared.State.{State}
-use Rattle.machine_state.specs.Shows.{noStanding, noLine, noneInLine, standing, lineAt, slot, rank, shows}
+use Rattle.machine_state.specs.Shows.{noStanding, noLine, noneInLine, inLineAt, standing, lineAt, slot, rank, shows}
 use Rattle.machine_state.specs.Sound.{sound}
 use Rattle.machine_state.specs.Rows.{slotOf, lineOf, resourceOf, placeOf, standingOf, stateOf}
 use Rattle.machine_state.proofs.Good.{Good, Whole}
-use Rattle.machine_state.proofs.Wholes.{row-same, rank-own, holder-low, hold-resource, whole-of}
+use Rattle.machine_state.proofs.Wholes.{row-same, rank-own, hold-task, hold-resource, whole-of}
 
 -- two rows of a resource that agree in what the struct has room for
 pub record SameRow (a b : LineRow) : Type 0 where
   pub queued : a .queued ≡ b .queued
-  pub slots : (j : ℕ) → j < 8 → slot a j ≡ slot b j
+  pub slots : (j : ℕ) → j < mostProcessors → slot a j ≡ slot b j
   pub hold : a .«hold_left» ≡ b .«hold_left»
   pub budget : a .«budget_left» ≡ b .«budget_left»
 
@@ -56,33 +57,25 @@ ahead-from i f (suc c) a j b l e h =
 
 module _ (p : Plan) (v : Valid p) (s : State) (w : Whole p s) where
   -- ── the row of a resource ──
-  line-told : (q : ℕ) → q < 16 → SameRow (lineAt s q) (lineOf (shows p s .lines q))
+  line-told : (q : ℕ) → q < mostResources → SameRow (lineAt s q) (lineOf (shows p s .lines q))
   unfolding shows
-  line-told q l = record {
-    queued = sym (list-length (row .queued) 0 (λ i. turnOf (p .tasks) ranks (slot row i)));
-    slots = λ j b. each j b ∙ sym (list-get 8 0 j j (slotOf queue) 0 (omega arith) b);
-    hold = refl;
-    budget = refl;
-  }
-    where
-      row : LineRow
-      row = lineAt s q
-
-      ranks : ℕ → ℕ → ℕ
-      ranks = rank p (s .tasks) q
-
-      queue : List Turn
-      queue = queueFrom (p .tasks) ranks (row .queued) (slot row)
-
-      each : (j : ℕ) → j < 8 → slot row j ≡ slotOf queue j
-      each j b =
-          on-le (slot row j ≡ slotOf queue j) (row .queued) j
-          (λ a. w .lines q l .rest j a b ∙ sym (slot-none (p .tasks) ranks (slot row) (row .queued) 0 j a))
-          (λ a. sym (slot-there (p .tasks) ranks (slot row) (row .queued) 0 j j (omega arith) a))
+  line-told q l =
+      let row = lineAt s q in
+      let ranks = rank p (s .tasks) q in
+      let queue = queueFrom (p .tasks) ranks (row .queued) (slot row) in
+      record {
+        queued = sym (list-length (row .queued) 0 (λ i. turnOf (p .tasks) ranks (slot row i)));
+        slots = λ j b. on-le (slot row j ≡ slotOf queue j) (row .queued) j
+            (λ a. w .lines q l .rest j a b ∙ sym (slot-none (p .tasks) ranks (slot row) (row .queued) 0 j a))
+            (λ a. sym (slot-there (p .tasks) ranks (slot row) (row .queued) 0 j j (omega arith) a))
+            ∙ sym (list-get mostProcessors 0 j j (slotOf queue) 0 (omega arith) b);
+        hold = refl;
+        budget = refl;
+      }
 
   -- ── the row of a task ──
   -- the tasks of processor k in line for q
-  pub ahead-list : (q k : ℕ) → q < 16
+  pub ahead-list : (q k : ℕ) → q < mostResources
       → tasksOf k (queueOf (shows p s .lines q)) ≡ listFrom (maxBelow (p .tasks) (rank p (s .tasks) q k)) 1 (taskRanked (p .tasks) (rank p (s .tasks) q k))
   unfolding shows
   ahead-list q k l = tasks-in (w .lines q l .queued) k
@@ -110,82 +103,61 @@ module _ (p : Plan) (v : Valid p) (s : State) (w : Whole p s) where
     row = standing (s .tasks) i
 
     -- a task in line
-    place-is : i < p .tasks → row .resource < 16 → placeOf p (shows p s) i (row .resource) ≡ row .place
+    place-is : i < p .tasks → row .resource < mostResources → placeOf p (shows p s) i (row .resource) ≡ row .place
     place-is lt l =
-        ap (λ (us : List ℕ). length (aheadOf i us)) (ahead-list (row .resource) (processorOf p i) l) ∙ omega (arith, count)
-      where
-        ranks : ℕ → ℕ
-        ranks = rank p (s .tasks) (row .resource) (processorOf p i)
+        let k = processorOf p i in
+        let ranks : ℕ → ℕ = rank p (s .tasks) (row .resource) k in
+        let r = w .lines (row .resource) l .ranked in
+        let own : ranks i ≡ row .place + 1 = rank-own p (s .tasks) i in
+        let most : row .place + 1 ≤ maxBelow (p .tasks) ranks = omega (arith, max-at (p .tasks) i ranks lt) in
+        let at : taskRanked (p .tasks) ranks (row .place + 1) ≡ i = rw (← own) (sole r k i lt (omega arith)) in
+        let count = ahead-from i (taskRanked (p .tasks) ranks) (maxBelow (p .tasks) ranks) 1 (row .place + 1) (omega arith) (omega arith) at
+        (λ j b a e. omega (arith, ap ranks e, task-rank (p .tasks) j ranks (full r k j a (omega arith)))) in
+        ap (λ (us : List ℕ). length (aheadOf i us)) (ahead-list (row .resource) k l) ∙ omega (arith, count)
 
-        own : ranks i ≡ row .place + 1
-        own = rank-own p (s .tasks) i
-
-        most : row .place + 1 ≤ maxBelow (p .tasks) ranks
-        most = omega (arith, own, max-at (p .tasks) i ranks lt)
-
-        at : taskRanked (p .tasks) ranks (row .place + 1) ≡ i
-        at = rw (← own) (sole (w .lines (row .resource) l .ranked) (processorOf p i) i lt (omega (arith, own)))
-
-        before : (k : ℕ) → k < row .place + 1 → 1 ≤ k → taskRanked (p .tasks) ranks k ≢ i
-        before k b a e =
-            let there = full (w .lines (row .resource) l .ranked) (processorOf p i) k a (omega (arith, most)) in
-            omega (arith, own, ap ranks e, task-rank (p .tasks) k ranks there)
-
-        count : length (aheadOf i (listFrom (maxBelow (p .tasks) ranks) 1 (taskRanked (p .tasks) ranks))) + 1 ≡ row .place + 1
-        count = ahead-from i (taskRanked (p .tasks) ranks) (maxBelow (p .tasks) ranks) 1 (row .place + 1) (omega arith) (omega (arith, most)) at before
-
-    row-in : 1 ≤ holdAt p i (row .resource) → i < p .tasks → row ≡ standingOf p (shows p s) i
+    row-in : 1 ≤ holdAt p i (row .resource) → row ≡ standingOf p (shows p s) i
     unfolding standingOf resourceOf
-    row-in h lt =
-        let l : row .resource < p .resources = hold-resource p v i (row .resource) h in
+    row-in h =
+        let lt = hold-task p v i (row .resource) h in
+        let l = hold-resource p v i (row .resource) h in
         let found = find-is (p .resources) (row .resource) (λ q. inLine i (shows p s .lines q)) l
         (stands-is i lt (row .resource) l ∙ eq-eqb (row .resource) _ refl)
         (λ q b. stands-is i lt q (omega arith) ∙ ne-eqb (row .resource) q (λ e. omega arith)) in
         rw (found, lt-ltb (row .resource) (p .resources) l)
-        (row-same row (record { resource = row .resource; place = placeOf p (shows p s) i (row .resource) }) refl
-        (sym (place-is lt (omega (arith, v .resources)))))
+        (row-same row (inLineAt (row .resource) (placeOf p (shows p s) i (row .resource))) refl (sym (place-is lt (omega (arith, v .resources)))))
 
-    row-out : ((q : ℕ) → q < p .resources → inLine i (shows p s .lines q) ≡ false) → standingOf p (shows p s) i ≡ noneInLine
+    row-out : row ≡ noneInLine → row ≡ standingOf p (shows p s) i
     unfolding standingOf resourceOf
-    row-out h =
-        let test : ℕ → Bool = λ q. inLine i (shows p s .lines q) in
-        let none = find-none (p .resources) test (all-from (p .resources) (λ q. not (test q)) (λ q l. ap not (h q l))) in
-        rw (none, le-ltb (p .resources) (p .resources) (omega arith))
+    row-out e =
+        let away : (q : ℕ) → q < p .resources → row .resource ≢ q = λ q b z. omega (arith, ap (λ (r : Standing). r .resource) e, v .resources) in
+        let none = find-none (p .resources) (λ q. inLine i (shows p s .lines q))
+        (all-from (p .resources) (λ q. not (inLine i (shows p s .lines q)))
+        (λ q b. ap not (on-le (inLine i (shows p s .lines q) ≡ false) (p .tasks) i (λ past. stands-not i past q b)
+        (λ lt. stands-is i lt q b ∙ ne-eqb (row .resource) q (away q b))))) in
+        rw (none, le-ltb (p .resources) (p .resources) (omega arith)) e
 
-    row-told : i < 64 → row ≡ standingOf p (shows p s) i
-    row-told l = told (w .rows i l)
-      where
-        none : row ≡ noneInLine → (q : ℕ) → q < p .resources → inLine i (shows p s .lines q) ≡ false
-        none e q b =
-            let away : row .resource ≢ q = λ z. omega (arith, ap (λ (r : Standing). r .resource) e, v .resources) in
-            on-le (inLine i (shows p s .lines q) ≡ false) (p .tasks) i (λ past. stands-not i past q b)
-            (λ lt. stands-is i lt q b ∙ ne-eqb (row .resource) q away)
-
-        told : (row ≡ noneInLine) ⊎ (1 ≤ holdAt p i (row .resource)) → row ≡ standingOf p (shows p s) i
-        told (inl e) = e ∙ sym (row-out (none e))
-        told (inr h) = row-in h (holder-low p v i (row .resource) h .0)
+    row-told : i < mostTasks → row ≡ standingOf p (shows p s) i
+    row-told l = ⊎-elim row-out row-in (w .rows i l)
 
 -- ── the whole state ──
 -- the rows of the state that some lines tell
 module _ (p : Plan) (s : View) where
-  pub line-at : (q : ℕ) → q < 16 → lineAt (stateOf p s) q ≡ lineOf (s .lines q)
-  line-at q l = list-get 16 0 q q (λ r. lineOf (s .lines r)) noLine (omega arith) l
+  pub line-at : (q : ℕ) → q < mostResources → lineAt (stateOf p s) q ≡ lineOf (s .lines q)
+  line-at q l = list-get mostResources 0 q q (λ r. lineOf (s .lines r)) noLine (omega arith) l
 
-  standing-at : (i : ℕ) → i < 64 → standing (stateOf p s .tasks) i ≡ standingOf p s i
-  standing-at i l = list-get 64 0 i i (standingOf p s) noStanding (omega arith) l
+  standing-at : (i : ℕ) → i < mostTasks → standing (stateOf p s .tasks) i ≡ standingOf p s i
+  standing-at i l = list-get mostTasks 0 i i (standingOf p s) noStanding (omega arith) l
 
 -- two states that agree in all rows that the struct has room for
 pub record SameRows (s t : State) : Type 0 where
-  pub lines : (q : ℕ) → q < 16 → SameRow (lineAt s q) (lineAt t q)
-  pub tasks : (i : ℕ) → i < 64 → standing (s .tasks) i ≡ standing (t .tasks) i
+  pub lines : (q : ℕ) → q < mostResources → SameRow (lineAt s q) (lineAt t q)
+  pub tasks : (i : ℕ) → i < mostTasks → standing (s .tasks) i ≡ standing (t .tasks) i
 
 -- what a sound state shows tells all of it
 pub rows-told : (p : Plan) → Valid p → (s : State) → sound p s ≡ true → SameRows s (stateOf p (shows p s))
 rows-told p v s h =
+    let w = whole-of p v s h in
     record {
       lines = λ q l. rw (line-at p (shows p s) q l) (line-told p v s w q l);
       tasks = λ i l. row-told p v s w i l ∙ sym (standing-at p (shows p s) i l);
     }
-  where
-    w : Whole p s
-    w = whole-of p v s h

@@ -1,9 +1,10 @@
 -- The state by value, and what it shows: for each resource a line by the rules.
 use Prim.Native.Nat.{ℕ, _+_, _-_}
-use mathlib.Core.Bool.{cond, _&&_}
+use mathlib.Core.Bool.{Bool, cond, _&&_}
 use mathlib.Core.List.{List, []}
 use lib.Dec.{eqb}
 use lib.ListN.{getD, replicate}
+use Rattle.sizes.specs.Sizes.{mostProcessors, mostTasks, mostResources, absent}
 use Rattle.plan_reading.specs.Plan.{Plan}
 use Rattle.analysis_equations.specs.Sharing.{processorOf}
 use Rattle.queue_rules.specs.Rules as Rules
@@ -48,7 +49,11 @@ shows p s = record { lines = λ q. shownLine p (s .tasks) q (lineAt s q) }
 
 -- the filling of the row of a task that is in line for nothing
 abbrev pub noneInLine : Standing
-noneInLine = record { resource = 255; place = 255 }
+noneInLine = record { resource = absent; place = absent }
+
+-- a row with that filling
+abbrev pub isIdle : Standing → Bool
+isIdle s = eqb (s .resource) absent && eqb (s .place) absent
 
 -- the row of a task in line for q, in this place of its processor's queue
 abbrev pub inLineAt : ℕ → ℕ → Standing
@@ -60,8 +65,8 @@ movedUp s = record { resource = s .resource; place = s .place - 1 }
 
 -- the filling of the row of a free resource
 abbrev pub freeLine : LineRow
-freeLine = record { queued = 0; queue = replicate 8 255; «hold_left» = 0; «budget_left» = 0 }
+freeLine = record { queued = 0; queue = replicate mostProcessors absent; «hold_left» = 0; «budget_left» = 0 }
 
 -- "A fresh state has nobody in line."
 abbrev pub freshState : State
-freshState = record { lines = replicate 16 freeLine; tasks = replicate 64 noneInLine }
+freshState = record { lines = replicate mostResources freeLine; tasks = replicate mostTasks noneInLine }

@@ -7,6 +7,7 @@ use Prim.Native.Nat.{ℕ}
 use mathlib.Core.Bool.{Bool, cond, _&&_, _||_, not}
 use mathlib.Core.List.{List}
 use lib.Dec.{eqb, leb, ltb}
+use Rattle.sizes.specs.Sizes.{mostProcessors, mostTasks, mostResources, absent}
 use Rattle.folds.specs.Below.{allBelow, anyBelow}
 use Rattle.plan_reading.specs.Plan.{Plan}
 use Rattle.analysis_equations.specs.Sharing.{processorOf, uses, global}
@@ -15,12 +16,12 @@ use Rattle.queue_ranks.specs.Ranks.{taskRanked}
 use Rattle.machine_state.specs.declared.Standing.{Standing}
 use Rattle.machine_state.specs.declared.LineRow.{LineRow}
 use Rattle.machine_state.specs.declared.State.{State}
-use Rattle.machine_state.specs.Shows.{standing, lineAt, slot, rank}
+use Rattle.machine_state.specs.Shows.{standing, lineAt, slot, rank, isIdle}
 
 module _ (p : Plan) (ts : List Standing) where
   -- task u is in line for nothing
   abbrev pub idle : ℕ → Bool
-  idle u = eqb (standing ts u .resource) 255 && eqb (standing ts u .place) 255
+  idle u = isIdle (standing ts u)
 
   -- the rank of task v in the queue in which u stands
   abbrev pub beside : ℕ → ℕ → ℕ
@@ -45,7 +46,7 @@ module _ (p : Plan) (ts : List Standing) where
   -- slot i of the queue of q: below the count a processor "with a task in line", "just once"; from there on the filling
   unfoldable pub slotFits : ℕ → LineRow → ℕ → Bool
   slotFits q l i =
-      cond (ltb i (l .queued)) (serves q (slot l i) && allBelow i (λ j. not (eqb (slot l j) (slot l i)))) (eqb (slot l i) 255)
+      cond (ltb i (l .queued)) (serves q (slot l i) && allBelow i (λ j. not (eqb (slot l j) (slot l i)))) (eqb (slot l i) absent)
 
   -- "each processor with a task in line" is queued
   unfoldable pub coreFits : ℕ → LineRow → ℕ → Bool
@@ -64,8 +65,9 @@ module _ (p : Plan) (ts : List Standing) where
 
   -- the row of resource q
   unfoldable pub lineFits : ℕ → LineRow → Bool
-  lineFits q l = leb (l .queued) 8 && allBelow 8 (slotFits q l) && (allBelow (p .processors) (coreFits q l) && clockFits q l)
+  lineFits q l =
+      leb (l .queued) mostProcessors && allBelow mostProcessors (slotFits q l) && (allBelow (p .processors) (coreFits q l) && clockFits q l)
 
 -- the state is sound
 unfoldable pub sound : Plan → State → Bool
-sound p s = allBelow 64 (taskFits p (s .tasks)) && allBelow 16 (λ q. lineFits p (s .tasks) q (lineAt s q))
+sound p s = allBelow mostTasks (taskFits p (s .tasks)) && allBelow mostResources (λ q. lineFits p (s .tasks) q (lineAt s q))

@@ -1,22 +1,40 @@
 // The state of the machine by value, the test whether it is sound, and the tables by which a call looks it up. The functions here
 // are for the crates above: each says in its `requires` what it relies on.
 ghost use mathlib.Core.Path.{_≡_};
-ghost use mathlib.Core.Bool.{_&&_, not};
-ghost use Prim.Native.Nat.{ℕ, _*_, _≤_, _<_};
-ghost use lib.ListN.{length, getD, replicate};
+ghost use mathlib.Core.Bool.{not};
+ghost use Prim.Native.Nat.{_≤_};
+ghost use lib.ListN.{replicate};
 ghost use lib.Dec.{eqb};
+ghost use Rattle.sizes.specs.Sizes.{mostProcessors, absent};
 ghost use Rattle.folds.specs.Below.{allBelow};
-ghost use Rattle.folds.specs.Bytes.{number, placedBelow};
+ghost use Rattle.folds.specs.Bytes.{placedBelow};
 ghost use Rattle.plan_reading.specs.Plan.{planOf, Checked};
 ghost use Rattle.analysis_figures.specs.Figures.{Known};
-ghost use Rattle.machine_state.specs.Shows.{freshState, noLine, standing, noneInLine, inLineAt, movedUp};
-ghost use Rattle.machine_state.specs.Inner.{seat, seatCount, Keys, Seats, taskTest, firstSeat, tailTest, queueTest, clockTest, freeTest, lineTest, stateTest};
-ghost use Rattle.machine_state.specs.Inner.{tasksTest, linesTest, InQueue, Unseated, SeatSized, Sized, TaskSeat, QueueRow, HeadRow, SeatedState};
+ghost use Rattle.machine_state.specs.Shows.{freshState, noneInLine, isIdle, inLineAt, movedUp};
+ghost use Rattle.machine_state.specs.Inner.{seat, seatCount, Keys, Seats, firstSeat, taskTest, tasksTest, tailTest, queueTest};
+ghost use Rattle.machine_state.specs.Inner.{clockTest, freeTest, lineTest, linesTest, stateTest, InQueue, Unseated, SeatTable};
+ghost use Rattle.machine_state.specs.Inner.{SeatSized, Sized, TaskSeat, QueueCount, QueueRow, LineTables, HeadRow, EightBytes};
+ghost use Rattle.machine_state.specs.Inner.{SeatedState};
 
 // The seats of all queues of tasks, and one for those who are in none.
 pub const SEATS: usize = sizes::RESOURCES * sizes::PROCESSORS * sizes::TASKS + 1;
 
-const NO_SEAT: u16 = 8192;
+// The last of them.
+const NO_SEAT: u16 = (SEATS - 1) as u16;
+
+// The seats of one queue, the queues for one resource, and the seats of those.
+const PLACES: u16 = sizes::TASKS as u16;
+
+const QUEUES: u16 = sizes::PROCESSORS as u16;
+
+const RESOURCE_SEATS: usize = sizes::PROCESSORS * sizes::TASKS;
+
+// Sizes as bytes.
+const TASKS: u8 = sizes::TASKS as u8;
+
+const RESOURCES: u8 = sizes::RESOURCES as u8;
+
+const PROCESSORS: u8 = sizes::PROCESSORS as u8;
 
 // A task: the resource it is in line for, and its place in its processor's queue for it, from 0; 255 and 255 for none.
 pub struct Standing {
@@ -74,14 +92,14 @@ pub fn moved_up(s: Standing) -> Standing
 
 // Whether a row has the filling of one that is in line for nothing.
 fn is_idle(s: Standing) -> bool
-    ensures { λ r. ⌜ r ≡ (eqb (s .resource) 255 && eqb (s .place) 255) ⌝ }
+    ensures { λ r. ⌜ r ≡ isIdle s ⌝ }
 {
     (s.resource == sizes::ABSENT) & (s.place == sizes::ABSENT)
 }
 
 // Whether a task of a sound state is in line for something.
 pub fn is_in_line(s: Standing) -> bool
-    ensures { λ r. ⌜ r ≡ not (eqb (s .resource) 255) ⌝ }
+    ensures { λ r. ⌜ r ≡ not (eqb (s .resource) absent) ⌝ }
 {
     s.resource != sizes::ABSENT
 }
@@ -108,23 +126,23 @@ fn seat_of(s: Standing, processor: u8) -> u16
     requires { ⌜ InQueue s processor ⌝ }
     ensures { λ r. ⌜ r ≡ seat (s .resource) processor (s .place) ⌝ }
 {
-    let queue = folds::half(s.resource) * 8 + folds::half(processor);
-    queue * 64 + folds::half(s.place)
+    let queue = folds::half(s.resource) * QUEUES + folds::half(processor);
+    queue * PLACES + folds::half(s.place)
 }
 
 // The seats of the tasks; those in no queue have none.
-fn key_table(file: &[u8], tasks: [Standing; 64]) -> [u16; 64]
+fn key_table(file: &[u8], tasks: [Standing; sizes::TASKS]) -> [u16; sizes::TASKS]
     requires { ⌜ Checked (now file) ⌝ }
     ensures { λ r. ⌜ Keys (planOf (now (file .entry))) tasks r ⌝ }
 {
     let counts = plan_reading::checked::counts(file);
     let n = folds::wide(counts.tasks);
-    let mut keys = [NO_SEAT; 64];
+    let mut keys = [NO_SEAT; sizes::TASKS];
     let mut u = 0;
     while u < n {
         let row = plan_reading::checked::task(file, u);
         let s = tasks[u];
-        if (s.resource < 16) & (s.place < 64) {
+        if (s.resource < RESOURCES) & (s.place < TASKS) {
             keys[u] = seat_of(s, row.processor);
         }
         u += 1;
@@ -133,7 +151,7 @@ fn key_table(file: &[u8], tasks: [Standing; 64]) -> [u16; 64]
 }
 
 // Puts down who sits where, each as its number plus 1, where nobody sat.
-fn fill_seats(file: &[u8], tasks: [Standing; 64], keys: &[u16], seats: &mut [u8])
+fn fill_seats(file: &[u8], tasks: [Standing; sizes::TASKS], keys: &[u16], seats: &mut [u8])
     requires { ⌜ Unseated (now file) tasks (now keys) (now seats) ⌝ }
     ensures { λ u. ⌜ Seats (planOf (now (file .entry))) tasks (now (seats .exit)) ⌝ }
 {
@@ -157,21 +175,21 @@ fn task_ok(figures: &[u16], seats: &[u8], s: Standing, key: u16, u: usize, base:
         return is_idle(s);
     }
     let at = key as usize;
-    let hold = figures[(base + at) / 512];
+    let hold = figures[(base + at) / RESOURCE_SEATS];
     let own = seats[at];
-    let back = (0 < at % 64) as usize;
+    let back = (0 < at % sizes::TASKS) as usize;
     (1 <= hold) & (folds::wide(own) == u + 1) & (1 <= seats[at - back])
 }
 
 // Whether all are.
-fn tasks_ok(tasks: [Standing; 64], figures: &[u16], keys: &[u16], seats: &[u8]) -> bool
+fn tasks_ok(tasks: [Standing; sizes::TASKS], figures: &[u16], keys: &[u16], seats: &[u8]) -> bool
     requires { ⌜ Sized (now figures) (now keys) (now seats) ⌝ }
     ensures { λ r. ⌜ r ≡ tasksTest (now (figures .entry)) (now (keys .entry)) (now (seats .entry)) tasks ⌝ }
 {
     let mut ok = true;
     let mut u = 0;
     let mut base = 0;
-    while u < 64 {
+    while u < sizes::TASKS {
         let s = tasks[u];
         let fits = task_ok(figures, seats, s, keys[u], u, base);
         ok = ok & fits;
@@ -183,7 +201,7 @@ fn tasks_ok(tasks: [Standing; 64], figures: &[u16], keys: &[u16], seats: &[u8]) 
 
 // Eight bytes as one number, low byte first: all of them are tested at once.
 fn eight(b: [u8; 8]) -> u64
-    ensures { λ r. ⌜ (r ≡ number 8 b 0) × ((k : ℕ) → k < 8 → getD b k 0 < 256) ⌝ }
+    ensures { λ r. ⌜ EightBytes b r ⌝ }
 {
     let first = folds::byte(b[0]) + 256 * folds::byte(b[1]);
     let second = folds::byte(b[2]) + 256 * folds::byte(b[3]);
@@ -193,38 +211,38 @@ fn eight(b: [u8; 8]) -> u64
 }
 
 // Who has the first seat of each processor's queue for q.
-fn first_seats(seats: &[u8], q: usize, first: &mut [u8; 8])
-    requires { ⌜ (length (now seats) ≡ seatCount) × (q < 16) ⌝ }
-    ensures { λ u. ⌜ now (first .exit) ≡ placedBelow 8 (firstSeat (now (seats .entry)) q) (now (first .entry)) ⌝ }
+fn first_seats(seats: &[u8], q: usize, first: &mut [u8; sizes::PROCESSORS])
+    requires { ⌜ SeatTable (now seats) q ⌝ }
+    ensures { λ u. ⌜ now (first .exit) ≡ placedBelow mostProcessors (firstSeat (now (seats .entry)) q) (now (first .entry)) ⌝ }
 {
     let mut k = 0;
-    while k < 8 {
-        first[k] = seats[(q * 8 + k) * 64];
+    while k < sizes::PROCESSORS {
+        first[k] = seats[(q * sizes::PROCESSORS + k) * sizes::TASKS];
         k += 1;
     }
 }
 
 // Whether the slots of a queue from c on are empty: then their number is less than 256 ^ c below the largest.
-fn tail_ok(queue: [u8; 8], c: u8) -> bool
-    requires { ⌜ (1 ≤ c) × (c ≤ 8) ⌝ }
+fn tail_ok(queue: [u8; sizes::PROCESSORS], c: u8) -> bool
+    requires { ⌜ QueueCount c ⌝ }
     ensures { λ r. ⌜ r ≡ tailTest queue c ⌝ }
 {
-    let taken = 18446744073709551615 - eight(queue);
+    let taken = u64::MAX - eight(queue);
     (taken >> (8 * folds::byte(c) - 8)) < 256
 }
 
 // Whether a queue of c for q is as it must be: each processor in it is struck off those with a task in line, and none is left.
-fn queue_ok(queue: [u8; 8], c: u8, seats: &[u8], q: usize) -> bool
+fn queue_ok(queue: [u8; sizes::PROCESSORS], c: u8, seats: &[u8], q: usize) -> bool
     requires { ⌜ QueueRow (now seats) q c ⌝ }
     ensures { λ r. ⌜ r ≡ queueTest (now (seats .entry)) q queue c ⌝ }
 {
-    let mut rest = [0u8; 8];
+    let mut rest = [0u8; sizes::PROCESSORS];
     first_seats(seats, q, &mut rest);
     let n = folds::wide(c);
     let mut i = 0;
     while i < n {
         let k = folds::wide(queue[i]);
-        if 8 <= k {
+        if sizes::PROCESSORS <= k {
             return false;
         }
         if rest[k] == 0 {
@@ -248,7 +266,7 @@ fn clock_ok(line: LineRow, figures: &[u16], seats: &[u8], q: usize) -> bool
     }
     let queue = line.queue;
     let head = folds::wide(queue[0]);
-    let first = folds::wide(seats[(q * 8 + head) * 64]) - 1;
+    let first = folds::wide(seats[(q * sizes::PROCESSORS + head) * sizes::TASKS]) - 1;
     let most = analysis_figures::hold_at(figures, first, q);
     let budget = analysis_figures::budget_at(figures, head, q);
     (1 <= left) & (left <= most) & (left <= rest) & (rest <= budget)
@@ -256,13 +274,13 @@ fn clock_ok(line: LineRow, figures: &[u16], seats: &[u8], q: usize) -> bool
 
 // Whether nobody has the first seat of a processor's queue for q.
 fn none_waits(seats: &[u8], q: usize) -> bool
-    requires { ⌜ (length (now seats) ≡ seatCount) × (q < 16) ⌝ }
-    ensures { λ r. ⌜ r ≡ allBelow 8 (λ k. eqb (firstSeat (now (seats .entry)) q k) 0) ⌝ }
+    requires { ⌜ SeatTable (now seats) q ⌝ }
+    ensures { λ r. ⌜ r ≡ allBelow mostProcessors (λ k. eqb (firstSeat (now (seats .entry)) q k) 0) ⌝ }
 {
     let mut ok = true;
     let mut k = 0;
-    while k < 8 {
-        ok = ok & (seats[(q * 8 + k) * 64] == 0);
+    while k < sizes::PROCESSORS {
+        ok = ok & (seats[(q * sizes::PROCESSORS + k) * sizes::TASKS] == 0);
         k += 1;
     }
     ok
@@ -270,23 +288,23 @@ fn none_waits(seats: &[u8], q: usize) -> bool
 
 // Whether the row of a free resource q is as it must be.
 fn free_ok(line: LineRow, seats: &[u8], q: usize) -> bool
-    requires { ⌜ (length (now seats) ≡ seatCount) × (q < 16) ⌝ }
+    requires { ⌜ SeatTable (now seats) q ⌝ }
     ensures { λ r. ⌜ r ≡ freeTest (now (seats .entry)) q line ⌝ }
 {
     let queue = line.queue;
-    let empty = eight(queue) == 18446744073709551615;
+    let empty = eight(queue) == u64::MAX;
     empty & none_waits(seats, q) & (line.hold_left == 0) & (line.budget_left == 0)
 }
 
 // Whether the row of resource q is as it must be.
 fn line_ok(line: LineRow, figures: &[u16], seats: &[u8], q: usize) -> bool
-    requires { ⌜ (SeatSized (now figures) (now seats)) × (q < 16) ⌝ }
+    requires { ⌜ LineTables (now figures) (now seats) q ⌝ }
     ensures { λ r. ⌜ r ≡ lineTest (now (figures .entry)) (now (seats .entry)) q line ⌝ }
 {
     if line.queued == 0 {
         return free_ok(line, seats, q);
     }
-    if line.queued <= 8 {
+    if line.queued <= PROCESSORS {
         let queue = line.queue;
         if queue_ok(queue, line.queued, seats, q) {
             return clock_ok(line, figures, seats, q);
@@ -296,12 +314,12 @@ fn line_ok(line: LineRow, figures: &[u16], seats: &[u8], q: usize) -> bool
 }
 
 // Whether all are.
-fn lines_ok(lines: [LineRow; 16], figures: &[u16], seats: &[u8]) -> bool
+fn lines_ok(lines: [LineRow; sizes::RESOURCES], figures: &[u16], seats: &[u8]) -> bool
     requires { ⌜ SeatSized (now figures) (now seats) ⌝ }
     ensures { λ r. ⌜ r ≡ linesTest (now (figures .entry)) (now (seats .entry)) lines ⌝ }
 {
     let mut q = 0;
-    while q < 16 {
+    while q < sizes::RESOURCES {
         let line = lines[q];
         if !line_ok(line, figures, seats, q) {
             return false;

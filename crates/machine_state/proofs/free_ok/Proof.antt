@@ -8,9 +8,8 @@ use Rattle.machine_state.proofs.free_ok.Tie as tie
 returns : tie.Need-returns
 unfolding freeTest
 returns c =
-    let a = c .before .before .before .before .before .before .args in
-    let number = c .before .before .before .eight .ensures in
-    rw (number .0, c .before .before .none-waits .ensures, whole-tail (a .line .queue) (number .1) 0 (omega arith) refl)
+    let bytes = c .before .before .before .eight .ensures in
+    rw (bytes .is, c .before .before .none-waits .ensures, whole-tail _ (bytes .low) 0 (omega arith) refl)
 
 pub free-ok-spec : {M : Type 1} → statement M
 free-ok-spec = tie.close (tie.spec (λ c κs. search needs) (λ c κs. search needs) returns)

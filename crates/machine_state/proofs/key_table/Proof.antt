@@ -1,9 +1,12 @@
 -- The invariant: the seats of the tasks below `u` stand in `keys`.
-use Rattle.folds.proofs.Ground.{_≤_, _-_, _≡_, refl, sym, _∙_, ⊎-elim, getD-replicate, arith, needs}
+use Rattle.folds.proofs.Ground.{_≤_, _-_, _≡_, refl, sym, ap, _∙_, ⊎-elim, getD-replicate, arith, needs}
+use Rattle.sizes.specs.Sizes.{mostTasks}
 use Rattle.folds.specs.Bytes.{placedBelow}
 use Rattle.folds.proofs.Arrays.{placed-step}
-use Rattle.plan_reading.specs.Plan.{planOf}
+use Rattle.plan_rules.specs.declared.TaskRow.{TaskRow}
+use Rattle.plan_reading.specs.Plan.{planOf, Valid}
 use Rattle.plan_reading.proofs.Laws.{valid-plan}
+use Rattle.machine_state.specs.declared.Standing.{Standing}
 use Rattle.machine_state.specs.Shows.{standing}
 use Rattle.machine_state.specs.Inner.{noSeat}
 use Rattle.machine_state.proofs.Tables.{low-processor, keysBelow, keys-done, row-low, key-at, key-off, placed-skip}
@@ -16,46 +19,49 @@ Inv-loop file tasks n keys₀ u₀ keys u = (u ≤ n) × (keys ≡ keysBelow (pl
 abbrev μ-loop : tie.MeasureT-loop
 μ-loop file tasks n keys₀ u₀ keys u = n - u
 
+abbrev start : tie.At-loop Inv-loop μ-loop → tie.Start Inv-loop μ-loop
+start c = c .before .before .before .before
+
+valid : (c : tie.At-loop Inv-loop μ-loop) → Valid (planOf (start c .args .file .now))
+valid c = valid-plan _ (start c .pre)
+
+-- ── once the row of the turn's task is read ──
+abbrev turn : tie.After-task Inv-loop μ-loop → tie.At-loop Inv-loop μ-loop
+turn c = c .before .before
+
+abbrev own : tie.After-task Inv-loop μ-loop → Standing
+own c = standing (start (turn c) .args .t2) (turn c .loop .u)
+
 loop-holds : tie.Need-loop-holds Inv-loop μ-loop
 unfolding placedBelow
 loop-holds c = (omega arith, refl)
 
 seat-of-requires : tie.Need-seat-of-requires Inv-loop μ-loop
 seat-of-requires c κs =
-    let low = c .before .before .before .before in
-    let start = low .before .before .before .before .before .before in
-    let l = low .before .before .loop in
-    let row = row-low (standing (start .args .t2) (l .u)) (c .if1 .taken) in
-    record { core = rw (low .task .ensures) (low-processor _ (valid-plan _ (start .pre)) _ (omega arith)); resource = row .0; place = row .1 }
-
-array-write-keys : tie.Need-array-write-keys Inv-loop μ-loop
-array-write-keys c =
-    let start = c .before .before .before .before .before .before .before .before .before .before .before in
-    omega (arith, valid-plan _ (start .pre) .tasks)
+    let read = c .before .before .before .before in
+    row-low (own read) _ (rw (read .task .ensures) (low-processor _ (valid (turn read)) _ (omega arith))) (c .if1 .taken)
 
 loop-again : tie.Need-loop-again Inv-loop μ-loop
 loop-again c =
-    let low = c .before .before .before .before in
-    let start = low .before .before .before .before .before .before in
-    let l = low .before .before .loop in
-    let s = standing (start .args .t2) (l .u) in
-    let few = valid-plan _ (start .pre) .tasks in (
+    let read = c .before .before .before .before in
+    let l = turn read .loop in
+    let s = own read in
+    let own-core = ap (λ (row : TaskRow). row .processor) (read .task .ensures) in
+    let few = valid (turn read) .tasks in (
       omega arith,
       ⊎-elim
-          (λ t. rw (t .2) (placed-step (l .u) _ _ (l .inv .1) (rw (t .1 .ensures, low .task .ensures, key-at s _ (t .0 .taken)))))
-          (λ t. rw (t .1) (placed-skip (l .u) _ _ (l .inv .1) (key-off s _ (t .0 .left) ∙ sym (getD-replicate 64 (l .u) noSeat 0 (omega arith)))))
+          (λ t. rw (t .2) (placed-step (l .u) _ _ (l .inv .1) (t .1 .ensures ∙ key-at s _ own-core (t .0 .taken))))
+          (λ t. rw (t .1) (placed-skip (l .u) _ _ (l .inv .1)
+          (key-off s _ (t .0 .left) ∙ sym (getD-replicate mostTasks (l .u) noSeat 0 (omega arith)))))
           (c .if1 .came),
     )
-
-returns : tie.Need-returns Inv-loop μ-loop
-returns c =
-    let v = valid-plan _ (c .before .before .before .before .before .pre) in
-    keys-done _ v _ (c .before .loop .u) (omega arith) (c .before .loop .inv .1)
 
 pub key-table-spec : {M : Type 1} → statement M
 key-table-spec =
     tie.close
     (tie.spec
     Inv-loop μ-loop (λ c κs. search needs) (λ c κs. search needs) loop-holds (λ c κs. search needs) (λ c. omega arith)
-    (λ c. omega (arith, valid-plan _ (c .before .before .before .before .before .before .pre) .tasks)) seat-of-requires
-    (λ c. omega arith) array-write-keys (λ c. omega arith) (λ c. omega arith) loop-again returns)
+    (λ c. omega (arith, valid (turn c) .tasks)) seat-of-requires (λ c. omega arith)
+    (λ c. let test = c .before in omega (arith, valid (turn (test .before .before .before .before)) .tasks))
+    (λ c. omega arith) (λ c. omega arith) loop-again
+    (λ c. keys-done _ (valid (c .before)) _ (c .before .loop .u) (omega arith) (c .before .loop .inv .1)))

@@ -6,9 +6,9 @@ use Rattle.machine_state.proofs.tail_ok.Tie as tie
 
 returns : tie.Need-returns
 returns c =
-    let start = c .before .before in
-    let number = c .before .eight .ensures in
-    rw (number .0, c .byte .ensures .same) (part-tail (start .args .queue) (number .1) (start .args .c) (start .pre .1) (start .pre .0))
+    let count = c .before .before .pre in
+    let bytes = c .before .eight .ensures in
+    rw (bytes .is, c .byte .ensures .same) (part-tail _ (bytes .low) _ (count .few) (count .some))
 
 pub tail-ok-spec : {M : Type 1} → statement M
 tail-ok-spec =

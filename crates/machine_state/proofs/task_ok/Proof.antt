@@ -1,18 +1,15 @@
 -- A task in the first place has its own seat looked at twice.
-use Rattle.folds.proofs.Ground.{ℕ, _+_, _*_, _-_, _/_, _%_, _≤_, Bool, true, false, _&&_, _||_, _≡_, refl, sym, ap, _∙_, List, eqb, leb, ltb, getD, arith, eq-eqb, ne-eqb, eqb-true, ltb-true, ltb-false, le-leb, needs}
+use Rattle.folds.proofs.Ground.{ℕ, _+_, _-_, _/_, _%_, _≤_, Bool, true, false, _&&_, _||_, and-assoc, _≡_, refl, sym, ap, _∙_, List, eqb, leb, ltb, getD, arith, eq-eqb, ne-eqb, eqb-true, ltb-true, ltb-false, le-leb, needs}
 use mir.Val.{boolByte}
+use Rattle.sizes.specs.Sizes.{mostTasks}
 use Rattle.analysis_figures.specs.Figures.{holdCell}
-use Rattle.machine_state.specs.Inner.{noSeat, taskTest}
+use Rattle.machine_state.specs.Inner.{resourceSeats, taskTest}
 use Rattle.machine_state.proofs.task_ok.Statement.{statement}
 use Rattle.machine_state.proofs.task_ok.Tie as tie
 
--- the hold time that the code reads
-hold-at : (figures : List ℕ) (base key u : ℕ) → base ≡ u * noSeat → getD figures ((base + key) / 512) 0 ≡ getD figures (holdCell u (key / 512)) 0
-hold-at figures base key u e = ap (λ (k : ℕ). getD figures k 0) (omega arith)
-
 -- no further back than the first place
-back-low : (key : ℕ) (b : Bool) → ltb 0 (key % 64) ≡ b → boolByte b ≤ key
-back-low key true e = omega (arith, ltb-true 0 (key % 64) e)
+back-low : (key : ℕ) (b : Bool) → ltb 0 (key % mostTasks) ≡ b → boolByte b ≤ key
+back-low key true e = omega (arith, ltb-true 0 (key % mostTasks) e)
 back-low key false e = omega arith
 
 -- the seat before, or its own
@@ -21,19 +18,15 @@ module _ (seats : List ℕ) (key u : ℕ) where
   own-taken true e = le-leb 1 (getD seats key 0) (omega (arith, eqb-true (getD seats key 0) (u + 1) e))
   own-taken false e = refl
 
-  assoc : (a b c : Bool) → (a && b && c) ≡ (a && (b && c))
-  assoc true b c = refl
-  assoc false b c = refl
-
-  back-same : (a b : Bool) → ltb 0 (key % 64) ≡ b
+  back-same : (a b : Bool) → ltb 0 (key % mostTasks) ≡ b
       → (a && eqb (getD seats key 0) (u + 1) && leb 1 (getD seats (key - boolByte b) 0))
-      ≡ (a && eqb (getD seats key 0) (u + 1) && (eqb (key % 64) 0 || leb 1 (getD seats (key - 1) 0)))
-  back-same a true e = rw (ne-eqb (key % 64) 0 (λ z. omega (arith, ltb-true 0 (key % 64) e)))
+      ≡ (a && eqb (getD seats key 0) (u + 1) && (eqb (key % mostTasks) 0 || leb 1 (getD seats (key - 1) 0)))
+  back-same a true e = rw (ne-eqb (key % mostTasks) 0 (λ z. omega (arith, ltb-true 0 (key % mostTasks) e)))
   back-same a false e =
-      let z : key % 64 ≡ 0 = omega (arith, ltb-false 0 (key % 64) e) in
+      let z : key % mostTasks ≡ 0 = omega (arith, ltb-false 0 (key % mostTasks) e) in
       let k : key - 0 ≡ key = omega arith in
-      rw (eq-eqb (key % 64) 0 z, k)
-      (assoc a _ _ ∙ ap (λ (x : Bool). a && x) (own-taken (eqb (getD seats key 0) (u + 1)) refl) ∙ sym (assoc a _ true))
+      rw (eq-eqb (key % mostTasks) 0 z, k)
+      (and-assoc a _ _ ∙ ap (λ (x : Bool). a && x) (own-taken (eqb (getD seats key 0) (u + 1)) refl) ∙ sym (and-assoc a _ true))
 
 returns : tie.Need-returns
 unfolding taskTest
@@ -42,10 +35,12 @@ returns c = rw (eq-eqb _ _ (c .before .if1 .taken)) (c .is-idle .ensures)
 returns-2 : tie.Need-returns-2
 unfolding taskTest
 returns-2 c =
-    let start = c .before .before .before .before .before .before .before in
+    let seated = c .before .before .before .before in
+    let start = seated .before .before .before in
     let a = start .args in
-    rw (ne-eqb _ _ (c .before .before .before .before .if1 .left), c .before .wide .ensures .same, hold-at (a .figures .now) (a .base) (a .key) (a .u) (start .pre .counted))
-    (back-same (a .seats .now) (a .key) (a .u) (leb 1 (getD (a .figures .now) (holdCell (a .u) (a .key / 512)) 0)) _ refl)
+    let hold : (a .base + a .key) / resourceSeats ≡ holdCell (a .u) (a .key / resourceSeats) = omega (arith, start .pre .counted) in
+    rw (ne-eqb _ _ (seated .if1 .left), c .before .wide .ensures .same, hold)
+    (back-same (a .seats .now) (a .key) (a .u) (leb 1 (getD (a .figures .now) (holdCell (a .u) (a .key / resourceSeats)) 0)) _ refl)
 
 pub task-ok-spec : {M : Type 1} → statement M
 task-ok-spec =
