@@ -1,5 +1,5 @@
 -- What the tables tell of the tasks ahead, what a request is answered, and which tasks are in line.
-use Rattle.folds.proofs.Ground.{ℕ, zero, suc, _+_, _*_, _-_, _<_, _≤_, Bool, true, false, cond, not, _≡_, refl, sym, ap, ap₂, _∙_, _⊎_, inl, inr, List, [], _∷_, _++_, eqb, ltb, length, getD, add-one, arith, eqb-true, eqb-false, eq-eqb, ne-eqb, lt-ltb, le-ltb, not-true}
+use Rattle.folds.proofs.Ground.{ℕ, zero, suc, _+_, _*_, _-_, _<_, _≤_, Bool, true, false, not, _≡_, refl, sym, ap, ap₂, _∙_, _⊎_, inl, inr, List, [], _∷_, _++_, eqb, length, getD, add-one, arith, eqb-true, eqb-false, eq-eqb, ne-eqb, le-ltb, not-true}
 use Rattle.folds.specs.Below.{anyBelow, sumBelow, maxBelow}
 use Rattle.folds.proofs.Tests.{same-test, all-from, any-at, any-out, any-same, find-none}
 use Rattle.folds.proofs.Figures.{max-at, sum-same}
@@ -11,7 +11,7 @@ use Rattle.machine_rules.specs.declared.Answer.the-variants.{Granted, Waits}
 use Rattle.machine_rules.specs.Machine.{terms, busy, requestAnswer}
 use Rattle.queue_ranks.specs.Ranks.{listFrom, taskRanked, queueFrom}
 use Rattle.folds.proofs.Searches.{on-le, find-is}
-use Rattle.machine_steps.proofs.Ready.{seat-task}
+use Rattle.machine_steps.proofs.Ready.{seat-task, seat-some}
 use Rattle.queue_ranks.proofs.Lists.{list-snoc, list-length}
 use Rattle.queue_ranks.proofs.Ranked.{task-rank, ranks-few, full}
 use Rattle.analysis_figures.specs.Figures.{holdCell, Figures}
@@ -50,18 +50,14 @@ module _ (p : Plan) (v : Valid p) (s : State) (w : Whole p s) (q k : ℕ) (lq : 
     few : most ≤ 64
     few = omega (arith, v .tasks, ranks-few (w .lines q lq .ranked) k)
 
-    sits : (j : ℕ) → j < 64
-        → getD seats (seat q k j) 0 ≡ cond (ltb (taskRanked (p .tasks) ranks (j + 1)) (p .tasks)) (taskRanked (p .tasks) ranks (j + 1) + 1) 0
-    sits j l = seat-task p s w t q k j lq lk l
-
     -- the seats are taken from the first on, as many as there are tasks
     pub seat-taken : (j : ℕ) → j < most → getD seats (seat q k j) 0 ≡ taskRanked (p .tasks) ranks (suc j) + 1
     seat-taken j l =
         let a : taskRanked (p .tasks) ranks (j + 1) < p .tasks = full (w .lines q lq .ranked) k (j + 1) (omega arith) (omega arith) in
-        sits j (omega (arith, few)) ∙ rw (lt-ltb _ _ a, add-one j)
+        seat-some p s w t q k j lq lk (omega (arith, few)) a ∙ rw (add-one j)
 
     pub seat-empty : (j : ℕ) → most ≤ j → j < 64 → getD seats (seat q k j) 0 ≡ 0
-    seat-empty j m l = sits j l ∙ rw (le-ltb _ _ past)
+    seat-empty j m l = seat-task p s w t q k j lq lk l ∙ rw (le-ltb _ _ past)
       where
         past : p .tasks ≤ taskRanked (p .tasks) ranks (j + 1)
         past =

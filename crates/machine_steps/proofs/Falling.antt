@@ -1,5 +1,5 @@
 -- The rows once some lines lost their holders: in those the queue of the head has moved up, in all others nothing has.
-use Rattle.folds.proofs.Ground.{ℕ, _+_, _-_, _/_, _<_, _≤_, Bool, true, false, cond, _&&_, and-false, _≡_, refl, sym, _∙_, _≢_, _⊎_, inl, inr, List, eqb, getD, sub-zero, arith, eq-eqb, ne-eqb, lt-ltb}
+use Rattle.folds.proofs.Ground.{ℕ, _+_, _-_, _/_, _<_, _≤_, Bool, true, false, cond, _&&_, and-false, _≡_, refl, sym, _∙_, _≢_, _⊎_, inl, inr, List, eqb, getD, sub-zero, arith, eq-eqb, ne-eqb}
 use Rattle.folds.proofs.Figures.{max-at}
 use Rattle.folds.proofs.Arrays.{by-eq}
 use Rattle.folds.proofs.EachLaws.{each-at}
@@ -13,23 +13,11 @@ use Rattle.machine_state.specs.declared.State.{State}
 use Rattle.machine_state.specs.Shows.{noStanding, noneInLine, movedUp, standing, lineAt, slot, rank}
 use Rattle.machine_state.specs.Inner.{queueAt, seat, noSeat, keyOf}
 use Rattle.machine_state.proofs.Good.{Whole}
-use Rattle.machine_state.proofs.Tables.{low-processor}
+use Rattle.machine_state.proofs.Tables.{low-processor, key-in}
 use Rattle.machine_steps.specs.Inner.{fallen, lowered}
 use Rattle.queue_ranks.proofs.Ranked.{ranks-few}
 use Rattle.machine_steps.proofs.Ready.{Tabled}
-
--- the rank that a row gives a task of processor m
-abbrev rankOf : Standing → ℕ → ℕ → ℕ → ℕ
-rankOf s m q k = cond (eqb m k && eqb (s .resource) q) (s .place + 1) 0
-
-rank-other : (s : Standing) (m q k : ℕ) → m ≢ k → rankOf s m q k ≡ 0
-rank-other s m q k n = rw (ne-eqb m k n)
-
-rank-away : (s : Standing) (m q k : ℕ) → s .resource ≢ q → rankOf s m q k ≡ 0
-rank-away s m q k n = rw (ne-eqb (s .resource) q n, and-false)
-
-rank-own : (s : Standing) (m q k : ℕ) → m ≡ k → s .resource ≡ q → rankOf s m q k ≡ s .place + 1
-rank-own s m q k e f = rw (eq-eqb m k e, eq-eqb (s .resource) q f)
+use Rattle.machine_steps.proofs.Shown.{rankOf, rank-own, rank-other, rank-away}
 
 -- where the first of its queue left, a row's rank falls by 1; a row of another queue keeps its rank there
 fall-away : (b : Bool) (s : Standing) (q : ℕ) → q ≢ 255 → s .resource ≢ q → fallen b s .resource ≢ q
@@ -77,13 +65,13 @@ module _ (p : Plan) (v : Valid p) (s : State) (w : Whole p s) {figures keys seat
 
   falls-own : (q k u : ℕ) → q < 16 → u < p .tasks → processorOf p u ≡ k → standing (s .tasks) u .resource ≡ q
       → falls u ≡ (E q && eqb k (slot (lineAt s q) 0))
-  unfolding rank keyOf
+  unfolding rank
   falls-own q k u lq l e f =
       let r = w .lines q lq .ranked in
       let a : standing (s .tasks) u .place + 1 ≤ p .tasks =
       omega (arith, rank-own (standing (s .tasks) u) (processorOf p u) q k e f, max-at (p .tasks) u (rank p (s .tasks) q k) l, ranks-few r k) in
       let c : getD keys u 0 ≡ seat q k (standing (s .tasks) u .place) =
-      t .keys-at .at u l ∙ rw (f, e, lt-ltb q 16 lq, lt-ltb (standing (s .tasks) u .place) 64 (omega (arith, v .tasks))) in
+      t .keys-at .at u l ∙ key-in (standing (s .tasks) u) (processorOf p u) q k _ lq (omega (arith, v .tasks)) (e, f, refl) in
       let d : getD keys u 0 / 64 ≡ queueAt k q = omega (arith, v .tasks) in
       let y : k < 8 = omega (arith, low-processor p v u l) in
       rw (d, x .at k q y lq) (one (E q && eqb k (slot (lineAt s q) 0)))

@@ -4,6 +4,7 @@ pub mod Taken
 pub mod Joins
 pub mod Asking
 pub mod Ready
+pub mod Shown
 pub mod Falling
 pub mod Passed
 pub mod Leaving

@@ -1,5 +1,5 @@
 -- What the tables tell of a line that goes on to its next task.
-use Rattle.folds.proofs.Ground.{ℕ, _+_, _*_, _-_, _≤_, _<_, Bool, true, false, cond, _≡_, refl, sym, ap, subst, _∙_, List, eqb, getD, getD-set-other, arith, eq-eqb, ne-eqb}
+use Rattle.folds.proofs.Ground.{ℕ, _+_, _*_, _-_, _≤_, _<_, Bool, true, false, cond, _≡_, refl, sym, ap, subst, _∙_, List, getD, getD-set-other, arith, eq-eqb, ne-eqb}
 use mir.Val.{boolByte}
 use Rattle.folds.proofs.Arrays.{by-eq}
 use Rattle.machine_state.specs.declared.LineRow.{LineRow}

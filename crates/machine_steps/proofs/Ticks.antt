@@ -1,7 +1,7 @@
 -- A tick: the state after it shows what the rules make of what it showed, and is sound; and the two words of its answer.
-use Rattle.folds.proofs.Ground.{ℕ, zero, suc, _+_, _-_, _<_, _≤_, Bool, true, false, cond, _&&_, and-false, _≡_, refl, sym, ap, ap₂, _∙_, _≢_, List, eqb, ltb, getD, arith, ltb-true, eqb-true, eq-eqb, ne-eqb, lt-ltb}
+use Rattle.folds.proofs.Ground.{ℕ, zero, suc, _-_, _<_, _≤_, Bool, true, false, cond, _&&_, and-false, _≡_, refl, sym, ap, ap₂, _∙_, _≢_, List, eqb, ltb, getD, arith, ltb-true, eqb-true, eq-eqb, ne-eqb, lt-ltb}
 use Rattle.folds.specs.Below.{anyBelow}
-use Rattle.folds.specs.Words.{bitOf, wordBelow}
+use Rattle.folds.specs.Words.{wordBelow}
 use Rattle.folds.proofs.Tests.{and-parts, same-test, any-at, any-out}
 use Rattle.folds.proofs.Arrays.{stamped-at}
 use Rattle.folds.proofs.WordLaws.{word-same}

@@ -5,7 +5,8 @@ use Rattle.machine_steps.proofs.leave.Tie as tie
 
 array-write-marks : tie.Need-array-write-marks
 array-write-marks c =
-    let p = c .before .before .before .before .before .before .pre in
+    let line = c .before .before in
+    let p = line .before .before .before .before .pre in
     omega (arith, p .resource, p .ready .placed 0 (p .ready .some), c .wide .ensures)
 
 pub leave-spec : {M : Type 1} → statement M
