@@ -1,6 +1,7 @@
 -- The holder of a line leaves: the state after it shows what the rule makes of what it showed, and is sound.
-use Rattle.folds.proofs.Ground.{ℕ, zero, suc, _+_, _-_, _<_, _≤_, Bool, false, cond, _&&_, and-true, and-false, _≡_, refl, sym, ap, _∙_, List, eqb, getD, set, replicate, length-set, length-replicate, getD-replicate, getD-set-same, getD-set-other, arith, eq-eqb, ne-eqb}
-use Rattle.folds.proofs.Arrays.{by-eq, cell-eqb}
+use Rattle.folds.proofs.Ground.{ℕ, zero, suc, _+_, _-_, _<_, _≤_, Bool, false, cond, _&&_, and-true, and-false, _≡_, refl, sym, ap, _∙_, List, eqb, getD, set, replicate, getD-set-same, getD-set-other, arith, eq-eqb, ne-eqb}
+use Rattle.folds.specs.Below.{anyBelow}
+use Rattle.folds.proofs.Arrays.{by-eq, cell-eqb, markedBelow, marked-at}
 use Rattle.plan_reading.specs.Plan.{Plan, Valid}
 use Rattle.queue_rules.specs.Rules as Rules
 use Rattle.machine_rules.specs.declared.Answer.the-variants.{Next, Free}
@@ -12,24 +13,19 @@ use Rattle.queue_ranks.proofs.Reading.{holds-none, holds-first}
 use Rattle.queue_ranks.proofs.Leave.{Leaves}
 use Rattle.machine_state.specs.declared.LineRow.{LineRow}
 use Rattle.machine_state.specs.declared.State.{State}
-use Rattle.machine_state.specs.Shows.{noLine, lineAt, slot, rank, shownLine, shows}
+use Rattle.machine_state.specs.Shows.{noLine, lineAt, slot, rank, shows}
 use Rattle.machine_state.specs.Inner.{queueAt, seat, Seats}
 use Rattle.machine_state.proofs.Good.{Whole}
-use Rattle.machine_steps.specs.Inner.{passed, leftBy}
+use Rattle.machine_steps.specs.Inner.{noMarks, passed, leftBy}
 use Rattle.machine_steps.proofs.Ready.{Tabled, seat-some, first-task}
 use Rattle.machine_steps.proofs.Falling.{Ended, ranks-leave, ranks-stay, rows-after}
-use Rattle.machine_steps.proofs.Passed.{Shown, stays-shown, past-shows, all-shown, Held, good-held, first-after, passed-shown}
+use Rattle.machine_steps.proofs.Shown.{Changes, changed-whole, changed-shows}
+use Rattle.machine_steps.proofs.Passed.{first-after, passed-shown}
 
 -- one mark in an empty table
-mark-at : (m i x : ℕ) → i < m → x < m → getD (set (replicate {A = ℕ} m 0) i 1) x 0 ≡ cond (eqb x i) 1 0
-mark-at m i x li lx =
-    by-eq (λ (b : Bool). getD (set (replicate {A = ℕ} m 0) i 1) x 0 ≡ cond b 1 0) x i
-    (λ e. rw e (getD-set-same (replicate {A = ℕ} m 0) i 1 0 (rw length-replicate li)))
-    (λ n. getD-set-other (replicate {A = ℕ} m 0) i x 1 0 n ∙ getD-replicate {A = ℕ} m x 0 0 lx)
-
--- the task that a line begins with once the first of processor `gone` left, by the seats from before, as its number plus 1
-abbrev pub nextSeat : List ℕ → ℕ → LineRow → ℕ → ℕ
-nextSeat seats q l gone = getD seats (seat q (slot l 0) (cond (eqb (slot l 0) gone) 1 0)) 0
+mark-at : (m i x : ℕ) → x < m → getD (set (replicate {A = ℕ} m 0) i 1) x 0 ≡ cond (eqb x i) 1 0
+unfolding markedBelow anyBelow
+mark-at m i x l = marked-at 1 m (λ _. i) x l ∙ ap (λ (b : Bool). cond b 1 0) (same-eqb i x x i (λ e. sym e) (λ e. sym e))
 
 -- who holds: nobody where nobody is queued, else who sits first
 pub holder-none : (p : Plan) (s : State) (q i : ℕ) → lineAt s q .queued ≡ 0 → Rules.holds i (shows p s .lines q) ≡ false
@@ -60,11 +56,11 @@ module _ (p : Plan) (v : Valid p) (s : State) (w : Whole p s) {figures keys seat
     abbrev L : State
     L = leftBy figures keys seats q s
 
-    ended : Ended s (λ r. eqb r q) (set (replicate 129 0) (queueAt (slot (lineAt s q) 0) q) 1)
+    ended : Ended s (λ r. eqb r q) (set noMarks (queueAt (slot (lineAt s q) 0) q) 1)
     ended = record {
-      at = λ k r lk lr. mark-at 129 (queueAt (slot (lineAt s q) 0) q) (queueAt k r) (omega (arith, gone-low)) (omega arith)
+      at = λ k r lk lr. mark-at 129 (queueAt (slot (lineAt s q) 0) q) (queueAt k r) (omega arith)
           ∙ ap (λ (b : Bool). cond b 1 0) (cell-eqb 8 k (slot (lineAt s q) 0) r q lk gone-low ∙ both k r);
-      none = mark-at 129 (queueAt (slot (lineAt s q) 0) q) 128 (omega (arith, gone-low)) (omega arith)
+      none = mark-at 129 (queueAt (slot (lineAt s q) 0) q) 128 (omega arith)
           ∙ rw (ne-eqb 128 (queueAt (slot (lineAt s q) 0) q) (λ e. omega (arith, gone-low)));
     }
       where
@@ -76,28 +72,25 @@ module _ (p : Plan) (v : Valid p) (s : State) (w : Whole p s) {figures keys seat
     leaves : Leaves (p .tasks) (rank p (s .tasks) q) (rank p (L .tasks) q) (slot (lineAt s q) 0)
     leaves = ranks-leave p v s w t ended q lq (eq-eqb q q refl)
 
-    line-held : Held p (s .tasks) q (lineAt s q)
-    line-held = good-held p (s .tasks) q (lineAt s q) (w .lines q lq) held
-
-    pub left-line : lineAt (leftBy figures keys seats q s) q ≡ passed figures seats q (lineAt s q)
-    left-line = getD-set-same (s .lines) q (passed figures seats q (lineAt s q)) noLine (omega (arith, t .lines-long))
-
-    left-shown : (r : ℕ) → r < 16 → Shown p (L .tasks) r (lineAt L r) (change (shows p s .lines) q (Rules.released (terms p q)) r)
+    changes : Changes p s L q (Rules.released (terms p q))
     unfolding shows
-    left-shown r lr =
-        by-eq (λ (b : Bool). Shown p (L .tasks) r (lineAt L r) (cond b (Rules.released (terms p q) (shows p s .lines r)) (shows p s .lines r))) r q
-        (λ e. rw (e, left-line) (passed-shown p v s w t (L .tasks) q lq (lineAt s q) line-held leaves))
-        (λ n. rw (getD-set-other (s .lines) q r (passed figures seats q (lineAt s q)) noLine n)
-        (stays-shown p (s .tasks) (L .tasks) r (lineAt s r) (ranks-stay p v s w t ended r lr (ne-eqb r q n)) (w .lines r lr)))
+    changes =
+        let own = passed-shown p v s w t (L .tasks) q lq held leaves (lineAt s q .«hold_left») (lineAt s q .«budget_left»)
+        (w .lines q lq .timed .runs held .3) in
+        record {
+          lines-long = t .lines-long;
+          resource = lq;
+          line = rw (getD-set-same (s .lines) q (passed figures seats q (lineAt s q)) noLine (omega (arith, t .lines-long))) own;
+          others = λ r n. getD-set-other (s .lines) q r (passed figures seats q (lineAt s q)) noLine n;
+          ranks = λ r lr n. ranks-stay p v s w t ended r lr (ne-eqb r q n);
+          rows = rows-after p v s w t ended;
+        }
 
     pub left-whole : Whole p (leftBy figures keys seats q s)
-    left-whole = record { rows = rows-after p v s w t ended; lines = λ r lr. left-shown r lr .good }
+    left-whole = changed-whole w changes
 
     pub left-shows : shows p (leftBy figures keys seats q s) ≡ record { lines = change (shows p s .lines) q (Rules.released (terms p q)) }
-    left-shows =
-        all-shown p L (change (shows p s .lines) q (Rules.released (terms p q)))
-        (length-set (s .lines) q (passed figures seats q (lineAt s q)) ∙ t .lines-long) left-shown
-        (λ r a. rw (ne-eqb r q (λ e. omega arith)) (past-shows p s r (t .lines-long) a))
+    left-shows = changed-shows w changes
 
     -- ── the answer ──
     -- the line after it, who is granted next, and the first task of its head
@@ -105,7 +98,7 @@ module _ (p : Plan) (v : Valid p) (s : State) (w : Whole p s) {figures keys seat
     after = lineAt L q
 
     abbrev granted : ℕ
-    granted = nextSeat seats q after (slot (lineAt s q) 0)
+    granted = getD seats (seat q (slot after 0) (cond (eqb (slot after 0) (slot (lineAt s q) 0)) 1 0)) 0
 
     abbrev first : ℕ
     first = taskRanked (p .tasks) (rank p (L .tasks) q (slot after 0)) 1
@@ -115,7 +108,7 @@ module _ (p : Plan) (v : Valid p) (s : State) (w : Whole p s) {figures keys seat
 
     next-first : 1 ≤ after .queued → granted ≡ first + 1
     next-first a =
-        first-after p v s w t (L .tasks) q lq (lineAt s q) line-held leaves (slot after 0) (next-low a) (left-whole .lines q lq .queued .served 0 a)
+        first-after p v s w t (L .tasks) q lq held leaves (slot after 0) (next-low a) (left-whole .lines q lq .queued .served 0 a)
 
     pub next-seat : 1 ≤ after .queued → (slot after 0 < 8) × (1 ≤ granted) × (granted ≤ p .tasks)
     next-seat a =
@@ -126,9 +119,7 @@ module _ (p : Plan) (v : Valid p) (s : State) (w : Whole p s) {figures keys seat
     pub next-told : releaseAnswer p (Rules.released (terms p q) (shows p s .lines q)) ≡ cond (eqb (after .queued) 0) Free (Next (p .task (granted - 1) .tag))
     unfolding shows listFrom
     next-told =
-        let m : Rules.released (terms p q) (shows p s .lines q) ≡ shownLine p (L .tasks) q after =
-        sym (rw (eq-eqb q q refl) at (left-shown q lq .shows)) in
-        ap (releaseAnswer p) m
+        ap (releaseAnswer p) (sym (changes .line .shows))
         ∙ told (p .tasks) (rank p (L .tasks) q) (after .queued) (slot after) (after .«hold_left») (after .«budget_left»)
         ∙ by-eq (λ (b : Bool). cond b Free (Next (p .task first .tag)) ≡ cond b Free (Next (p .task (granted - 1) .tag)))
         (after .queued) 0 (λ e. refl)

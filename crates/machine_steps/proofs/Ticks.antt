@@ -1,5 +1,5 @@
 -- A tick: the state after it shows what the rules make of what it showed, and is sound; and the two words of its answer.
-use Rattle.folds.proofs.Ground.{ℕ, zero, suc, _-_, _<_, _≤_, Bool, true, false, cond, _&&_, and-false, _≡_, refl, sym, ap, ap₂, _∙_, _≢_, List, eqb, ltb, getD, arith, ltb-true, eqb-true, eq-eqb, ne-eqb, lt-ltb}
+use Rattle.folds.proofs.Ground.{ℕ, zero, suc, _-_, _<_, _≤_, Bool, true, false, cond, _&&_, and-false, _≡_, refl, sym, ap, ap₂, _∙_, _≢_, List, eqb, ltb, getD, arith, eqb-true, eq-eqb, ne-eqb, lt-ltb}
 use Rattle.folds.specs.Below.{anyBelow}
 use Rattle.folds.specs.Words.{wordBelow}
 use Rattle.folds.proofs.Tests.{and-parts, same-test, any-at, any-out}
@@ -18,39 +18,27 @@ use Rattle.machine_state.specs.declared.State.{State}
 use Rattle.machine_state.specs.Shows.{noLine, lineAt, slot, rank, shownLine, shows}
 use Rattle.machine_state.specs.Inner.{queueAt}
 use Rattle.machine_state.proofs.Good.{Good, Whole}
-use Rattle.machine_steps.specs.Inner.{passed, stepped, cutsHolder, endedOf, steppedLines, tickedBy, cutWord, grantWord}
+use Rattle.machine_steps.specs.Inner.{passed, stepped, cutsHolder, lostQueue, endedOf, steppedLines, tickedBy, cutWord, grantWord}
 use Rattle.machine_steps.proofs.Ready.{Tabled}
 use Rattle.machine_steps.proofs.Falling.{Ended, ranks-leave, ranks-stay, rows-after}
-use Rattle.machine_steps.proofs.Passed.{Shown, stays-shown, past-shows, all-shown, Held, passed-shown}
+use Rattle.machine_steps.proofs.Marks.{no-mark, cut-queued}
+use Rattle.machine_steps.proofs.Shown.{Shown, shown-as, stays-shown, past-row, past-shows, all-shown}
+use Rattle.machine_steps.proofs.Passed.{passed-shown}
 
 on-test : (A : Type 0) (b : Bool) → (b ≡ true → A) → (b ≡ false → A) → A
 on-test A true f g = f refl
 on-test A false f g = g refl
-
--- a line that a tick does not cut, and one that it does
-ends-free : (l : LineRow) → l .queued ≡ 0 → cutsHolder l ≡ false
-ends-free l e = rw e
-
-ends-on : (l : LineRow) → l .«hold_left» ≢ 1 → cutsHolder l ≡ false
-ends-on l n = rw (ne-eqb (l .«hold_left») 1 n) (and-false (ltb 0 (l .queued)))
-
-ends-cut : (l : LineRow) → 1 ≤ l .queued → l .«hold_left» ≡ 1 → cutsHolder l ≡ true
-ends-cut l a e = rw (lt-ltb 0 (l .queued) a) (eq-eqb (l .«hold_left») 1 e)
-
-ends-held : (l : LineRow) → cutsHolder l ≡ true → 1 ≤ l .queued
-ends-held l e = ltb-true 0 (l .queued) (and-parts (ltb 0 (l .queued)) (eqb (l .«hold_left») 1) e .0)
 
 -- what stands for a queue in the table of those that lose their first
 abbrev mark : Bool → ℕ
 mark b = cond b 1 0
 
 module _ (p : Plan) (v : Valid p) (s : State) (w : Whole p s) where
-  -- the queue that the line of q loses its first from
   abbrev key : ℕ → ℕ
-  key q = cond (cutsHolder (lineAt s q)) (queueAt (slot (lineAt s q) 0) q) 128
+  key = lostQueue (s .lines)
 
   head-low : (q : ℕ) → q < 16 → cutsHolder (lineAt s q) ≡ true → slot (lineAt s q) 0 < 8
-  head-low q lq e = omega (arith, v .processors, w .lines q lq .queued .placed 0 (ends-held (lineAt s q) e))
+  head-low q lq e = omega (arith, v .processors, w .lines q lq .queued .placed 0 (cut-queued (lineAt s q) e))
 
   key-mark : (q : ℕ) → q < 16 → mark (cutsHolder (lineAt s q)) ≡ mark (ltb (key q) 128)
   key-mark q lq =
@@ -78,15 +66,11 @@ module _ (p : Plan) (v : Valid p) (s : State) (w : Whole p s) where
   unfolding endedOf
   ended = record {
     at = λ k q lk lq. stamped (queueAt k q) (omega arith) ∙ rw (lt-ltb (queueAt k q) 128 (omega arith), key-at k q lk lq);
-    none = stamped 128 (omega arith) ∙ nothing (anyBelow 16 (λ r. eqb (key r) 128));
+    none = stamped 128 (omega arith) ∙ no-mark (anyBelow 16 (λ r. eqb (key r) 128));
   }
     where
       stamped : (x : ℕ) → x < 129 → getD (endedOf (s .lines)) x 0 ≡ cond (anyBelow 16 (λ r. eqb (key r) x)) (mark (ltb x 128)) 0
       stamped x l = stamped-at 16 129 key (λ q. mark (cutsHolder (lineAt s q))) (λ y. mark (ltb y 128)) x l key-mark
-
-      nothing : (b : Bool) → cond b (mark (ltb 128 128)) 0 ≡ 0
-      nothing true = refl
-      nothing false = refl
 
 module _ (p : Plan) (v : Valid p) (s : State) (w : Whole p s) {figures keys seats : List ℕ} (t : Tabled p s figures keys seats) where
   abbrev T : State
@@ -101,50 +85,40 @@ module _ (p : Plan) (v : Valid p) (s : State) (w : Whole p s) {figures keys seat
     abbrev less : LineRow
     less = record { queued = l .queued; queue = l .queue; «hold_left» = l .«hold_left» - 1; «budget_left» = l .«budget_left» - 1 }
 
-    shown-as : (g : LineRow) (m : Rules.Line) → Shown p (T .tasks) q g m → Rules.ticked (terms p q) (shownLine p (s .tasks) q l) ≡ m
-        → Shown p (T .tasks) q g (Rules.ticked (terms p q) (shownLine p (s .tasks) q l))
-    shown-as g m y e = record { good = y .good; shows = y .shows ∙ sym e }
+    -- what the rules make of it
+    abbrev next : Rules.Line
+    next = Rules.ticked (terms p q) (shownLine p (s .tasks) q l)
 
-    tick-free : l .queued ≡ 0 → Shown p (T .tasks) q l (Rules.ticked (terms p q) (shownLine p (s .tasks) q l))
+    tick-free : l .queued ≡ 0 → Shown p (T .tasks) q l next
     tick-free e =
-        shown-as _ _ (stays-shown p (s .tasks) (T .tasks) q l (ranks-stay p v s w t (ended p v s w) q lq (ends-free l e)) (w .lines q lq))
-        (tick-none (p .tasks) (terms p q) (rank p (s .tasks) q) (l .queued) (slot l) (l .«hold_left») (l .«budget_left») e)
+        let on : cutsHolder l ≡ false = rw e in
+        shown-as (stays-shown p (s .tasks) (T .tasks) q l (ranks-stay p v s w t (ended p v s w) q lq on) (w .lines q lq))
+        (sym (tick-none (p .tasks) (terms p q) (rank p (s .tasks) q) (l .queued) (slot l) (l .«hold_left») (l .«budget_left») e))
 
-    -- what the rules make of a held one
-    ruled : 1 ≤ l .queued → (b : Bool) → eqb (l .«hold_left» - 1) 0 ≡ b → Rules.ticked (terms p q) (shownLine p (s .tasks) q l)
-        ≡ cond b (Rules.leave (terms p q) (l .«budget_left» - 1) (queueFrom (p .tasks) (rank p (s .tasks) q) (l .queued) (slot l)))
+    -- of a held one
+    ruled : 1 ≤ l .queued → (b : Bool) → eqb (l .«hold_left» - 1) 0 ≡ b
+        → cond b (Rules.leave (terms p q) (l .«budget_left» - 1) (queueFrom (p .tasks) (rank p (s .tasks) q) (l .queued) (slot l)))
         (Rules.line (l .«hold_left» - 1) (l .«budget_left» - 1) (queueFrom (p .tasks) (rank p (s .tasks) q) (l .queued) (slot l)))
+        ≡ next
     ruled a b e =
-        tick-some (p .tasks) (terms p q) (rank p (s .tasks) q) (l .queued) (slot l) (l .«hold_left») (l .«budget_left») a ∙ rw e
+        sym (tick-some (p .tasks) (terms p q) (rank p (s .tasks) q) (l .queued) (slot l) (l .«hold_left») (l .«budget_left») a ∙ rw e)
 
-    tick-cut : 1 ≤ l .queued → l .«hold_left» ≡ 1
-        → Shown p (T .tasks) q (passed figures seats q less) (Rules.ticked (terms p q) (shownLine p (s .tasks) q l))
+    tick-cut : 1 ≤ l .queued → l .«hold_left» ≡ 1 → Shown p (T .tasks) q (passed figures seats q less) next
     tick-cut a e =
-        let g : Good p (s .tasks) q l = w .lines q lq in
-        let h : Held p (s .tasks) q less = record {
-          some = a;
-          small = g .small;
-          ranked = g .ranked;
-          queued = g .queued;
-          rest = g .rest;
-          within = omega (arith, g .timed .runs a .3);
-        } in
-        shown-as _ _
-        (passed-shown p v s w t (T .tasks) q lq less h (ranks-leave p v s w t (ended p v s w) q lq (ends-cut l a e)))
+        let on : cutsHolder l ≡ true = rw (lt-ltb 0 (l .queued) a) (eq-eqb (l .«hold_left») 1 e) in
+        shown-as
+        (passed-shown p v s w t (T .tasks) q lq a (ranks-leave p v s w t (ended p v s w) q lq on) (l .«hold_left» - 1) (l .«budget_left» - 1)
+        (omega (arith, w .lines q lq .timed .runs a .3)))
         (ruled a true (eq-eqb (l .«hold_left» - 1) 0 (omega arith)))
 
-    tick-on : 1 ≤ l .queued → l .«hold_left» ≢ 1 → Shown p (T .tasks) q less (Rules.ticked (terms p q) (shownLine p (s .tasks) q l))
+    tick-on : 1 ≤ l .queued → l .«hold_left» ≢ 1 → Shown p (T .tasks) q less next
     tick-on a n =
         let g : Good p (s .tasks) q l = w .lines q lq in
-        let some : 2 ≤ l .«hold_left» = let y = g .timed .runs a .0 in omega arith in
-        shown-as _ _
-        (stays-shown p (s .tasks) (T .tasks) q less (ranks-stay p v s w t (ended p v s w) q lq (ends-on l n)) (record {
-          small = g .small;
-          ranked = g .ranked;
-          queued = g .queued;
-          rest = g .rest;
-          timed = tick-timed (g .timed) a some;
-        }))
+        let some : 2 ≤ l .«hold_left» = omega (arith, g .timed .runs a .0) in
+        let on : cutsHolder l ≡ false = rw (ne-eqb (l .«hold_left») 1 n) (and-false (ltb 0 (l .queued))) in
+        shown-as
+        (stays-shown p (s .tasks) (T .tasks) q less (ranks-stay p v s w t (ended p v s w) q lq on)
+        (record { small = g .small; ranked = g .ranked; queued = g .queued; rest = g .rest; timed = tick-timed (g .timed) a some }))
         (ruled a false (ne-eqb (l .«hold_left» - 1) 0 (λ e. omega arith)))
 
     ticked-line : lineAt T q ≡ stepped figures seats q l
@@ -167,9 +141,9 @@ module _ (p : Plan) (v : Valid p) (s : State) (w : Whole p s) {figures keys seat
   pub ticked-shows : shows p (tickedBy figures keys seats s) ≡ record { lines = λ q. Rules.ticked (terms p q) (shows p s .lines q) }
   unfolding steppedLines
   ticked-shows =
-      all-shown p T (λ q. Rules.ticked (terms p q) (shows p s .lines q))
-      (each-length noLine (λ q l. stepped figures seats q l) 16 (s .lines) ∙ t .lines-long) ticked-shown
-      (λ q a. rw (past-shows p s q (t .lines-long) a))
+      all-shown p T (λ q. Rules.ticked (terms p q) (shows p s .lines q)) ticked-shown
+      (λ q a. let long = each-length noLine (λ q l. stepped figures seats q l) 16 (s .lines) ∙ t .lines-long in
+      past-shows p T q (past-row T long q a) ∙ rw (past-shows p s q (past-row s (t .lines-long) q a)))
 
 -- a line is cut where one tick of the hold is left, and held where somebody is queued
 cut-line : (n : ℕ) (R : ℕ → ℕ → ℕ) (c : ℕ) (g : ℕ → ℕ) (h b : ℕ) → (1 ≤ c → 1 ≤ h)
