@@ -1,12 +1,12 @@
 -- What the tables tell of the tasks ahead, what a request is answered, and which tasks are in line.
-use Rattle.folds.proofs.Ground.{ℕ, zero, suc, _+_, _*_, _-_, _<_, _≤_, Bool, true, false, not, _≡_, refl, sym, ap, ap₂, _∙_, _⊎_, inl, inr, List, [], _∷_, _++_, eqb, length, getD, add-one, arith, eqb-true, eqb-false, eq-eqb, ne-eqb, le-ltb, not-true}
+use Rattle.folds.proofs.Ground.{ℕ, zero, suc, _+_, _*_, _-_, _<_, _≤_, Bool, true, false, not, _≡_, refl, sym, ap, _∙_, _⊎_, inl, inr, List, [], _∷_, _++_, eqb, length, getD, add-one, arith, eqb-true, eqb-false, eq-eqb, ne-eqb, le-ltb, not-true}
 use Rattle.folds.specs.Below.{anyBelow, sumBelow, maxBelow}
 use Rattle.folds.proofs.Tests.{same-test, all-from, any-at, any-out, any-same, find-none}
 use Rattle.folds.proofs.Figures.{max-at, sum-same}
 use Rattle.plan_reading.specs.Plan.{Plan, Valid}
 use Rattle.analysis_equations.specs.Sharing.{processorOf}
 use Rattle.analysis_equations.specs.HoldTimes.{holdAt, waitTime}
-use Rattle.queue_rules.specs.Rules.{line, queueOf, inLine, tasksOf, sumOf, limit}
+use Rattle.queue_rules.specs.Rules.{line, inLine, tasksOf, sumOf, limit}
 use Rattle.machine_rules.specs.declared.Answer.the-variants.{Granted, Waits}
 use Rattle.machine_rules.specs.Machine.{terms, busy, requestAnswer}
 use Rattle.queue_ranks.specs.Ranks.{listFrom, taskRanked, queueFrom}
@@ -51,12 +51,12 @@ module _ (p : Plan) (v : Valid p) (s : State) (w : Whole p s) (q k : ℕ) (lq : 
     few = omega (arith, v .tasks, ranks-few (w .lines q lq .ranked) k)
 
     -- the seats are taken from the first on, as many as there are tasks
-    pub seat-taken : (j : ℕ) → j < most → getD seats (seat q k j) 0 ≡ taskRanked (p .tasks) ranks (suc j) + 1
+    seat-taken : (j : ℕ) → j < most → getD seats (seat q k j) 0 ≡ taskRanked (p .tasks) ranks (suc j) + 1
     seat-taken j l =
         let a : taskRanked (p .tasks) ranks (j + 1) < p .tasks = full (w .lines q lq .ranked) k (j + 1) (omega arith) (omega arith) in
         seat-some p s w t q k j lq lk (omega (arith, few)) a ∙ rw (add-one j)
 
-    pub seat-empty : (j : ℕ) → most ≤ j → j < 64 → getD seats (seat q k j) 0 ≡ 0
+    seat-empty : (j : ℕ) → most ≤ j → j < 64 → getD seats (seat q k j) 0 ≡ 0
     seat-empty j m l = seat-task p s w t q k j lq lk l ∙ rw (le-ltb _ _ past)
       where
         past : p .tasks ≤ taskRanked (p .tasks) ranks (j + 1)
@@ -77,11 +77,8 @@ module _ (p : Plan) (v : Valid p) (s : State) (w : Whole p s) (q k : ℕ) (lq : 
         full-at : (j : ℕ) → j < most → test j ≡ false
         full-at j l = ne-eqb (getD seats (seat q k j) 0) 0 (λ e. omega (arith, seat-taken j l))
 
-    pub ahead-count : length (tasksOf k (queueOf (shows p s .lines q))) ≡ taken seats q k
-    ahead-count = ap length (ahead-list p v s w q k lq) ∙ list-length most 1 (taskRanked (p .tasks) ranks) ∙ sym taken-is
-
     module _ {figures : List ℕ} (c : Figures p figures) where
-      pub taken-holds : takenHolds figures seats q k ≡ sumOf (terms p q .hold) (listFrom most 1 (taskRanked (p .tasks) ranks))
+      taken-holds : takenHolds figures seats q k ≡ sumOf (terms p q .hold) (listFrom most 1 (taskRanked (p .tasks) ranks))
       unfolding takenHolds
       taken-holds =
           rw taken-is (sum-same most _ _ hold ∙ sum-list most (λ u. holdAt p u q) (taskRanked (p .tasks) ranks))
@@ -92,9 +89,6 @@ module _ (p : Plan) (v : Valid p) (s : State) (w : Whole p s) (q k : ℕ) (lq : 
               let a : u < p .tasks = full (w .lines q lq .ranked) k (suc j) (omega arith) l in
               let e : getD seats (seat q k j) 0 - 1 ≡ u = omega (arith, seat-taken j l) in
               rw e (c .hold u q (omega (arith, v .tasks)) lq)
-
-      pub ahead-holds : sumOf (terms p q .hold) (tasksOf k (queueOf (shows p s .lines q))) ≡ takenHolds figures seats q k
-      ahead-holds = ap (sumOf (terms p q .hold)) (ahead-list p v s w q k lq) ∙ sym taken-holds
 
 -- ── the answer ──
 -- of a held line
@@ -120,7 +114,7 @@ module _ (p : Plan) (v : Valid p) (s : State) (w : Whole p s) (i q : ℕ) where
       let lk : k < 8 = low-processor p v i lt in
       let l : LineRow = lineAt s q in
       told-held p i q (p .tasks) (rank p (s .tasks) q) (l .queued) (slot l) (l .«hold_left») (l .«budget_left») a
-      ∙ ap₂ (λ (x y : ℕ). Waits x (y + (x + 1) * waitTime p k q)) (ahead-count p v s w q k lq lk t) (ahead-holds p v s w q k lq lk t c)
+      ∙ rw (ahead-list p v s w q k lq, list-length, taken-is p v s w q k lq lk t, taken-holds p v s w q k lq lk t c)
 
 -- ── who is in line ──
 module _ (p : Plan) (v : Valid p) (s : State) (w : Whole p s) (i : ℕ) (lt : i < p .tasks) where

@@ -1,5 +1,5 @@
 -- Task i joins the line of q: the state stays sound, and shows what the rule makes of that line.
-use Rattle.folds.proofs.Ground.{ℕ, _+_, _<_, _≤_, Bool, true, false, cond, _≡_, refl, sym, ap, _∙_, _≢_, _⊎_, inr, List, eqb, length, getD, set, List·getD-eq-default, getD-set-same, getD-set-other, add-one, arith, eq-eqb, ne-eqb}
+use Rattle.folds.proofs.Ground.{ℕ, _+_, _<_, _≤_, Bool, true, false, cond, and-false, _≡_, refl, sym, ap, _∙_, _≢_, _⊎_, inr, List, eqb, length, getD, set, List·getD-eq-default, getD-set-same, getD-set-other, add-one, arith, eq-eqb, ne-eqb}
 use Rattle.folds.specs.Below.{maxBelow}
 use Rattle.plan_reading.specs.Plan.{Plan, Valid}
 use Rattle.analysis_equations.specs.Sharing.{processorOf}
@@ -9,7 +9,7 @@ use Rattle.queue_rules.specs.Rules as Rules
 use Rattle.queue_rules.specs.Rules.{entered}
 use Rattle.machine_rules.specs.Machine.{terms, change}
 use Rattle.folds.proofs.Searches.{on-eq, on-le}
-use Rattle.queue_ranks.proofs.Ranked.{At, Timed, room, queued-few}
+use Rattle.queue_ranks.proofs.Ranked.{At, Timed, queued-few}
 use Rattle.queue_ranks.proofs.Join.{Joins, enter-free, enter-new, enter-there}
 use Rattle.queue_ranks.proofs.JoinKeeps.{join-ranked, join-queued, join-queued-new, join-timed, join-timed-new}
 use Rattle.machine_state.specs.declared.Standing.{Standing}
@@ -17,9 +17,14 @@ use Rattle.machine_state.specs.declared.LineRow.{LineRow}
 use Rattle.machine_state.specs.declared.State.{State}
 use Rattle.machine_state.specs.Shows.{noStanding, noLine, standing, lineAt, slot, rank, shownLine, shows, noneInLine, inLineAt}
 use Rattle.machine_state.proofs.Good.{Good, Whole}
-use Rattle.machine_state.proofs.Wholes.{hold-resource}
+use Rattle.machine_state.proofs.Wholes.{rank-none, hold-resource}
 use Rattle.machine_steps.specs.Inner.{pushed, joinedLines, joined}
-use Rattle.machine_steps.proofs.Shown.{rank-own, rank-other, rank-away, Shown, Changes, changed-whole, changed-shows}
+use Rattle.machine_steps.proofs.Shown.{Shown, Changes, changed-whole, changed-shows}
+
+-- a task has no rank for another resource than its row names
+rank-away : (p : Plan) (ts : List Standing) (q k u : ℕ) → standing ts u .resource ≢ q → rank p ts q k u ≡ 0
+unfolding rank
+rank-away p ts q k u n = rw (ne-eqb (standing ts u .resource) q n, and-false)
 
 -- how many fellows of task i are in line for q, and the state once it joined them
 abbrev pub aheadOf : Plan → State → ℕ → ℕ → ℕ
@@ -57,9 +62,9 @@ module _ (p : Plan) (v : Valid p) (s : State) (w : Whole p s) (len : length (s .
   joins =
       record {
         inside = lt;
-        out = rank-away (standing (s .tasks) i) k q k (λ e. omega (arith, low, resource));
-        new = rank-own (standing after i) k q k refl (ap (λ (x : Standing). x .resource) row) ∙ rw row (add-one ahead);
-        elsewhere = λ j ne. rank-other (standing after i) k q j (λ e. ne (sym e)) ∙ sym (rank-other (standing (s .tasks) i) k q j (λ e. ne (sym e)));
+        out = rank-away p (s .tasks) q k i (λ e. omega (arith, low, resource));
+        new = rw (row, eq-eqb k k refl, eq-eqb q q refl) (add-one ahead);
+        elsewhere = λ j ne. rank-none p after q j i ne ∙ sym (rank-none p (s .tasks) q j i ne);
         kept = λ j u _ d. rw (row-other u d);
       }
 
@@ -81,11 +86,7 @@ module _ (p : Plan) (v : Valid p) (s : State) (w : Whole p s) (len : length (s .
   was : Good p (s .tasks) q l
   was = w .lines q low
 
-  -- the place of the task fits
-  pub ahead-few : aheadOf p s i q < 64
-  ahead-few = omega (arith, v .tasks, room (was .ranked) i lt (joins .out))
-
-  -- and there is a slot for its processor, where that is not queued
+  -- there is a slot for its processor, where that is not queued
   pub join-room : aheadOf p s i q ≡ 0 → lineAt s q .queued < 8
   join-room z =
       omega (
@@ -183,8 +184,8 @@ module _ (p : Plan) (v : Valid p) (s : State) (w : Whole p s) (len : length (s .
   unfolding rank
   apart-rank r lr n j u b =
       on-eq (rank p (s .tasks) r j u ≡ rank p after r j u) u i
-      (λ e. rw e (rank-away (standing (s .tasks) i) k r j (λ f. omega (arith, resource))
-      ∙ sym (rank-away (standing after i) k r j (λ f. n (sym f ∙ ap (λ (x : Standing). x .resource) row)))))
+      (λ e. rw e (rank-away p (s .tasks) r j i (λ f. omega (arith, resource))
+      ∙ sym (rank-away p after r j i (λ f. n (sym f ∙ ap (λ (x : Standing). x .resource) row)))))
       (λ d. rw (row-other u d))
 
   -- ── the whole state ──

@@ -1,6 +1,5 @@
--- What a step makes of a state, by rows: the rank that a row gives its task, a line that is sound and shows what the rule makes of it,
--- and the whole state once each line does.
-use Rattle.folds.proofs.Ground.{ℕ, _+_, _<_, _≤_, Bool, cond, _&&_, and-false, _≡_, refl, sym, ap, _∙_, fun-ext, _≢_, _⊎_, List, eqb, length, List·getD-eq-default, arith, eq-eqb, ne-eqb}
+-- What a step makes of a state: a line that is sound and shows what the rule makes of it, and the whole state once each line does.
+use Rattle.folds.proofs.Ground.{ℕ, _<_, _≤_, Bool, cond, _≡_, refl, sym, ap, _∙_, fun-ext, _≢_, _⊎_, List, length, List·getD-eq-default, arith, ne-eqb}
 use Rattle.folds.proofs.Arrays.{by-eq}
 use Rattle.folds.proofs.Searches.{on-le}
 use Rattle.plan_reading.specs.Plan.{Plan}
@@ -14,20 +13,6 @@ use Rattle.machine_state.specs.declared.LineRow.{LineRow}
 use Rattle.machine_state.specs.declared.State.{State}
 use Rattle.machine_state.specs.Shows.{noLine, noneInLine, standing, lineAt, slot, rank, shownLine, shows}
 use Rattle.machine_state.proofs.Good.{Good, Whole}
-
--- ── the rank that a row gives a task of processor m ──
-abbrev pub rankOf : Standing → ℕ → ℕ → ℕ → ℕ
-rankOf s m q k = cond (eqb m k && eqb (s .resource) q) (s .place + 1) 0
-
-module _ (s : Standing) (m q k : ℕ) where
-  pub rank-own : m ≡ k → s .resource ≡ q → rankOf s m q k ≡ s .place + 1
-  rank-own e f = rw (eq-eqb m k e, eq-eqb (s .resource) q f)
-
-  pub rank-other : m ≢ k → rankOf s m q k ≡ 0
-  rank-other n = rw (ne-eqb m k n)
-
-  pub rank-away : s .resource ≢ q → rankOf s m q k ≡ 0
-  rank-away n = rw (ne-eqb (s .resource) q n, and-false)
 
 -- ── a line ──
 -- it is sound and shows m

@@ -1,7 +1,6 @@
 -- A held line has a hold and a budget left to count down; at its last tick the next task takes over.
 use Rattle.folds.proofs.Ground.{arith, eq-eqb, ne-eqb}
 use Rattle.machine_steps.specs.Inner.{Running, stepped}
-use Rattle.machine_steps.proofs.Passing.{ready-again}
 use Rattle.machine_steps.proofs.step.Statement.{statement}
 use Rattle.machine_steps.proofs.step.Tie as tie
 
@@ -16,8 +15,13 @@ runs c = start c .pre .running (omega (arith, c .if1 .left))
 
 pass-requires : tie.Need-pass-requires
 pass-requires c κs =
-    let else = held (c .before) in
-    record { tables = start else .pre .tables; resource = start else .pre .resource; ready = ready-again _ _ _ _ _ (runs else .ready) }
+    let p = start (held (c .before)) .pre in
+    let r = runs (held (c .before)) .ready in
+    record {
+      tables = p .tables;
+      resource = p .resource;
+      ready = record { some = r .some; few = r .few; placed = r .placed; once = r .once; seated = r .seated };
+    }
 
 returns : tie.Need-returns
 unfolding stepped
