@@ -151,7 +151,14 @@ fn hold_of(figures: &[u16], seats: &[u8], q: usize, k: u8, j: usize) -> u16
 }
 
 // The head of a queue of c begins, once the first task of processor `gone` left.
-fn begin(queue: [u8; sizes::PROCESSORS], c: u8, gone: u8, figures: &[u16], seats: &[u8], q: usize) -> LineRow
+fn begin(
+    queue: [u8; sizes::PROCESSORS],
+    c: u8,
+    gone: u8,
+    figures: &[u16],
+    seats: &[u8],
+    q: usize,
+) -> LineRow
     requires { ⌜ Beginning (now figures) (now seats) q gone queue c ⌝ }
     ensures { λ r. ⌜ r ≡ begun (now (figures .entry)) (now (seats .entry)) q gone queue c ⌝ }
 {
