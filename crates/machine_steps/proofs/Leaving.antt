@@ -17,7 +17,7 @@ use Rattle.machine_state.specs.Shows.{noLine, lineAt, slot, rank, shows}
 use Rattle.machine_state.specs.Inner.{queueAt, seat, Seats}
 use Rattle.machine_state.proofs.Good.{Whole}
 use Rattle.machine_steps.specs.Inner.{noMarks, passed, leftBy}
-use Rattle.machine_steps.proofs.Ready.{Tabled, seat-some, first-task}
+use Rattle.machine_steps.proofs.Ready.{Tabled, low-slot, seat-taken}
 use Rattle.machine_steps.proofs.Falling.{Ended, ranks-leave, ranks-stay, rows-after}
 use Rattle.machine_steps.proofs.Shown.{Changes, changed-whole, changed-shows}
 use Rattle.machine_steps.proofs.Passed.{first-after, passed-shown}
@@ -35,7 +35,7 @@ holder-none p s q i e =
 
 module _ (p : Plan) (v : Valid p) (s : State) (w : Whole p s) (q : ℕ) (lq : q < 16) (held : 1 ≤ lineAt s q .queued) where
   pub head-low : slot (lineAt s q) 0 < 8
-  head-low = omega (arith, v .processors, w .lines q lq .queued .placed 0 held)
+  head-low = low-slot p v s w q 0 lq held
 
   pub holder-seat : {seats : List ℕ} → Seats p (s .tasks) seats → (i : ℕ)
       → Rules.holds i (shows p s .lines q) ≡ eqb (getD seats (seat q (slot (lineAt s q) 0) 0) 0) (i + 1)
@@ -43,7 +43,7 @@ module _ (p : Plan) (v : Valid p) (s : State) (w : Whole p s) (q : ℕ) (lq : q 
   holder-seat {seats} t i =
       let g : LineRow = lineAt s q in
       let seated : getD seats (seat q (slot g 0) 0) 0 ≡ taskRanked (p .tasks) (rank p (s .tasks) q (slot g 0)) 1 + 1 =
-      seat-some p s w t q (slot g 0) 0 lq head-low (omega arith) (first-task p s w q 0 lq held) in
+      seat-taken p v s w t q (slot g 0) lq head-low 0 (w .lines q lq .queued .served 0 held) in
       holds-first (p .tasks) (rank p (s .tasks) q) i (g .queued) (slot g) (g .«hold_left») (g .«budget_left») held
       ∙ same-eqb (taskRanked (p .tasks) (rank p (s .tasks) q (slot g 0)) 1) i _ (i + 1) (λ e. omega arith) (λ e. omega arith)
 
@@ -103,18 +103,16 @@ module _ (p : Plan) (v : Valid p) (s : State) (w : Whole p s) {figures keys seat
     abbrev first : ℕ
     first = taskRanked (p .tasks) (rank p (L .tasks) q (slot after 0)) 1
 
-    next-low : 1 ≤ after .queued → slot after 0 < 8
-    next-low a = omega (arith, v .processors, left-whole .lines q lq .queued .placed 0 a)
-
     next-first : 1 ≤ after .queued → granted ≡ first + 1
     next-first a =
-        first-after p v s w t (L .tasks) q lq held leaves (slot after 0) (next-low a) (left-whole .lines q lq .queued .served 0 a)
+        first-after p v s w t (L .tasks) q lq held leaves (slot after 0) (low-slot p v L left-whole q 0 lq a)
+        (left-whole .lines q lq .queued .served 0 a)
 
     pub next-seat : 1 ≤ after .queued → (slot after 0 < 8) × (1 ≤ granted) × (granted ≤ p .tasks)
     next-seat a =
         let g = left-whole .lines q lq in
         let l : first < p .tasks = full (g .ranked) (slot after 0) 1 (omega arith) (g .queued .served 0 a) in
-        (next-low a, omega (arith, next-first a), omega (arith, next-first a))
+        (low-slot p v L left-whole q 0 lq a, omega (arith, next-first a), omega (arith, next-first a))
 
     pub next-told : releaseAnswer p (Rules.released (terms p q) (shows p s .lines q)) ≡ cond (eqb (after .queued) 0) Free (Next (p .task (granted - 1) .tag))
     unfolding shows listFrom

@@ -1,7 +1,6 @@
 -- A held line whose holder leaves: what the tables make of it is what the rule does, and is sound.
-use Rattle.folds.proofs.Ground.{ℕ, zero, suc, _+_, _-_, _<_, _≤_, Bool, cond, _≡_, refl, sym, ap, _∙_, _≢_, List, eqb, ltb, getD, getD-set-same, getD-set-other, arith, eq-eqb, ne-eqb, lt-ltb, le-ltb, le-leb, lt-leb}
+use Rattle.folds.proofs.Ground.{ℕ, zero, suc, _+_, _-_, _<_, _≤_, Bool, cond, _≡_, refl, sym, ap, _∙_, _≢_, List, eqb, ltb, getD, getD-set-same, getD-set-other, arith, eq-eqb, ne-eqb, lt-ltb, le-leb, lt-leb}
 use Rattle.folds.specs.Below.{maxBelow}
-use Rattle.folds.proofs.Figures.{max-at}
 use Rattle.folds.proofs.Arrays.{by-eq}
 use Rattle.plan_reading.specs.Plan.{Plan, Valid}
 use Rattle.analysis_equations.specs.HoldTimes.{holdAt, budget}
@@ -10,7 +9,7 @@ use Rattle.queue_rules.specs.Rules as Rules
 use Rattle.machine_rules.specs.Machine.{terms}
 use Rattle.queue_ranks.specs.Ranks.{taskRanked, queueFrom}
 use Rattle.folds.proofs.Searches.{on-eq, on-le}
-use Rattle.queue_ranks.proofs.Ranked.{Ranked, Queued, task-rank, full}
+use Rattle.queue_ranks.proofs.Ranked.{Ranked, Queued, Timed, full}
 use Rattle.queue_ranks.proofs.Leave.{Leaves, leave-max, after-first, begin-none, begin-some, leave-last, leave-next, leave-back}
 use Rattle.queue_ranks.proofs.LeaveKeeps.{leave-ranked, next-queued, last-queued, back-queued, free-timed, begin-timed, next-timed}
 use Rattle.machine_state.specs.declared.Standing.{Standing}
@@ -20,7 +19,7 @@ use Rattle.machine_state.specs.Shows.{lineAt, slot, rank, shows}
 use Rattle.machine_state.specs.Inner.{seat}
 use Rattle.machine_state.proofs.Good.{Good, Whole}
 use Rattle.machine_steps.specs.Inner.{shifted, turned, holdOf, begun, passed}
-use Rattle.machine_steps.proofs.Ready.{Tabled, seat-task}
+use Rattle.machine_steps.proofs.Ready.{Tabled, low-slot, seat-task, seat-taken, seat-empty}
 use Rattle.machine_steps.proofs.Shown.{Shown, shown-as}
 
 -- a queue without its head
@@ -73,7 +72,7 @@ module _ (p : Plan) (v : Valid p) (s : State) (w : Whole p s) {figures keys seat
   seat-after k lk =
       rw (after-first x k)
       (by-eq (λ (b : Bool). Sits b (cond b (taskRanked (p .tasks) (R k) 2) (taskRanked (p .tasks) (R k) 1))) k (slot l 0)
-      (λ e. seat-task p s w (t .seats-at) q k 1 lq lk (omega arith)) (λ n. seat-task p s w (t .seats-at) q k 0 lq lk (omega arith)))
+      (λ e. seat-task p v s w (t .seats-at) q k lq lk 1 (omega arith)) (λ n. seat-task p v s w (t .seats-at) q k lq lk 0 (omega arith)))
     where
       Sits : Bool → ℕ → Type 0
       Sits b u = getD seats (seat q k (cond b 1 0)) 0 ≡ cond (ltb u (p .tasks)) (u + 1) 0
@@ -89,6 +88,11 @@ module _ (p : Plan) (v : Valid p) (s : State) (w : Whole p s) {figures keys seat
       let e : getD seats (seat q k (cond (eqb k (slot l 0)) 1 0)) 0 - 1 ≡ u = omega (arith, first-after k lk a) in
       rw e (t .figures-at .hold u q (omega (arith, full ranked k 1 (omega arith) a, v .tasks)) lq)
 
+  begun-good : {g : List ℕ} (d h b : ℕ) → d ≤ 8 → Queued (p .tasks) (p .processors) S d (λ i. getD g i 0)
+      → ((i : ℕ) → d ≤ i → i < 8 → getD g i 0 ≡ 255) → Timed (p .tasks) (terms p q) S d (λ i. getD g i 0) h b
+      → Good p us q (record { queued = d; queue = g; «hold_left» = h; «budget_left» = b })
+  begun-good d h b small queued rest timed = record { small = small; ranked = ranked; queued = queued; rest = rest; timed = timed }
+
   -- the head of what queue is left begins
   abbrev Begun : List ℕ → ℕ → Type 0
   Begun g d = Shown p us q (begun figures seats q (slot l 0) g d) (Rules.begin (terms p q) (queueFrom (p .tasks) S d (λ i. getD g i 0)))
@@ -99,26 +103,14 @@ module _ (p : Plan) (v : Valid p) (s : State) (w : Whole p s) {figures keys seat
   begins g d small w2 rest =
       on-eq (Begun g d) d 0
       (λ z. rw (eq-eqb d 0 z) (record {
-        good = record {
-          small = omega arith;
-          ranked = ranked;
-          queued = rw z at w2;
-          rest = λ i a b. rest i (omega arith) b;
-          timed = free-timed (p .tasks) (terms p q) S 0 (λ i. getD g i 0) refl;
-        };
+        good = begun-good 0 0 0 (omega arith) (rw z at w2) (λ i a y. rest i (omega arith) y) (free-timed (p .tasks) (terms p q) S 0 _ refl);
         shows = sym (begin-none (p .tasks) (terms p q) S d (λ i. getD g i 0) z
             ∙ ap (λ (j : ℕ). Rules.line 0 0 (queueFrom (p .tasks) S j (λ i. getD g i 0))) z);
       }))
       (λ z. let k : ℕ = getD g 0 0 in
       let lk : k < 8 = omega (arith, v .processors, w2 .placed 0 (omega arith)) in
       rw (ne-eqb d 0 z, hold-after k lk (w2 .served 0 (omega arith)), t .figures-at .budget k q lk lq) (record {
-        good = record {
-          small = small;
-          ranked = ranked;
-          queued = w2;
-          rest = rest;
-          timed = begin-timed ranked (λ u. hold-within p u q) d (λ i. getD g i 0) w2 (omega arith);
-        };
+        good = begun-good d _ _ small w2 rest (begin-timed ranked (λ u. hold-within p u q) d _ w2 (omega arith));
         shows = sym (begin-some (p .tasks) (terms p q) S d (λ i. getD g i 0) (omega arith));
       }))
 
@@ -127,23 +119,12 @@ module _ (p : Plan) (v : Valid p) (s : State) (w : Whole p s) {figures keys seat
   next = taskRanked (p .tasks) (S (slot l 0)) 1
 
   head-low : slot l 0 < 8
-  head-low = omega (arith, v .processors, good .queued .placed 0 held)
+  head-low = low-slot p v s w q 0 lq held
 
-  second : getD seats (seat q (slot l 0) 1) 0 ≡ cond (ltb next (p .tasks)) (next + 1) 0
-  second = rw (eq-eqb (slot l 0) _ refl) at (seat-after (slot l 0) head-low)
+  a-next : 2 ≤ maxBelow (p .tasks) (R (slot l 0)) → 1 ≤ maxBelow (p .tasks) (S (slot l 0))
+  a-next a = omega (arith, leave-max x)
 
-  no-next : p .tasks ≤ next → maxBelow (p .tasks) (R (slot l 0)) ≤ 1
-  no-next a =
-      on-le (maxBelow (p .tasks) (R (slot l 0)) ≤ 1) (maxBelow (p .tasks) (R (slot l 0))) 1 (λ y. y)
-      (λ y. omega (arith, full ranked (slot l 0) 1 (omega arith) (omega (arith, leave-max x))))
-
-  a-next : next < p .tasks → 1 ≤ maxBelow (p .tasks) (S (slot l 0))
-  a-next a = omega (arith, task-rank (p .tasks) 1 (S (slot l 0)) a, max-at (p .tasks) next (S (slot l 0)) a)
-
-  two : next < p .tasks → 2 ≤ maxBelow (p .tasks) (R (slot l 0))
-  two a = omega (arith, a-next a, leave-max x)
-
-  hold-next : next < p .tasks → holdOf figures seats q (slot l 0) 1 ≡ holdAt p next q
+  hold-next : 2 ≤ maxBelow (p .tasks) (R (slot l 0)) → holdOf figures seats q (slot l 0) 1 ≡ holdAt p next q
   hold-next a = rw (eq-eqb (slot l 0) _ refl) at (hold-after (slot l 0) head-low (a-next a))
 
   -- the queue without its head, and with it at the tail
@@ -168,50 +149,44 @@ module _ (p : Plan) (v : Valid p) (s : State) (w : Whole p s) {figures keys seat
     ruled-as e = sym (rw count e)
 
     -- the three ways on
-    pass-last : p .tasks ≤ next → Shown p us q (begun figures seats q (slot l 0) others c) ruled
+    pass-last : maxBelow (p .tasks) (R (slot l 0)) ≤ 1 → Shown p us q (begun figures seats q (slot l 0) others c) ruled
     pass-last a =
         shown-as
-        (begins others c (omega (arith, good .small)) (last-queued x queued (λ i. getD others i 0) (no-next a) other-at)
+        (begins others c (omega (arith, good .small)) (last-queued x queued (λ i. getD others i 0) a other-at)
         (λ i y z. shifted-rest (l .queue) (l .queued) i (good .rest) (omega arith) z))
-        (ruled-as (leave-last (terms p q) x queued b (λ i. getD others i 0) (no-next a) other-at))
+        (ruled-as (leave-last (terms p q) x queued b (λ i. getD others i 0) a other-at))
 
-    pass-back : next < p .tasks → b < holdAt p next q → Shown p us q (begun figures seats q (slot l 0) back (l .queued)) ruled
+    pass-back : 2 ≤ maxBelow (p .tasks) (R (slot l 0)) → b < holdAt p next q → Shown p us q (begun figures seats q (slot l 0) back (l .queued)) ruled
     pass-back a y =
         let same : (j : ℕ) → j < c → getD back j 0 ≡ slot l (suc j) =
         λ j z. getD-set-other others c j (slot l 0) 0 (λ i. omega arith) ∙ other-at j z in
         let last : getD back c 0 ≡ slot l 0 = getD-set-same others c (slot l 0) 0 (omega (arith, good .small)) in
         shown-as
-        (begins back (l .queued) (good .small) (rw (← count) at (back-queued x queued (λ i. getD back i 0) (two a) same last))
+        (begins back (l .queued) (good .small) (rw (← count) at (back-queued x queued (λ i. getD back i 0) a same last))
         (λ i y z. getD-set-other others c i (slot l 0) 0 (λ e. omega arith)
         ∙ shifted-rest (l .queue) (l .queued) i (good .rest) (omega arith) z))
-        (ruled-as (leave-back (terms p q) x queued b (λ i. getD back i 0) (two a) y same last
+        (ruled-as (leave-back (terms p q) x queued b (λ i. getD back i 0) a y same last
         ∙ ap (λ (d : ℕ). Rules.begin (terms p q) (queueFrom (p .tasks) S d (λ i. getD back i 0))) (sym count)))
 
-    pass-next : b ≤ budget p (slot l 0) q → next < p .tasks → holdAt p next q ≤ b
+    pass-next : b ≤ budget p (slot l 0) q → 2 ≤ maxBelow (p .tasks) (R (slot l 0)) → holdAt p next q ≤ b
         → Shown p us q (record { queued = l .queued; queue = l .queue; «hold_left» = holdAt p next q; «budget_left» = b }) ruled
     pass-next within a y =
         shown-as
         (record {
-          good = record {
-            small = good .small;
-            ranked = ranked;
-            queued = rw (← count) at (next-queued x queued (two a));
-            rest = good .rest;
-            timed = next-timed ranked (λ u. hold-within p u q) (l .queued) (slot l) b (a-next a) y within held;
-          };
+          good = begun-good (l .queued) _ b (good .small) (rw (← count) at (next-queued x queued a)) (good .rest)
+              (next-timed ranked (λ u. hold-within p u q) (l .queued) (slot l) b (a-next a) y within held);
           shows = refl;
         })
-        (ruled-as (leave-next (terms p q) x queued b (two a) y
+        (ruled-as (leave-next (terms p q) x queued b a y
         ∙ ap (λ (d : ℕ). Rules.line (holdAt p next q) b (queueFrom (p .tasks) S d (slot l))) (sym count)))
 
     -- the line once its holder left
     pub passed-shown : b ≤ budget p (slot l 0) q → Shown p us q (passed figures seats q line) ruled
     unfolding passed
     passed-shown within =
-        on-le (Shown p us q (passed figures seats q line) ruled) (p .tasks) next
-        (λ a. rw (second, le-ltb next (p .tasks) a) (pass-last a))
-        (λ a. let there : getD seats (seat q (slot l 0) 1) 0 ≡ next + 1 = rw (lt-ltb next (p .tasks) a) at second in
-        let some : getD seats (seat q (slot l 0) 1) 0 ≢ 0 = λ e. omega arith in
+        on-le (Shown p us q (passed figures seats q line) ruled) 2 (maxBelow (p .tasks) (R (slot l 0)))
+        (λ a. let some : getD seats (seat q (slot l 0) 1) 0 ≢ 0 = λ e. omega (arith, seat-taken p v s w (t .seats-at) q (slot l 0) lq head-low 1 a) in
         on-le (Shown p us q (passed figures seats q line) ruled) (holdAt p next q) b
         (λ y. rw (ne-eqb _ 0 some, hold-next a, le-leb _ _ y) (pass-next within a y))
         (λ y. rw (ne-eqb _ 0 some, hold-next a, lt-leb _ _ y) (pass-back a y)))
+        (λ a. rw (seat-empty p v s w (t .seats-at) q (slot l 0) lq head-low 1 (omega arith) (omega arith)) (pass-last (omega arith)))

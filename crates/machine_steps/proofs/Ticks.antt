@@ -19,7 +19,7 @@ use Rattle.machine_state.specs.Shows.{noLine, lineAt, slot, rank, shownLine, sh
 use Rattle.machine_state.specs.Inner.{queueAt}
 use Rattle.machine_state.proofs.Good.{Good, Whole}
 use Rattle.machine_steps.specs.Inner.{passed, stepped, cutsHolder, lostQueue, endedOf, steppedLines, tickedBy, cutWord, grantWord}
-use Rattle.machine_steps.proofs.Ready.{Tabled}
+use Rattle.machine_steps.proofs.Ready.{Tabled, low-slot}
 use Rattle.machine_steps.proofs.Falling.{Ended, ranks-leave, ranks-stay, rows-after}
 use Rattle.machine_steps.proofs.Marks.{no-mark, cut-queued}
 use Rattle.machine_steps.proofs.Shown.{Shown, shown-as, stays-shown, past-row, past-shows, all-shown}
@@ -38,7 +38,7 @@ module _ (p : Plan) (v : Valid p) (s : State) (w : Whole p s) where
   key = lostQueue (s .lines)
 
   head-low : (q : ℕ) → q < 16 → cutsHolder (lineAt s q) ≡ true → slot (lineAt s q) 0 < 8
-  head-low q lq e = omega (arith, v .processors, w .lines q lq .queued .placed 0 (cut-queued (lineAt s q) e))
+  head-low q lq e = low-slot p v s w q 0 lq (cut-queued (lineAt s q) e)
 
   key-mark : (q : ℕ) → q < 16 → mark (cutsHolder (lineAt s q)) ≡ mark (ltb (key q) 128)
   key-mark q lq =
