@@ -158,17 +158,13 @@ module _ (p : Plan) (v : Valid p) (s : State) (w : Whole p s) (len : length (s .
         shows = sym (enter-free joins (l .queued) (slot l) _ (l .«hold_left») (l .«budget_left») none z last);
       }
 
-  pushes : ahead ≡ 0 → Shown p after q entry ruled
-  unfolding pushed
-  pushes z =
-      on-eq (Shown p after q entry ruled) (l .queued) 0
-      (λ e. rw (eq-eqb (l .queued) 0 e) (first z e)) (λ n. rw (ne-eqb (l .queued) 0 n) (behind z (omega arith)))
-
   joins-line : Shown p after q (lineAt (entering p s i q) q) ruled
-  unfolding joinedLines
+  unfolding joinedLines pushed
   joins-line =
       on-eq (Shown p after q (lineAt (entering p s i q) q) ruled) ahead 0
-      (λ z. rw (eq-eqb ahead 0 z, getD-set-same (s .lines) q entry noLine (omega (arith, low))) (pushes z))
+      (λ z. rw (eq-eqb ahead 0 z, getD-set-same (s .lines) q entry noLine (omega (arith, low)))
+      (on-eq (Shown p after q entry ruled) (l .queued) 0
+      (λ e. rw (eq-eqb (l .queued) 0 e) (first z e)) (λ n. rw (ne-eqb (l .queued) 0 n) (behind z (omega arith)))))
       (λ n. rw (ne-eqb ahead 0 n) (there (omega arith)))
 
   -- ── the other lines stay, and so do the ranks for them ──

@@ -67,19 +67,16 @@ module _ (p : Plan) (v : Valid p) (s : State) (w : Whole p s) {figures keys seat
   queued = rw count at (good .queued)
 
   -- the first task of processor k afterwards, as the tables from before tell it
-  seat-after : (k : ℕ) → k < 8
-      → getD seats (seat q k (cond (eqb k (slot l 0)) 1 0)) 0 ≡ cond (ltb (taskRanked (p .tasks) (S k) 1) (p .tasks)) (taskRanked (p .tasks) (S k) 1 + 1) 0
-  seat-after k lk =
-      rw (after-first x k)
+  pub first-after : (k : ℕ) → k < 8 → 1 ≤ maxBelow (p .tasks) (S k)
+      → getD seats (seat q k (cond (eqb k (slot l 0)) 1 0)) 0 ≡ taskRanked (p .tasks) (S k) 1 + 1
+  first-after k lk a =
+      let sits : Sits (eqb k (slot l 0)) (taskRanked (p .tasks) (S k) 1) = rw (after-first x k)
       (by-eq (λ (b : Bool). Sits b (cond b (taskRanked (p .tasks) (R k) 2) (taskRanked (p .tasks) (R k) 1))) k (slot l 0)
-      (λ e. seat-task p v s w (t .seats-at) q k lq lk 1 (omega arith)) (λ n. seat-task p v s w (t .seats-at) q k lq lk 0 (omega arith)))
+      (λ e. seat-task p v s w (t .seats-at) q k lq lk 1 (omega arith)) (λ n. seat-task p v s w (t .seats-at) q k lq lk 0 (omega arith))) in
+      sits ∙ rw (lt-ltb _ _ (full ranked k 1 (omega arith) a))
     where
       Sits : Bool → ℕ → Type 0
       Sits b u = getD seats (seat q k (cond b 1 0)) 0 ≡ cond (ltb u (p .tasks)) (u + 1) 0
-
-  pub first-after : (k : ℕ) → k < 8 → 1 ≤ maxBelow (p .tasks) (S k)
-      → getD seats (seat q k (cond (eqb k (slot l 0)) 1 0)) 0 ≡ taskRanked (p .tasks) (S k) 1 + 1
-  first-after k lk a = seat-after k lk ∙ rw (lt-ltb _ _ (full ranked k 1 (omega arith) a))
 
   hold-after : (k : ℕ) → k < 8 → 1 ≤ maxBelow (p .tasks) (S k)
       → holdOf figures seats q k (cond (eqb k (slot l 0)) 1 0) ≡ holdAt p (taskRanked (p .tasks) (S k) 1) q

@@ -1,6 +1,6 @@
 -- What the tables tell of a line that goes on to its next task.
-use Rattle.folds.proofs.Ground.{ℕ, _+_, _*_, _-_, _≤_, _<_, Bool, _≡_, refl, sym, ap, subst, _∙_, List, getD, getD-set-other, arith, eq-eqb, ne-eqb}
-use Rattle.folds.proofs.Arrays.{by-eq}
+use Rattle.folds.proofs.Ground.{ℕ, _+_, _*_, _-_, _≤_, _<_, _≡_, refl, ap, _∙_, List, getD, getD-set-other, arith, eq-eqb, ne-eqb}
+use Rattle.folds.proofs.Searches.{on-eq}
 pub use Rattle.folds.proofs.Tests.{byte-count as flag, byte-le as flag-low}
 use Rattle.machine_state.specs.declared.LineRow.{LineRow}
 use Rattle.machine_state.specs.Shows.{slot}
@@ -27,12 +27,9 @@ next-begins seats q l r m =
 pub turned-begins : (seats : List ℕ) (q : ℕ) (l : LineRow) → Ready seats q l → 1 ≤ getD seats (seat q (slot l 0) 1) 0
     → Begins seats q (slot l 0) (getD (turned (l .queue) (l .queued)) 0 0)
 turned-begins seats q l r m =
-    by-eq (λ (b : Bool). Begins seats q (slot l 0) (getD (turned (l .queue) (l .queued)) 0 0)) (l .queued) 1
-    (λ e. subst (Begins seats q (slot l 0)) (sym (lone e)) (record { core = r .placed 0 (omega (arith, r .some)); taken = rw (eq-eqb (slot l 0) (slot l 0) refl) m }))
-    (λ d. subst (Begins seats q (slot l 0)) (sym (more d)) (next-begins seats q l r (omega (arith, r .some))))
-  where
-    lone : l .queued ≡ 1 → getD (turned (l .queue) (l .queued)) 0 0 ≡ slot l 0
-    lone e = rw e
-
-    more : (l .queued ≡ 1 → ⊥) → getD (turned (l .queue) (l .queued)) 0 0 ≡ slot l 1
-    more d = getD-set-other (shifted (l .queue)) (l .queued - 1) 0 (slot l 0) 0 (λ e. omega (arith, r .some))
+    on-eq (Begins seats q (slot l 0) (getD (turned (l .queue) (l .queued)) 0 0)) (l .queued) 1
+    (λ e. let h : getD (turned (l .queue) (l .queued)) 0 0 ≡ slot l 0 = rw e in
+    rw h (record { core = r .placed 0 (omega (arith, r .some)); taken = rw (eq-eqb (slot l 0) (slot l 0) refl) m }))
+    (λ d. let h : getD (turned (l .queue) (l .queued)) 0 0 ≡ slot l 1 =
+    getD-set-other (shifted (l .queue)) (l .queued - 1) 0 (slot l 0) 0 (λ e. omega (arith, r .some)) in
+    rw h (next-begins seats q l r (omega (arith, r .some))))

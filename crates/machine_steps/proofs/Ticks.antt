@@ -33,6 +33,19 @@ on-test A false f g = g refl
 abbrev mark : Bool → ℕ
 mark b = cond b 1 0
 
+-- a line is cut where one tick of the hold is left, and held where somebody is queued
+cut-line : (n : ℕ) (R : ℕ → ℕ → ℕ) (c : ℕ) (g : ℕ → ℕ) (h b : ℕ) → (1 ≤ c → 1 ≤ h)
+    → (ltb 0 c && eqb h 1) ≡ Rules.cut (Rules.line h b (queueFrom n R c g))
+unfolding listFrom
+cut-line n R zero g h b some = refl
+cut-line n R (suc c) g h b some =
+    let a : 1 ≤ h = some (omega arith) in rw (lt-ltb 0 (suc c) (omega arith)) (same-eqb h 1 (h - 1) 0 (λ e. omega arith) (λ e. omega arith))
+
+held-line : (n : ℕ) (R : ℕ → ℕ → ℕ) (c : ℕ) (g : ℕ → ℕ) (h b : ℕ) → ltb 0 c ≡ held (Rules.line h b (queueFrom n R c g))
+unfolding listFrom
+held-line n R zero g h b = refl
+held-line n R (suc c) g h b = lt-ltb 0 (suc c) (omega arith)
+
 module _ (p : Plan) (v : Valid p) (s : State) (w : Whole p s) where
   abbrev key : ℕ → ℕ
   key = lostQueue (s .lines)
@@ -121,14 +134,10 @@ module _ (p : Plan) (v : Valid p) (s : State) (w : Whole p s) {figures keys seat
         (record { small = g .small; ranked = g .ranked; queued = g .queued; rest = g .rest; timed = tick-timed (g .timed) a some }))
         (ruled a false (ne-eqb (l .«hold_left» - 1) 0 (λ e. omega arith)))
 
-    ticked-line : lineAt T q ≡ stepped figures seats q l
-    unfolding steppedLines
-    ticked-line = each-at noLine (λ q l. stepped figures seats q l) 16 q (s .lines) lq (omega (arith, t .lines-long))
-
     ticked-shown : Shown p (T .tasks) q (lineAt T q) (Rules.ticked (terms p q) (shows p s .lines q))
-    unfolding stepped shows
+    unfolding stepped steppedLines shows
     ticked-shown =
-        rw ticked-line
+        rw (each-at noLine (λ q l. stepped figures seats q l) 16 q (s .lines) lq (omega (arith, t .lines-long)))
         (on-eq (Shown p (T .tasks) q (stepped figures seats q l) (Rules.ticked (terms p q) (shows p s .lines q))) (l .queued) 0
         (λ e. rw (eq-eqb (l .queued) 0 e) (tick-free e))
         (λ n. on-eq (Shown p (T .tasks) q (stepped figures seats q l) (Rules.ticked (terms p q) (shows p s .lines q))) (l .«hold_left») 1
@@ -145,20 +154,7 @@ module _ (p : Plan) (v : Valid p) (s : State) (w : Whole p s) {figures keys seat
       (λ q a. let long = each-length noLine (λ q l. stepped figures seats q l) 16 (s .lines) ∙ t .lines-long in
       past-shows p T q (past-row T long q a) ∙ rw (past-shows p s q (past-row s (t .lines-long) q a)))
 
--- a line is cut where one tick of the hold is left, and held where somebody is queued
-cut-line : (n : ℕ) (R : ℕ → ℕ → ℕ) (c : ℕ) (g : ℕ → ℕ) (h b : ℕ) → (1 ≤ c → 1 ≤ h)
-    → (ltb 0 c && eqb h 1) ≡ Rules.cut (Rules.line h b (queueFrom n R c g))
-unfolding listFrom
-cut-line n R zero g h b some = refl
-cut-line n R (suc c) g h b some =
-    let a : 1 ≤ h = some (omega arith) in rw (lt-ltb 0 (suc c) (omega arith)) (same-eqb h 1 (h - 1) 0 (λ e. omega arith) (λ e. omega arith))
-
-held-line : (n : ℕ) (R : ℕ → ℕ → ℕ) (c : ℕ) (g : ℕ → ℕ) (h b : ℕ) → ltb 0 c ≡ held (Rules.line h b (queueFrom n R c g))
-unfolding listFrom
-held-line n R zero g h b = refl
-held-line n R (suc c) g h b = lt-ltb 0 (suc c) (omega arith)
-
-module _ (p : Plan) (v : Valid p) (s : State) (w : Whole p s) {figures keys seats : List ℕ} (t : Tabled p s figures keys seats) where
+  -- ── the words ──
   ends-cuts : (q : ℕ) → q < 16 → cutsHolder (lineAt s q) ≡ Rules.cut (shows p s .lines q)
   unfolding shows
   ends-cuts q lq =
@@ -177,4 +173,4 @@ module _ (p : Plan) (v : Valid p) (s : State) (w : Whole p s) {figures keys seat
       holding q lq =
           let l : LineRow = lineAt (tickedBy figures keys seats s) q in
           held-line (p .tasks) (rank p (tickedBy figures keys seats s .tasks) q) (l .queued) (slot l) (l .«hold_left») (l .«budget_left»)
-          ∙ ap held (ticked-shown p v s w t q lq .shows)
+          ∙ ap held (ticked-shown q lq .shows)
