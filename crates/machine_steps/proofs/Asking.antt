@@ -3,25 +3,14 @@ use Rattle.folds.proofs.Ground.{ℕ, zero, suc, _+_, _*_, _-_, _<_, _≤_, Bool
 use Rattle.folds.specs.Below.{anyBelow, sumBelow, maxBelow}
 use Rattle.folds.proofs.Tests.{same-test, all-from, any-at, any-out, any-same, find-none}
 use Rattle.folds.proofs.Figures.{sum-same}
-use Rattle.plan_reading.specs.Plan.{Plan, Valid}
-use Rattle.analysis_equations.specs.Sharing.{processorOf}
-use Rattle.analysis_equations.specs.HoldTimes.{holdAt, waitTime}
+use Rattle.machine_steps.proofs.Names.{Plan, Valid, processorOf, holdAt, waitTime, holdCell, Figures, terms, busy, requestAnswer, listFrom, taskRanked, queueFrom, Standing, LineRow, State, standing, lineAt, slot, rank, shows, noneInLine, seat, Seats, Whole}
 use Rattle.queue_rules.specs.Rules.{line, inLine, tasksOf, sumOf, limit}
 use Rattle.machine_rules.specs.declared.Answer.the-variants.{Granted, Waits}
-use Rattle.machine_rules.specs.Machine.{terms, busy, requestAnswer}
-use Rattle.queue_ranks.specs.Ranks.{listFrom, taskRanked, queueFrom}
 use Rattle.folds.proofs.Searches.{on-le, find-is}
 use Rattle.machine_steps.proofs.Ready.{seats-few, seat-taken, seat-empty}
 use Rattle.queue_ranks.proofs.Lists.{list-snoc, list-length}
 use Rattle.queue_ranks.proofs.Ranked.{full}
-use Rattle.analysis_figures.specs.Figures.{holdCell, Figures}
-use Rattle.machine_state.specs.declared.Standing.{Standing}
-use Rattle.machine_state.specs.declared.LineRow.{LineRow}
-use Rattle.machine_state.specs.declared.State.{State}
-use Rattle.machine_state.specs.Shows.{standing, lineAt, slot, rank, shows, noneInLine}
-use Rattle.machine_state.specs.Inner.{seat, Seats}
 use Rattle.machine_state.proofs.Tables.{low-processor}
-use Rattle.machine_state.proofs.Good.{Whole}
 use Rattle.machine_state.proofs.Wholes.{hold-resource}
 use Rattle.machine_state.proofs.Told.{ahead-list, stands-is}
 use Rattle.machine_steps.specs.Inner.{taken, takenHolds}

@@ -4,16 +4,9 @@ use Rattle.folds.proofs.Figures.{max-at}
 use Rattle.folds.proofs.Ranges.{cond-bound}
 use Rattle.folds.proofs.Arrays.{by-eq}
 use Rattle.folds.proofs.EachLaws.{each-at}
-use Rattle.plan_reading.specs.Plan.{Plan, Valid}
-use Rattle.analysis_equations.specs.Sharing.{processorOf}
-use Rattle.analysis_equations.specs.HoldTimes.{holdAt}
+use Rattle.machine_steps.proofs.Names.{Plan, Valid, processorOf, holdAt, Standing, State, noStanding, noneInLine, movedUp, standing, lineAt, slot, rank, queueAt, seat, noSeat, keyOf, Whole}
 use Rattle.folds.proofs.Searches.{on-le}
 use Rattle.queue_ranks.proofs.Leave.{Leaves}
-use Rattle.machine_state.specs.declared.Standing.{Standing}
-use Rattle.machine_state.specs.declared.State.{State}
-use Rattle.machine_state.specs.Shows.{noStanding, noneInLine, movedUp, standing, lineAt, slot, rank}
-use Rattle.machine_state.specs.Inner.{queueAt, seat, noSeat, keyOf}
-use Rattle.machine_state.proofs.Good.{Whole}
 use Rattle.machine_state.proofs.Tables.{low-processor}
 use Rattle.machine_state.proofs.Wholes.{rank-own}
 use Rattle.machine_steps.specs.Inner.{fallen, lowered}

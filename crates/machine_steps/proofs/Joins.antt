@@ -1,22 +1,14 @@
 -- Task i joins the line of q: the state stays sound, and shows what the rule makes of that line.
 use Rattle.folds.proofs.Ground.{ℕ, _+_, _<_, _≤_, Bool, true, false, cond, and-false, _≡_, refl, sym, ap, _∙_, _≢_, _⊎_, inr, List, eqb, length, getD, set, List·getD-eq-default, getD-set-same, getD-set-other, add-one, arith, eq-eqb, ne-eqb}
 use Rattle.folds.specs.Below.{maxBelow}
-use Rattle.plan_reading.specs.Plan.{Plan, Valid}
-use Rattle.analysis_equations.specs.Sharing.{processorOf}
-use Rattle.analysis_equations.specs.HoldTimes.{holdAt, budget}
+use Rattle.machine_steps.proofs.Names.{Plan, Valid, processorOf, holdAt, budget, terms, change, Standing, LineRow, State, noStanding, noLine, standing, lineAt, slot, rank, shownLine, shows, noneInLine, inLineAt, Good, Whole}
 use Rattle.analysis_equations.proofs.Laws.{hold-within}
 use Rattle.queue_rules.specs.Rules as Rules
 use Rattle.queue_rules.specs.Rules.{entered}
-use Rattle.machine_rules.specs.Machine.{terms, change}
 use Rattle.folds.proofs.Searches.{on-eq, on-le}
 use Rattle.queue_ranks.proofs.Ranked.{At, Timed, queued-few}
 use Rattle.queue_ranks.proofs.Join.{Joins, enter-free, enter-new, enter-there}
 use Rattle.queue_ranks.proofs.JoinKeeps.{join-ranked, join-queued, join-queued-new, join-timed, join-timed-new}
-use Rattle.machine_state.specs.declared.Standing.{Standing}
-use Rattle.machine_state.specs.declared.LineRow.{LineRow}
-use Rattle.machine_state.specs.declared.State.{State}
-use Rattle.machine_state.specs.Shows.{noStanding, noLine, standing, lineAt, slot, rank, shownLine, shows, noneInLine, inLineAt}
-use Rattle.machine_state.proofs.Good.{Good, Whole}
 use Rattle.machine_state.proofs.Wholes.{rank-none, hold-resource}
 use Rattle.machine_steps.specs.Inner.{pushed, joinedLines, joined}
 use Rattle.machine_steps.proofs.Shown.{Shown, Changes, changed-whole, changed-shows}

@@ -2,20 +2,13 @@
 use Rattle.folds.proofs.Ground.{ℕ, zero, suc, _+_, _-_, _<_, _≤_, Bool, false, cond, _&&_, and-true, and-false, _≡_, refl, sym, ap, _∙_, List, eqb, getD, set, replicate, getD-set-same, getD-set-other, arith, eq-eqb, ne-eqb}
 use Rattle.folds.specs.Below.{anyBelow}
 use Rattle.folds.proofs.Arrays.{by-eq, cell-eqb, markedBelow, marked-at}
-use Rattle.plan_reading.specs.Plan.{Plan, Valid}
+use Rattle.machine_steps.proofs.Names.{Plan, Valid, change, terms, releaseAnswer, listFrom, taskRanked, queueFrom, LineRow, State, noLine, lineAt, slot, rank, shows, queueAt, seat, Seats, Whole}
 use Rattle.queue_rules.specs.Rules as Rules
 use Rattle.machine_rules.specs.declared.Answer.the-variants.{Next, Free}
-use Rattle.machine_rules.specs.Machine.{change, terms, releaseAnswer}
-use Rattle.queue_ranks.specs.Ranks.{listFrom, taskRanked, queueFrom}
 use Rattle.folds.proofs.Searches.{same-eqb}
 use Rattle.queue_ranks.proofs.Ranked.{full}
 use Rattle.queue_ranks.proofs.Reading.{holds-none, holds-first}
 use Rattle.queue_ranks.proofs.Leave.{Leaves}
-use Rattle.machine_state.specs.declared.LineRow.{LineRow}
-use Rattle.machine_state.specs.declared.State.{State}
-use Rattle.machine_state.specs.Shows.{noLine, lineAt, slot, rank, shows}
-use Rattle.machine_state.specs.Inner.{queueAt, seat, Seats}
-use Rattle.machine_state.proofs.Good.{Whole}
 use Rattle.machine_steps.specs.Inner.{noMarks, passed, leftBy}
 use Rattle.machine_steps.proofs.Ready.{Tabled, low-slot, seat-taken}
 use Rattle.machine_steps.proofs.Falling.{Ended, ranks-leave, ranks-stay, rows-after}

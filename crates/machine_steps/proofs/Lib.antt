@@ -1,3 +1,4 @@
+pub mod Names
 pub mod Marks
 pub mod Passing
 pub mod Taken

@@ -9,10 +9,7 @@ use Rattle.folds.specs.Words.{bitOf, wordBelow}
 use Rattle.folds.proofs.Arrays.{stamped-step, stamped-at}
 use Rattle.folds.proofs.EachLaws.{each-at, each-later}
 use Rattle.folds.proofs.WordLaws.{word-ones, word-done, word-same}
-use Rattle.machine_state.specs.declared.Standing.{Standing}
-use Rattle.machine_state.specs.declared.LineRow.{LineRow}
-use Rattle.machine_state.specs.Shows.{noStanding, noLine, slot}
-use Rattle.machine_state.specs.Inner.{seatCount}
+use Rattle.machine_steps.proofs.Names.{Standing, LineRow, noStanding, noLine, slot, seatCount}
 use Rattle.machine_steps.specs.Inner.{fallen, lowered, cutsHolder, lostQueue, endedBelow, endedOf, stepped, steppedLines, cutWord, grantWord}
 
 -- what stands for a queue that loses nobody

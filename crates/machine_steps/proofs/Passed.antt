@@ -2,22 +2,13 @@
 use Rattle.folds.proofs.Ground.{ℕ, zero, suc, _+_, _-_, _<_, _≤_, Bool, cond, _≡_, refl, sym, ap, _∙_, _≢_, List, eqb, ltb, getD, getD-set-same, getD-set-other, arith, eq-eqb, ne-eqb, lt-ltb, le-leb, lt-leb}
 use Rattle.folds.specs.Below.{maxBelow}
 use Rattle.folds.proofs.Arrays.{by-eq}
-use Rattle.plan_reading.specs.Plan.{Plan, Valid}
-use Rattle.analysis_equations.specs.HoldTimes.{holdAt, budget}
+use Rattle.machine_steps.proofs.Names.{Plan, Valid, holdAt, budget, terms, taskRanked, queueFrom, Standing, LineRow, State, lineAt, slot, rank, shows, seat, Good, Whole}
 use Rattle.analysis_equations.proofs.Laws.{hold-within}
 use Rattle.queue_rules.specs.Rules as Rules
-use Rattle.machine_rules.specs.Machine.{terms}
-use Rattle.queue_ranks.specs.Ranks.{taskRanked, queueFrom}
 use Rattle.folds.proofs.Searches.{on-eq, on-le}
 use Rattle.queue_ranks.proofs.Ranked.{Ranked, Queued, Timed, full}
 use Rattle.queue_ranks.proofs.Leave.{Leaves, leave-max, after-first, begin-none, begin-some, leave-last, leave-next, leave-back}
 use Rattle.queue_ranks.proofs.LeaveKeeps.{leave-ranked, next-queued, last-queued, back-queued, free-timed, begin-timed, next-timed}
-use Rattle.machine_state.specs.declared.Standing.{Standing}
-use Rattle.machine_state.specs.declared.LineRow.{LineRow}
-use Rattle.machine_state.specs.declared.State.{State}
-use Rattle.machine_state.specs.Shows.{lineAt, slot, rank, shows}
-use Rattle.machine_state.specs.Inner.{seat}
-use Rattle.machine_state.proofs.Good.{Good, Whole}
 use Rattle.machine_steps.specs.Inner.{shifted, turned, holdOf, begun, passed}
 use Rattle.machine_steps.proofs.Ready.{Tabled, low-slot, seat-task, seat-taken, seat-empty}
 use Rattle.machine_steps.proofs.Shown.{Shown, shown-as}

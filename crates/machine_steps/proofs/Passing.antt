@@ -2,9 +2,7 @@
 use Rattle.folds.proofs.Ground.{ℕ, _+_, _*_, _-_, _≤_, _<_, _≡_, refl, ap, _∙_, List, getD, getD-set-other, arith, eq-eqb, ne-eqb}
 use Rattle.folds.proofs.Searches.{on-eq}
 pub use Rattle.folds.proofs.Tests.{byte-count as flag, byte-le as flag-low}
-use Rattle.machine_state.specs.declared.LineRow.{LineRow}
-use Rattle.machine_state.specs.Shows.{slot}
-use Rattle.machine_state.specs.Inner.{seat, seatCount}
+use Rattle.machine_steps.proofs.Names.{LineRow, slot, seat, seatCount}
 use Rattle.machine_steps.specs.Inner.{Ready, Begins, shifted, turned}
 
 -- a seat read by a copy w of its processor's number

@@ -1,16 +1,10 @@
 -- What the functions rely on, from a sound state and its tables.
 use Rattle.folds.proofs.Ground.{ℕ, _+_, _<_, _≤_, cond, _≡_, _∙_, List, ltb, length, getD, arith, lt-ltb, le-ltb}
-use Rattle.plan_reading.specs.Plan.{Plan, Valid}
-use Rattle.analysis_figures.specs.Figures.{Figures}
-use Rattle.queue_ranks.specs.Ranks.{taskRanked}
+use Rattle.machine_steps.proofs.Names.{Plan, Valid, Figures, taskRanked, State, lineAt, slot, rank, seat, Keys, Seats, Sized, Whole}
 use Rattle.folds.specs.Below.{maxBelow}
 use Rattle.folds.proofs.Figures.{max-at}
 use Rattle.folds.proofs.Searches.{on-le}
 use Rattle.queue_ranks.proofs.Ranked.{task-rank, ranks-few, seated, sole, full}
-use Rattle.machine_state.specs.declared.State.{State}
-use Rattle.machine_state.specs.Shows.{lineAt, slot, rank}
-use Rattle.machine_state.specs.Inner.{seat, Keys, Seats, Sized}
-use Rattle.machine_state.proofs.Good.{Whole}
 use Rattle.machine_state.proofs.Tables.{sized-by}
 use Rattle.machine_steps.specs.Inner.{Ready, Running}
 

@@ -2,17 +2,9 @@
 use Rattle.folds.proofs.Ground.{ℕ, _<_, _≤_, Bool, cond, _≡_, refl, sym, ap, _∙_, fun-ext, _≢_, _⊎_, List, length, List·getD-eq-default, arith, ne-eqb}
 use Rattle.folds.proofs.Arrays.{by-eq}
 use Rattle.folds.proofs.Searches.{on-le}
-use Rattle.plan_reading.specs.Plan.{Plan}
-use Rattle.analysis_equations.specs.HoldTimes.{holdAt}
+use Rattle.machine_steps.proofs.Names.{Plan, holdAt, Lines, terms, change, listFrom, Standing, LineRow, State, noLine, noneInLine, standing, lineAt, slot, rank, shownLine, shows, Good, Whole}
 use Rattle.queue_rules.specs.Rules as Rules
-use Rattle.machine_rules.specs.Machine.{Lines, terms, change}
-use Rattle.queue_ranks.specs.Ranks.{listFrom}
 use Rattle.queue_ranks.proofs.Same.{same-ranked, same-queued, same-timed, same-queue}
-use Rattle.machine_state.specs.declared.Standing.{Standing}
-use Rattle.machine_state.specs.declared.LineRow.{LineRow}
-use Rattle.machine_state.specs.declared.State.{State}
-use Rattle.machine_state.specs.Shows.{noLine, noneInLine, standing, lineAt, slot, rank, shownLine, shows}
-use Rattle.machine_state.proofs.Good.{Good, Whole}
 
 -- ── a line ──
 -- it is sound and shows m

@@ -6,18 +6,11 @@ use Rattle.folds.proofs.Tests.{and-parts, same-test, any-at, any-out}
 use Rattle.folds.proofs.Arrays.{stamped-at}
 use Rattle.folds.proofs.WordLaws.{word-same}
 use Rattle.folds.proofs.EachLaws.{each-at, each-length}
-use Rattle.plan_reading.specs.Plan.{Plan, Valid}
+use Rattle.machine_steps.proofs.Names.{Plan, Valid, terms, held, regranted, listFrom, queueFrom, LineRow, State, noLine, lineAt, slot, rank, shownLine, shows, queueAt, Good, Whole}
 use Rattle.queue_rules.specs.Rules as Rules
-use Rattle.machine_rules.specs.Machine.{terms, held, regranted}
-use Rattle.queue_ranks.specs.Ranks.{listFrom, queueFrom}
 use Rattle.folds.proofs.Searches.{on-eq, same-eqb}
 use Rattle.queue_ranks.proofs.Leave.{tick-none, tick-some}
 use Rattle.queue_ranks.proofs.LeaveKeeps.{tick-timed}
-use Rattle.machine_state.specs.declared.LineRow.{LineRow}
-use Rattle.machine_state.specs.declared.State.{State}
-use Rattle.machine_state.specs.Shows.{noLine, lineAt, slot, rank, shownLine, shows}
-use Rattle.machine_state.specs.Inner.{queueAt}
-use Rattle.machine_state.proofs.Good.{Good, Whole}
 use Rattle.machine_steps.specs.Inner.{passed, stepped, cutsHolder, lostQueue, endedOf, steppedLines, tickedBy, cutWord, grantWord}
 use Rattle.machine_steps.proofs.Ready.{Tabled, low-slot}
 use Rattle.machine_steps.proofs.Falling.{Ended, ranks-leave, ranks-stay, rows-after}
