@@ -6,7 +6,7 @@ use Rattle.analysis_equations.proofs.Laws.{hold-within}
 use Rattle.queue_rules.specs.Rules as Rules
 use Rattle.queue_rules.specs.Rules.{entered}
 use Rattle.folds.proofs.Searches.{on-eq, on-le}
-use Rattle.queue_ranks.proofs.Ranked.{At, Timed, queued-few}
+use Rattle.queue_ranks.proofs.Ranked.{At, Ranked, Timed, queued-few}
 use Rattle.queue_ranks.proofs.Join.{Joins, enter-free, enter-new, enter-there}
 use Rattle.queue_ranks.proofs.JoinKeeps.{join-ranked, join-queued, join-queued-new, join-timed, join-timed-new}
 use Rattle.machine_state.proofs.Wholes.{rank-none, hold-resource}
@@ -78,15 +78,15 @@ module _ (p : Plan) (v : Valid p) (s : State) (w : Whole p s) (len : length (s .
   was : Good p (s .tasks) q l
   was = w .lines q low
 
+  ranked : Ranked (p .tasks) (terms p q) (rank p after q)
+  ranked = join-ranked joins (was .ranked) some
+
   -- there is a slot for its processor, where that is not queued
   pub join-room : aheadOf p s i q ≡ 0 → lineAt s q .queued < 8
   join-room z =
-      omega (
-        arith,
-        v .processors,
-        queued-few (join-queued-new joins more (was .queued) z (v .task-fits i lt .processor)
-            (λ j b. rw (ne-eqb j (l .queued) (λ e. omega arith))) (rw (eq-eqb (l .queued) (l .queued) refl))),
-      )
+      let next = join-queued-new joins more (was .queued) z (v .task-fits i lt .processor)
+      (λ j b. rw (ne-eqb j (l .queued) (λ e. omega arith))) (rw (eq-eqb (l .queued) (l .queued) refl)) in
+      omega (arith, v .processors, queued-few next)
     where
       more : ℕ → ℕ
       more j = cond (eqb j (l .queued)) k (slot l j)
@@ -97,13 +97,8 @@ module _ (p : Plan) (v : Valid p) (s : State) (w : Whole p s) (len : length (s .
       let at : At (l .queued) (slot l) k = was .queued .stands k a in
       let held : 1 ≤ l .queued = omega (arith, at .within) in
       record {
-        good = record {
-          small = was .small;
-          ranked = join-ranked joins (was .ranked) some;
-          queued = join-queued joins (was .queued) a;
-          rest = was .rest;
-          timed = join-timed joins (l .queued) (slot l) (was .queued) (was .timed) held held refl;
-        };
+        good = let timed = join-timed joins (l .queued) (slot l) (was .queued) (was .timed) held held refl in
+            record { small = was .small; ranked = ranked; queued = join-queued joins (was .queued) a; rest = was .rest; timed = timed };
         shows = sym (enter-there joins (l .queued) (slot l) (l .«hold_left») (l .«budget_left») (was .queued) a);
       }
 
@@ -123,7 +118,7 @@ module _ (p : Plan) (v : Valid p) (s : State) (w : Whole p s) (len : length (s .
   pushed-good h b z t =
       record {
         small = omega (arith, join-room z);
-        ranked = join-ranked joins (was .ranked) some;
+        ranked = ranked;
         queued = join-queued-new joins _ (was .queued) z (v .task-fits i lt .processor) slot-same (slot-last z);
         rest = λ j a c. getD-set-other (l .queue) (l .queued) j k 0 (λ e. omega arith) ∙ was .rest j (omega arith) c;
         timed = t;

@@ -111,12 +111,10 @@ module _ (p : Plan) (v : Valid p) (s : State) (w : Whole p s) {figures keys seat
     unfolding shows listFrom
     next-told =
         ap (releaseAnswer p) (sym (changes .line .shows))
-        ∙ told (p .tasks) (rank p (L .tasks) q) (after .queued) (slot after) (after .«hold_left») (after .«budget_left»)
-        ∙ by-eq (λ (b : Bool). cond b Free (Next (p .task first .tag)) ≡ cond b Free (Next (p .task (granted - 1) .tag)))
-        (after .queued) 0 (λ e. refl)
-        (λ n. let u : first ≡ granted - 1 = omega (arith, next-first (omega arith)) in ap (λ (i : ℕ). Next (p .task i .tag)) u)
+        ∙ told (p .tasks) (rank p (L .tasks) q) (after .queued) (slot after) (after .«hold_left») (after .«budget_left») granted next-first
       where
-        told : (n : ℕ) (S : ℕ → ℕ → ℕ) (c : ℕ) (g : ℕ → ℕ) (h b : ℕ)
-            → releaseAnswer p (Rules.line h b (queueFrom n S c g)) ≡ cond (eqb c 0) Free (Next (p .task (taskRanked n (S (g 0)) 1) .tag))
-        told n S zero g h b = refl
-        told n S (suc c) g h b = rw (ne-eqb (suc c) 0 (λ e. omega arith))
+        told : (n : ℕ) (S : ℕ → ℕ → ℕ) (c : ℕ) (g : ℕ → ℕ) (h b x : ℕ) → (1 ≤ c → x ≡ taskRanked n (S (g 0)) 1 + 1)
+            → releaseAnswer p (Rules.line h b (queueFrom n S c g)) ≡ cond (eqb c 0) Free (Next (p .task (x - 1) .tag))
+        told n S zero g h b x e = refl
+        told n S (suc c) g h b x e =
+            let u : x - 1 ≡ taskRanked n (S (g 0)) 1 = omega (arith, e (omega arith)) in rw (ne-eqb (suc c) 0 (λ i. omega arith), u)

@@ -101,21 +101,14 @@ module _ (p : Plan) (v : Valid p) (s : State) (w : Whole p s) {figures keys seat
         shown-as (stays-shown p (s .tasks) (T .tasks) q l (ranks-stay p v s w t (ended p v s w) q lq on) (w .lines q lq))
         (sym (tick-none (p .tasks) (terms p q) (rank p (s .tasks) q) (l .queued) (slot l) (l .«hold_left») (l .«budget_left») e))
 
-    -- of a held one
-    ruled : 1 ≤ l .queued → (b : Bool) → eqb (l .«hold_left» - 1) 0 ≡ b
-        → cond b (Rules.leave (terms p q) (l .«budget_left» - 1) (queueFrom (p .tasks) (rank p (s .tasks) q) (l .queued) (slot l)))
-        (Rules.line (l .«hold_left» - 1) (l .«budget_left» - 1) (queueFrom (p .tasks) (rank p (s .tasks) q) (l .queued) (slot l)))
-        ≡ next
-    ruled a b e =
-        sym (tick-some (p .tasks) (terms p q) (rank p (s .tasks) q) (l .queued) (slot l) (l .«hold_left») (l .«budget_left») a ∙ rw e)
-
     tick-cut : 1 ≤ l .queued → l .«hold_left» ≡ 1 → Shown p (T .tasks) q (passed figures seats q less) next
     tick-cut a e =
         let on : cutsHolder l ≡ true = rw (lt-ltb 0 (l .queued) a) (eq-eqb (l .«hold_left») 1 e) in
         shown-as
         (passed-shown p v s w t (T .tasks) q lq a (ranks-leave p v s w t (ended p v s w) q lq on) (l .«hold_left» - 1) (l .«budget_left» - 1)
         (omega (arith, w .lines q lq .timed .runs a .3)))
-        (ruled a true (eq-eqb (l .«hold_left» - 1) 0 (omega arith)))
+        (sym (tick-some (p .tasks) (terms p q) (rank p (s .tasks) q) (l .queued) (slot l) (l .«hold_left») (l .«budget_left») a
+        ∙ rw (eq-eqb (l .«hold_left» - 1) 0 (omega arith))))
 
     tick-on : 1 ≤ l .queued → l .«hold_left» ≢ 1 → Shown p (T .tasks) q less next
     tick-on a n =
@@ -125,7 +118,8 @@ module _ (p : Plan) (v : Valid p) (s : State) (w : Whole p s) {figures keys seat
         shown-as
         (stays-shown p (s .tasks) (T .tasks) q less (ranks-stay p v s w t (ended p v s w) q lq on)
         (record { small = g .small; ranked = g .ranked; queued = g .queued; rest = g .rest; timed = tick-timed (g .timed) a some }))
-        (ruled a false (ne-eqb (l .«hold_left» - 1) 0 (λ e. omega arith)))
+        (sym (tick-some (p .tasks) (terms p q) (rank p (s .tasks) q) (l .queued) (slot l) (l .«hold_left») (l .«budget_left») a
+        ∙ rw (ne-eqb (l .«hold_left» - 1) 0 (λ e. omega arith))))
 
     ticked-shown : Shown p (T .tasks) q (lineAt T q) (Rules.ticked (terms p q) (shows p s .lines q))
     unfolding stepped steppedLines shows

@@ -45,12 +45,6 @@ loop-again c =
     counted-more _ _ _ _ _ _ _ _ (turn w .before .loop .inv) (turn w .loop-test .taken) (sits w) (c .before .if1 .left) (c .hold-at .ensures)
     (omega arith)
 
-returns-2 : tie.Need-returns-2 Inv-loop μ-loop
-returns-2 c =
-    let l = c .before .loop in
-    let e : l .j ≡ 64 = omega (arith, l .inv .few) in
-    found-none _ _ _ _ _ (rw e at (l .inv))
-
 pub ahead-of-spec : {M : Type 1} → statement M
 ahead-of-spec =
     tie.close
@@ -58,4 +52,5 @@ ahead-of-spec =
     Inv-loop μ-loop (λ c. search needs) (λ c κs. search needs) (λ c. search needs) (λ c. search needs) (λ c. counted-none _ _ _ _)
     (λ c. search needs) (λ c. search needs) (λ c κs. search needs) (λ c. search needs) returns (λ c. omega arith) hold-at-requires
     (λ c. search needs) (λ c. let i = turn (c .before .before) .before .loop .inv in omega (arith, i .few, i .small)) (λ c. search needs)
-    (λ c. search needs) loop-again (λ c. omega arith) returns-2)
+    (λ c. search needs) loop-again (λ c. omega arith)
+    (λ c. found-none _ _ _ _ _ _ (c .before .loop .inv) (c .loop-test .left)))

@@ -10,11 +10,6 @@ use Rattle.machine_steps.proofs.pass.Tie as tie
 abbrev start : tie.After-wide → tie.Start
 start c = c .before .before .before .before
 
-shared-slice-read-next : tie.Need-shared-slice-read-next
-shared-slice-read-next c =
-    let p = start (c .before) .pre in
-    omega (arith, p .tables .seats-long, p .resource, p .ready .placed 0 (omega (arith, p .ready .some)))
-
 begin-requires : tie.Need-begin-requires
 begin-requires c κs =
     let p = start (c .before .before .before) .pre in
@@ -44,7 +39,7 @@ hold-of-requires : tie.Need-hold-of-requires
 hold-of-requires c κs =
     let p = start (c .before .before) .pre in
     record {
-      queue = record { tables = p .tables; resource = p .resource; core = p .ready .placed 0 (omega (arith, p .ready .some)) };
+      queue = record { tables = p .tables; resource = p .resource; core = p .ready .placed 0 (p .ready .some) };
       place = omega arith;
       taken = next-seat c;
     }
@@ -75,6 +70,7 @@ pass-spec =
     tie.close
     (tie.spec
     (λ c. search needs) (λ c. search needs) (λ c κs. search needs) (λ c. search needs) (λ c. search needs) (λ c. search needs)
-    shared-slice-read-next (λ c. search needs) (λ c. search needs) (λ c. search needs) (λ c. search needs) (λ c. search needs)
-    (λ c. search needs) (λ c. search needs) (λ c. search needs) begin-requires returns hold-of-requires returns-2
+    (λ c. let p = start (c .before) .pre in omega (arith, p .tables .seats-long, p .resource, p .ready .placed 0 (p .ready .some)))
+    (λ c. search needs) (λ c. search needs) (λ c. search needs) (λ c. search needs) (λ c. search needs) (λ c. search needs)
+    (λ c. search needs) (λ c. search needs) begin-requires returns hold-of-requires returns-2
     (λ c. search needs) (λ c. search needs) (λ c. search needs) begin-requires-2 returns-3)
