@@ -1,17 +1,19 @@
 -- The rows once some lines lost their holders: in those the queue of the head has moved up, in all others nothing has.
-use Rattle.folds.proofs.Ground.{ℕ, _+_, _-_, _/_, _<_, _≤_, Bool, true, false, cond, _&&_, and-false, _≡_, refl, sym, _∙_, _≢_, _⊎_, inl, inr, ⊎-elim, ap, lt-ltb, eqb-true, List, eqb, getD, sub-zero, arith, eq-eqb, ne-eqb}
+use Rattle.folds.proofs.Ground.{ℕ, _+_, _-_, _/_, _<_, _≤_, Bool, true, false, cond, _&&_, and-false, _≡_, refl, sym, _∙_, _≢_, _⊎_, inl, inr, ⊎-elim, ap, lt-ltb, eqb-true, List, eqb, ltb, getD, sub-zero, arith, eq-eqb, ne-eqb}
 use Rattle.folds.proofs.Figures.{max-at}
 use Rattle.folds.proofs.Ranges.{cond-bound}
-use Rattle.folds.proofs.Arrays.{by-eq}
+use Rattle.folds.specs.Below.{anyBelow}
+use Rattle.folds.proofs.Arrays.{by-eq, stampedBelow, stamped-at}
 use Rattle.folds.proofs.EachLaws.{each-at}
 use Rattle.machine_steps.proofs.Names.{Plan, Valid, processorOf, holdAt, Standing, State, noStanding, noneInLine, movedUp, standing, lineAt, slot, rank, queueAt, seat, noSeat, keyOf, Whole}
 use Rattle.folds.proofs.Searches.{on-le}
 use Rattle.queue_ranks.proofs.Leave.{Leaves}
 use Rattle.machine_state.proofs.Tables.{low-processor}
 use Rattle.machine_state.proofs.Wholes.{rank-own}
-use Rattle.machine_steps.specs.Inner.{fallen, lowered}
+use Rattle.machine_steps.specs.Inner.{noMarks, fallen, lowered}
 use Rattle.queue_ranks.proofs.Ranked.{ranks-few}
 use Rattle.machine_steps.proofs.Ready.{Tabled}
+use Rattle.machine_steps.proofs.Marks.{no-mark}
 
 -- the rank that a row gives a task of processor m
 abbrev rankOf : Standing → ℕ → ℕ → ℕ → ℕ
@@ -42,9 +44,22 @@ module _ (s : Standing) (m q k : ℕ) (h : q ≢ 255) where
       go false y i j = omega arith
 
 -- `ended` has a 1 for the head's queue of each line of which E holds, and no other
+abbrev pub mark : Bool → ℕ
+mark b = cond b 1 0
+
 pub record Ended (s : State) (E : ℕ → Bool) (ended : List ℕ) : Type 0 where
-  pub at : (k q : ℕ) → k < 8 → q < 16 → getD ended (queueAt k q) 0 ≡ cond (E q && eqb k (slot (lineAt s q) 0)) 1 0
+  pub at : (k q : ℕ) → k < 8 → q < 16 → getD ended (queueAt k q) 0 ≡ mark (E q && eqb (slot (lineAt s q) 0) k)
   pub none : getD ended 128 0 ≡ 0
+
+-- such are marks that were stored one by one, those of no queue past the last
+pub ended-by : (s : State) (E : ℕ → Bool) (n : ℕ) (f v : ℕ → ℕ) → ((i : ℕ) → i < n → v i ≡ mark (ltb (f i) 128))
+    → ((k q : ℕ) → k < 8 → q < 16 → anyBelow n (λ i. eqb (f i) (queueAt k q)) ≡ (E q && eqb (slot (lineAt s q) 0) k))
+    → Ended s E (stampedBelow n f v noMarks)
+ended-by s E n f v m a = record {
+  at = λ k q lk lq. stamped-at n 129 f v (λ y. mark (ltb y 128)) (queueAt k q) (omega arith) m
+      ∙ rw (lt-ltb (queueAt k q) 128 (omega arith), a k q lk lq);
+  none = stamped-at n 129 f v (λ y. mark (ltb y 128)) 128 (omega arith) m ∙ no-mark (anyBelow n (λ i. eqb (f i) 128));
+}
 
 module _ (p : Plan) (v : Valid p) (s : State) (w : Whole p s) {figures keys seats : List ℕ} (t : Tabled p s figures keys seats)
     {E : ℕ → Bool} {ended : List ℕ} (x : Ended s E ended) where
@@ -57,7 +72,7 @@ module _ (p : Plan) (v : Valid p) (s : State) (w : Whole p s) {figures keys seat
   row u l = each-at noStanding (λ u r. fallen (falls u) r) 64 u (s .tasks) l (omega (arith, t .tasks-long))
 
   falls-own : (u : ℕ) → u < p .tasks → let q = standing (s .tasks) u .resource in
-      q < 16 → falls u ≡ (E q && eqb (processorOf p u) (slot (lineAt s q) 0))
+      q < 16 → falls u ≡ (E q && eqb (slot (lineAt s q) 0) (processorOf p u))
   unfolding keyOf
   falls-own u l lq =
       let q : ℕ = standing (s .tasks) u .resource in
@@ -67,7 +82,7 @@ module _ (p : Plan) (v : Valid p) (s : State) (w : Whole p s) {figures keys seat
       omega (arith, v .tasks, rank-own p (s .tasks) u, max-at (p .tasks) u (rank p (s .tasks) q k) l, ranks-few (w .lines q lq .ranked) k) in
       let c : getD keys u 0 ≡ seat q k j = t .keys-at .at u l ∙ rw (lt-ltb q 16 lq, lt-ltb j 64 few) in
       let d : getD keys u 0 / 64 ≡ queueAt k q = omega arith in
-      rw (d, x .at k q (low-processor p v u l) lq) (one (E q && eqb k (slot (lineAt s q) 0)))
+      rw (d, x .at k q (low-processor p v u l) lq) (one (E q && eqb (slot (lineAt s q) 0) k))
     where
       one : (b : Bool) → eqb (cond b 1 0) 1 ≡ b
       one true = refl
@@ -82,11 +97,11 @@ module _ (p : Plan) (v : Valid p) (s : State) (w : Whole p s) {figures keys seat
 
   -- the rank of each task
   rank-after : (q : ℕ) → q < 16 → (k u : ℕ) → u < p .tasks
-      → rank p (lowered keys ended (s .tasks)) q k u ≡ rank p (s .tasks) q k u - cond (E q && eqb k (slot (lineAt s q) 0)) 1 0
+      → rank p (lowered keys ended (s .tasks)) q k u ≡ rank p (s .tasks) q k u - cond (E q && eqb (slot (lineAt s q) 0) k) 1 0
   unfolding rank
   rank-after q lq k u l =
       rw (row u (omega (arith, v .tasks)))
-      (fall-rank (standing (s .tasks) u) (processorOf p u) q k (λ e. omega arith) (falls u) (E q && eqb k (slot (lineAt s q) 0))
+      (fall-rank (standing (s .tasks) u) (processorOf p u) q k (λ e. omega arith) (falls u) (E q && eqb (slot (lineAt s q) 0) k)
       (λ e f. rw (← e, ← f) (falls-own u l (rw f lq))))
 
   -- the ranks of a line whose holder leaves, and of one whose holder stays
@@ -94,7 +109,7 @@ module _ (p : Plan) (v : Valid p) (s : State) (w : Whole p s) {figures keys seat
       → Leaves (p .tasks) (rank p (s .tasks) q) (rank p (lowered keys ended (s .tasks)) q) (slot (lineAt s q) 0)
   ranks-leave q lq e = record {
     fall = λ u l. rw e at (rw (eq-eqb (slot (lineAt s q) 0) _ refl) at (rank-after q lq (slot (lineAt s q) 0) u l));
-    kept = λ k u n l. rank-after q lq k u l ∙ rw (ne-eqb k (slot (lineAt s q) 0) n, and-false) (sub-zero (rank p (s .tasks) q k u));
+    kept = λ k u n l. rank-after q lq k u l ∙ rw (ne-eqb (slot (lineAt s q) 0) k (λ e. n (sym e)), and-false) (sub-zero (rank p (s .tasks) q k u));
   }
 
   pub ranks-stay : (q : ℕ) → q < 16 → E q ≡ false → (k u : ℕ) → u < p .tasks

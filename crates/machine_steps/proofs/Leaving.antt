@@ -1,7 +1,7 @@
 -- The holder of a line leaves: the state after it shows what the rule makes of what it showed, and is sound.
-use Rattle.folds.proofs.Ground.{ℕ, zero, suc, _+_, _-_, _<_, _≤_, Bool, false, cond, _&&_, and-true, and-false, _≡_, refl, sym, ap, _∙_, List, eqb, getD, set, replicate, getD-set-same, getD-set-other, arith, eq-eqb, ne-eqb}
+use Rattle.folds.proofs.Ground.{ℕ, zero, suc, _+_, _-_, _<_, _≤_, Bool, false, cond, _&&_, and-true, and-false, _≡_, refl, sym, ap, _∙_, List, eqb, getD, set, getD-set-same, getD-set-other, arith, eq-eqb, ne-eqb, lt-ltb}
 use Rattle.folds.specs.Below.{anyBelow}
-use Rattle.folds.proofs.Arrays.{by-eq, cell-eqb, markedBelow, marked-at}
+use Rattle.folds.proofs.Arrays.{by-eq, cell-eqb, stampedBelow}
 use Rattle.machine_steps.proofs.Names.{Plan, Valid, change, terms, releaseAnswer, listFrom, taskRanked, queueFrom, LineRow, State, noLine, lineAt, slot, rank, shows, queueAt, seat, Seats, Whole}
 use Rattle.queue_rules.specs.Rules as Rules
 use Rattle.machine_rules.specs.declared.Answer.the-variants.{Next, Free}
@@ -11,14 +11,9 @@ use Rattle.queue_ranks.proofs.Reading.{holds-none, holds-first}
 use Rattle.queue_ranks.proofs.Leave.{Leaves}
 use Rattle.machine_steps.specs.Inner.{noMarks, passed, leftBy}
 use Rattle.machine_steps.proofs.Ready.{Tabled, low-slot, seat-taken}
-use Rattle.machine_steps.proofs.Falling.{Ended, ranks-leave, ranks-stay, rows-after}
+use Rattle.machine_steps.proofs.Falling.{Ended, ended-by, ranks-leave, ranks-stay, rows-after}
 use Rattle.machine_steps.proofs.Shown.{Changes, changed-whole, changed-shows}
 use Rattle.machine_steps.proofs.Passed.{first-after, passed-shown}
-
--- one mark in an empty table
-mark-at : (m i x : ℕ) → x < m → getD (set (replicate {A = ℕ} m 0) i 1) x 0 ≡ cond (eqb x i) 1 0
-unfolding markedBelow anyBelow
-mark-at m i x l = marked-at 1 m (λ _. i) x l ∙ ap (λ (b : Bool). cond b 1 0) (same-eqb i x x i (λ e. sym e) (λ e. sym e))
 
 -- who holds: nobody where nobody is queued, else who sits first
 pub holder-none : (p : Plan) (s : State) (q i : ℕ) → lineAt s q .queued ≡ 0 → Rules.holds i (shows p s .lines q) ≡ false
@@ -49,18 +44,20 @@ module _ (p : Plan) (v : Valid p) (s : State) (w : Whole p s) {figures keys seat
     abbrev L : State
     L = leftBy figures keys seats q s
 
-    ended : Ended s (λ r. eqb r q) (set noMarks (queueAt (slot (lineAt s q) 0) q) 1)
-    ended = record {
-      at = λ k r lk lr. mark-at 129 (queueAt (slot (lineAt s q) 0) q) (queueAt k r) (omega arith)
-          ∙ ap (λ (b : Bool). cond b 1 0) (cell-eqb 8 k (slot (lineAt s q) 0) r q lk gone-low ∙ both k r);
-      none = mark-at 129 (queueAt (slot (lineAt s q) 0) q) 128 (omega arith)
-          ∙ rw (ne-eqb 128 (queueAt (slot (lineAt s q) 0) q) (λ e. omega (arith, gone-low)));
-    }
+    -- one queue loses its first
+    abbrev gone : ℕ
+    gone = queueAt (slot (lineAt s q) 0) q
+
+    ended : Ended s (eqb q) (set noMarks gone 1)
+    unfolding stampedBelow anyBelow
+    ended =
+        ended-by s (eqb q) 1 (λ i. gone) (λ i. 1) (λ i l. rw (lt-ltb gone 128 (omega (arith, gone-low))))
+        (λ k r lk lr. cell-eqb 8 (slot (lineAt s q) 0) k q r gone-low lk ∙ both k r)
       where
-        both : (k r : ℕ) → (eqb k (slot (lineAt s q) 0) && eqb r q) ≡ (eqb r q && eqb k (slot (lineAt s r) 0))
+        both : (k r : ℕ) → (eqb (slot (lineAt s q) 0) k && eqb q r) ≡ (eqb q r && eqb (slot (lineAt s r) 0) k)
         both k r =
-            by-eq (λ (b : Bool). (eqb k (slot (lineAt s q) 0) && b) ≡ (b && eqb k (slot (lineAt s r) 0))) r q
-            (λ e. rw e (and-true (eqb k (slot (lineAt s q) 0)))) (λ n. and-false (eqb k (slot (lineAt s q) 0)))
+            by-eq (λ (b : Bool). (eqb (slot (lineAt s q) 0) k && b) ≡ (b && eqb (slot (lineAt s r) 0) k)) q r
+            (λ e. rw (← e) (and-true (eqb (slot (lineAt s q) 0) k))) (λ n. and-false (eqb (slot (lineAt s q) 0) k))
 
     leaves : Leaves (p .tasks) (rank p (s .tasks) q) (rank p (L .tasks) q) (slot (lineAt s q) 0)
     leaves = ranks-leave p v s w t ended q lq (eq-eqb q q refl)
@@ -75,7 +72,7 @@ module _ (p : Plan) (v : Valid p) (s : State) (w : Whole p s) {figures keys seat
           resource = lq;
           line = rw (getD-set-same (s .lines) q (passed figures seats q (lineAt s q)) noLine (omega (arith, t .lines-long))) own;
           others = λ r n. getD-set-other (s .lines) q r (passed figures seats q (lineAt s q)) noLine n;
-          ranks = λ r lr n. ranks-stay p v s w t ended r lr (ne-eqb r q n);
+          ranks = λ r lr n. ranks-stay p v s w t ended r lr (ne-eqb q r (λ e. n (sym e)));
           rows = rows-after p v s w t ended;
         }
 

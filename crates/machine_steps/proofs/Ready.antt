@@ -32,15 +32,15 @@ module _ (p : Plan) (v : Valid p) (s : State) (w : Whole p s) where
     seat-task j l = t .at q k j lq lk l ∙ seated (p .tasks) ranks (sole (w .lines q lq .ranked) k) (j + 1) (omega arith)
 
     -- the seats are taken from the first on, as many as there are tasks
-    pub seats-few : maxBelow (p .tasks) (rank p (s .tasks) q k) ≤ 64
+    pub seats-few : maxBelow (p .tasks) ranks ≤ 64
     seats-few = omega (arith, v .tasks, ranks-few (w .lines q lq .ranked) k)
 
-    pub seat-taken : (j : ℕ) → j < maxBelow (p .tasks) (rank p (s .tasks) q k)
-        → getD seats (seat q k j) 0 ≡ taskRanked (p .tasks) (rank p (s .tasks) q k) (j + 1) + 1
+    pub seat-taken : (j : ℕ) → j < maxBelow (p .tasks) ranks
+        → getD seats (seat q k j) 0 ≡ taskRanked (p .tasks) ranks (j + 1) + 1
     seat-taken j l =
         seat-task j (omega (arith, seats-few)) ∙ rw (lt-ltb _ _ (full (w .lines q lq .ranked) k (j + 1) (omega arith) (omega arith)))
 
-    pub seat-empty : (j : ℕ) → maxBelow (p .tasks) (rank p (s .tasks) q k) ≤ j → j < 64 → getD seats (seat q k j) 0 ≡ 0
+    pub seat-empty : (j : ℕ) → maxBelow (p .tasks) ranks ≤ j → j < 64 → getD seats (seat q k j) 0 ≡ 0
     seat-empty j m l = seat-task j l ∙ rw (le-ltb _ _ past)
       where
         u : ℕ

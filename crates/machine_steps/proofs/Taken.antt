@@ -3,8 +3,7 @@ use Rattle.folds.proofs.Ground.{ℕ, _+_, _*_, _-_, _≤_, _<_, Bool, true, not
 use Rattle.folds.specs.Below.{allBelow, sumBelow}
 use Rattle.folds.proofs.Tests.{all-more, find-at, find-none}
 use Rattle.folds.proofs.Figures.{sum-step}
-use Rattle.analysis_figures.specs.Figures.{holdCell}
-use Rattle.machine_state.specs.Inner.{seat}
+use Rattle.machine_steps.proofs.Names.{holdCell, seat}
 use Rattle.machine_steps.specs.Inner.{taken, takenHolds, holdOf, AheadOf}
 
 module _ (figures seats : List ℕ) (q k : ℕ) where

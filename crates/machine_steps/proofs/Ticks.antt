@@ -1,9 +1,8 @@
 -- A tick: the state after it shows what the rules make of what it showed, and is sound; and the two words of its answer.
-use Rattle.folds.proofs.Ground.{ℕ, zero, suc, _-_, _<_, _≤_, Bool, true, false, cond, _&&_, and-false, _≡_, refl, sym, ap, ap₂, _∙_, _≢_, List, eqb, ltb, getD, arith, eqb-true, eq-eqb, ne-eqb, lt-ltb}
+use Rattle.folds.proofs.Ground.{ℕ, zero, suc, _-_, _<_, _≤_, Bool, true, false, _&&_, and-false, _≡_, refl, sym, ap, ap₂, _∙_, _≢_, List, eqb, ltb, arith, eqb-true, eq-eqb, ne-eqb, lt-ltb}
 use Rattle.folds.specs.Below.{anyBelow}
 use Rattle.folds.specs.Words.{wordBelow}
 use Rattle.folds.proofs.Tests.{and-parts, same-test, any-at, any-out}
-use Rattle.folds.proofs.Arrays.{stamped-at}
 use Rattle.folds.proofs.WordLaws.{word-same}
 use Rattle.folds.proofs.EachLaws.{each-at, each-length}
 use Rattle.machine_steps.proofs.Names.{Plan, Valid, terms, held, regranted, listFrom, queueFrom, LineRow, State, noLine, lineAt, slot, rank, shownLine, shows, queueAt, Good, Whole}
@@ -13,18 +12,14 @@ use Rattle.queue_ranks.proofs.Leave.{tick-none, tick-some}
 use Rattle.queue_ranks.proofs.LeaveKeeps.{tick-timed}
 use Rattle.machine_steps.specs.Inner.{passed, stepped, cutsHolder, lostQueue, endedOf, steppedLines, tickedBy, cutWord, grantWord}
 use Rattle.machine_steps.proofs.Ready.{Tabled, low-slot}
-use Rattle.machine_steps.proofs.Falling.{Ended, ranks-leave, ranks-stay, rows-after}
-use Rattle.machine_steps.proofs.Marks.{no-mark, cut-queued}
+use Rattle.machine_steps.proofs.Falling.{mark, Ended, ended-by, ranks-leave, ranks-stay, rows-after}
+use Rattle.machine_steps.proofs.Marks.{cut-queued}
 use Rattle.machine_steps.proofs.Shown.{Shown, shown-as, stays-shown, past-row, past-shows, all-shown}
 use Rattle.machine_steps.proofs.Passed.{passed-shown}
 
 on-test : (A : Type 0) (b : Bool) → (b ≡ true → A) → (b ≡ false → A) → A
 on-test A true f g = f refl
 on-test A false f g = g refl
-
--- what stands for a queue in the table of those that lose their first
-abbrev mark : Bool → ℕ
-mark b = cond b 1 0
 
 -- a line is cut where one tick of the hold is left, and held where somebody is queued
 cut-line : (n : ℕ) (R : ℕ → ℕ → ℕ) (c : ℕ) (g : ℕ → ℕ) (h b : ℕ) → (1 ≤ c → 1 ≤ h)
@@ -51,32 +46,26 @@ module _ (p : Plan) (v : Valid p) (s : State) (w : Whole p s) where
       on-test (mark (cutsHolder (lineAt s q)) ≡ mark (ltb (key q) 128)) (cutsHolder (lineAt s q))
       (λ e. rw (e, lt-ltb (queueAt (slot (lineAt s q) 0) q) 128 (omega (arith, head-low q lq e)))) (λ e. rw e)
 
-  key-at : (k q : ℕ) → k < 8 → q < 16 → anyBelow 16 (λ r. eqb (key r) (queueAt k q)) ≡ (cutsHolder (lineAt s q) && eqb k (slot (lineAt s q) 0))
+  key-at : (k q : ℕ) → k < 8 → q < 16 → anyBelow 16 (λ r. eqb (key r) (queueAt k q)) ≡ (cutsHolder (lineAt s q) && eqb (slot (lineAt s q) 0) k)
   key-at k q lk lq =
       same-test _ _
       (λ a. any-out 16 (λ r. eqb (key r) (queueAt k q)) _ a (λ r lr e. out r lr (eqb-true _ _ e)))
-      (λ a. let b = and-parts (cutsHolder (lineAt s q)) (eqb k (slot (lineAt s q) 0)) a in
-      any-at 16 q (λ r. eqb (key r) (queueAt k q)) lq (eq-eqb (key q) (queueAt k q) (rw (b .0, eqb-true k (slot (lineAt s q) 0) (b .1)))))
+      (λ a. let b = and-parts (cutsHolder (lineAt s q)) (eqb (slot (lineAt s q) 0) k) a in
+      any-at 16 q (λ r. eqb (key r) (queueAt k q)) lq (eq-eqb (key q) (queueAt k q) (rw (b .0, eqb-true (slot (lineAt s q) 0) k (b .1)))))
     where
-      out : (r : ℕ) → r < 16 → key r ≡ queueAt k q → (cutsHolder (lineAt s q) && eqb k (slot (lineAt s q) 0)) ≡ true
+      out : (r : ℕ) → r < 16 → key r ≡ queueAt k q → (cutsHolder (lineAt s q) && eqb (slot (lineAt s q) 0) k) ≡ true
       out r lr e =
-          on-test ((cutsHolder (lineAt s q) && eqb k (slot (lineAt s q) 0)) ≡ true) (cutsHolder (lineAt s r))
+          on-test ((cutsHolder (lineAt s q) && eqb (slot (lineAt s q) 0) k) ≡ true) (cutsHolder (lineAt s r))
           (λ c. let f : queueAt (slot (lineAt s r) 0) r ≡ queueAt k q = rw c at e in
           let low : slot (lineAt s r) 0 < 8 = head-low r lr c in
           let i : r ≡ q = omega arith in
           let h : slot (lineAt s r) 0 ≡ k = omega arith in
-          rw (← i, c) (eq-eqb k _ (sym h)))
+          rw (← i, c) (eq-eqb _ k h))
           (λ c. let f : 128 ≡ queueAt k q = rw c at e in let bad : ⊥ = omega arith in absurd bad)
 
   ended : Ended s (λ q. cutsHolder (lineAt s q)) (endedOf (s .lines))
   unfolding endedOf
-  ended = record {
-    at = λ k q lk lq. stamped (queueAt k q) (omega arith) ∙ rw (lt-ltb (queueAt k q) 128 (omega arith), key-at k q lk lq);
-    none = stamped 128 (omega arith) ∙ no-mark (anyBelow 16 (λ r. eqb (key r) 128));
-  }
-    where
-      stamped : (x : ℕ) → x < 129 → getD (endedOf (s .lines)) x 0 ≡ cond (anyBelow 16 (λ r. eqb (key r) x)) (mark (ltb x 128)) 0
-      stamped x l = stamped-at 16 129 key (λ q. mark (cutsHolder (lineAt s q))) (λ y. mark (ltb y 128)) x l key-mark
+  ended = ended-by s (λ q. cutsHolder (lineAt s q)) 16 key (λ q. mark (cutsHolder (lineAt s q))) key-mark key-at
 
 module _ (p : Plan) (v : Valid p) (s : State) (w : Whole p s) {figures keys seats : List ℕ} (t : Tabled p s figures keys seats) where
   abbrev T : State

@@ -2,8 +2,7 @@
 use Rattle.folds.proofs.Ground.{ℕ, _/_, _-_, _≤_, _≡_, refl, List, eqb, getD, arith}
 use Rattle.folds.specs.Each.{eachBelow}
 use Rattle.folds.proofs.EachLaws.{each-step, each-done}
-use Rattle.machine_state.specs.declared.Standing.{Standing}
-use Rattle.machine_state.specs.Shows.{noStanding}
+use Rattle.machine_steps.proofs.Names.{Standing, noStanding}
 use Rattle.machine_steps.specs.Inner.{fallen, lowered}
 use Rattle.machine_steps.proofs.lower.Statement.{statement}
 use Rattle.machine_steps.proofs.lower.Tie as tie

@@ -5,8 +5,7 @@ use Rattle.folds.specs.Words.{wordBelow}
 use Rattle.folds.proofs.Arrays.{stampedBelow}
 use Rattle.folds.proofs.EachLaws.{each-step, each-done}
 use Rattle.folds.proofs.WordLaws.{word-step, word-fits, word-done}
-use Rattle.machine_state.specs.declared.LineRow.{LineRow}
-use Rattle.machine_state.specs.Shows.{noLine, slot}
+use Rattle.machine_steps.proofs.Names.{LineRow, noLine, slot}
 use Rattle.machine_steps.specs.Inner.{cutsHolder, endedBelow, stepped, steppedLines, cutWord}
 use Rattle.machine_steps.proofs.Marks.{ended-done, newly, grants-done, line-kept, kept-queued, mark-cut, mark-kept, cut-bit, grant-bit}
 use Rattle.machine_steps.proofs.step_lines.Statement.{statement}
