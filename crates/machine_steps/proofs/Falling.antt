@@ -43,10 +43,11 @@ module _ (s : Standing) (m q k : ℕ) (h : q ≢ 255) where
       go true false i j = omega arith
       go false y i j = omega arith
 
--- `ended` has a 1 for the head's queue of each line of which E holds, and no other
+-- what stands for a queue in a table of marks
 abbrev pub mark : Bool → ℕ
 mark b = cond b 1 0
 
+-- `ended` has a 1 for the head's queue of each line of which E holds, and no other
 pub record Ended (s : State) (E : ℕ → Bool) (ended : List ℕ) : Type 0 where
   pub at : (k q : ℕ) → k < 8 → q < 16 → getD ended (queueAt k q) 0 ≡ mark (E q && eqb (slot (lineAt s q) 0) k)
   pub none : getD ended 128 0 ≡ 0
@@ -119,14 +120,11 @@ module _ (p : Plan) (v : Valid p) (s : State) (w : Whole p s) {figures keys seat
   pub rows-after : (u : ℕ) → u < 64
       → (standing (lowered keys ended (s .tasks)) u ≡ noneInLine) ⊎ (1 ≤ holdAt p u (standing (lowered keys ended (s .tasks)) u .resource))
   unfolding fallen
-  rows-after u l = rw (row u l) (⊎-elim (λ e. inl (rw (falls-none u l e) e)) (there (falls u)) (w .rows u l))
+  rows-after u l = rw (row u l) (⊎-elim (λ e. inl (rw (falls-none u l e) e)) (there (falls u) (standing (s .tasks) u)) (w .rows u l))
     where
-      r : Standing
-      r = standing (s .tasks) u
-
       Fits : Standing → Type 0
       Fits r = (r ≡ noneInLine) ⊎ (1 ≤ holdAt p u (r .resource))
 
-      there : (b : Bool) → 1 ≤ holdAt p u (r .resource) → Fits (fallen b r)
-      there true h = by-eq (λ (d : Bool). Fits (cond d noneInLine (movedUp r))) (r .place) 0 (λ e. inl refl) (λ e. inr h)
-      there false h = inr h
+      there : (b : Bool) (r : Standing) → 1 ≤ holdAt p u (r .resource) → Fits (fallen b r)
+      there true r h = by-eq (λ (d : Bool). Fits (cond d noneInLine (movedUp r))) (r .place) 0 (λ e. inl refl) (λ e. inr h)
+      there false r h = inr h

@@ -1,10 +1,11 @@
 -- Task i joins the line of q: the state stays sound, and shows what the rule makes of that line.
-use Rattle.folds.proofs.Ground.{ℕ, _+_, _<_, _≤_, Bool, true, false, cond, and-false, _≡_, refl, sym, ap, _∙_, _≢_, _⊎_, inr, List, eqb, length, getD, set, List·getD-eq-default, getD-set-same, getD-set-other, add-one, arith, eq-eqb, ne-eqb}
+use Rattle.folds.proofs.Ground.{ℕ, _+_, _<_, _≤_, Bool, cond, and-false, _≡_, refl, sym, ap, _∙_, _≢_, _⊎_, inr, List, eqb, length, getD, set, List·getD-eq-default, getD-set-same, getD-set-other, add-one, arith, eq-eqb, ne-eqb}
 use Rattle.folds.specs.Below.{maxBelow}
 use Rattle.machine_steps.proofs.Names.{Plan, Valid, processorOf, holdAt, budget, terms, change, Standing, LineRow, State, noStanding, noLine, standing, lineAt, slot, rank, shownLine, shows, noneInLine, inLineAt, Good, Whole}
 use Rattle.analysis_equations.proofs.Laws.{hold-within}
 use Rattle.queue_rules.specs.Rules as Rules
 use Rattle.queue_rules.specs.Rules.{entered}
+use Rattle.folds.proofs.Arrays.{by-eq}
 use Rattle.folds.proofs.Searches.{on-eq, on-le}
 use Rattle.queue_ranks.proofs.Ranked.{At, Ranked, Timed, queued-few}
 use Rattle.queue_ranks.proofs.Join.{Joins, enter-free, enter-new, enter-there}
@@ -154,15 +155,7 @@ module _ (p : Plan) (v : Valid p) (s : State) (w : Whole p s) (len : length (s .
       (λ e. rw (eq-eqb (l .queued) 0 e) (first z e)) (λ n. rw (ne-eqb (l .queued) 0 n) (behind z (omega arith)))))
       (λ n. rw (ne-eqb ahead 0 n) (there (omega arith)))
 
-  -- ── the other lines stay, and so do the ranks for them ──
-  apart-line : (r : ℕ) → r ≢ q → lineAt (entering p s i q) r ≡ lineAt s r
-  unfolding joinedLines
-  apart-line r n = go (eqb ahead 0)
-    where
-      go : (b : Bool) → getD (cond b (set (s .lines) q entry) (s .lines)) r noLine ≡ lineAt s r
-      go true = getD-set-other (s .lines) q r entry noLine n
-      go false = refl
-
+  -- the ranks for the other lines stay
   apart-rank : (r : ℕ) → r < 16 → r ≢ q → (j u : ℕ) → u < p .tasks → rank p (s .tasks) r j u ≡ rank p after r j u
   unfolding rank
   apart-rank r lr n j u b =
@@ -173,13 +166,14 @@ module _ (p : Plan) (v : Valid p) (s : State) (w : Whole p s) (len : length (s .
 
   -- ── the whole state ──
   changes : Changes p s (entering p s i q) q (entered (terms p q) i)
-  unfolding shows
+  unfolding shows joinedLines
   changes =
       record {
         lines-long = wide;
         resource = low;
         line = joins-line;
-        others = apart-line;
+        others = λ r n. by-eq (λ (b : Bool). getD (cond b (set (s .lines) q entry) (s .lines)) r noLine ≡ lineAt s r) ahead 0
+            (λ e. getD-set-other (s .lines) q r entry noLine n) (λ e. refl);
         ranks = apart-rank;
         rows = λ u b. on-eq ((standing after u ≡ noneInLine) ⊎ (1 ≤ holdAt p u (standing after u .resource))) u i
             (λ e. rw (e, row) (inr some)) (λ n. rw (row-other u n) (w .rows u b));

@@ -37,9 +37,6 @@ module _ (p : Plan) (v : Valid p) (s : State) (w : Whole p s) (q : ℕ) (lq : q 
 
 module _ (p : Plan) (v : Valid p) (s : State) (w : Whole p s) {figures keys seats : List ℕ} (t : Tabled p s figures keys seats) where
   module _ (q : ℕ) (lq : q < 16) (held : 1 ≤ lineAt s q .queued) where
-    gone-low : slot (lineAt s q) 0 < 8
-    gone-low = head-low p v s w q lq held
-
     -- ── the state after it ──
     abbrev L : State
     L = leftBy figures keys seats q s
@@ -51,8 +48,8 @@ module _ (p : Plan) (v : Valid p) (s : State) (w : Whole p s) {figures keys seat
     ended : Ended s (eqb q) (set noMarks gone 1)
     unfolding stampedBelow anyBelow
     ended =
-        ended-by s (eqb q) 1 (λ i. gone) (λ i. 1) (λ i l. rw (lt-ltb gone 128 (omega (arith, gone-low))))
-        (λ k r lk lr. cell-eqb 8 (slot (lineAt s q) 0) k q r gone-low lk ∙ both k r)
+        ended-by s (eqb q) 1 (λ i. gone) (λ i. 1) (λ i l. rw (lt-ltb gone 128 (omega (arith, head-low p v s w q lq held))))
+        (λ k r lk lr. cell-eqb 8 (slot (lineAt s q) 0) k q r (head-low p v s w q lq held) lk ∙ both k r)
       where
         both : (k r : ℕ) → (eqb (slot (lineAt s q) 0) k && eqb q r) ≡ (eqb q r && eqb (slot (lineAt s r) 0) k)
         both k r =

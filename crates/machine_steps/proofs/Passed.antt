@@ -109,11 +109,8 @@ module _ (p : Plan) (v : Valid p) (s : State) (w : Whole p s) {figures keys seat
   head-low : slot l 0 < 8
   head-low = low-slot p v s w q 0 lq held
 
-  a-next : 2 ≤ maxBelow (p .tasks) (R (slot l 0)) → 1 ≤ maxBelow (p .tasks) (S (slot l 0))
-  a-next a = omega (arith, leave-max x)
-
   hold-next : 2 ≤ maxBelow (p .tasks) (R (slot l 0)) → holdOf figures seats q (slot l 0) 1 ≡ holdAt p next q
-  hold-next a = rw (eq-eqb (slot l 0) _ refl) at (hold-after (slot l 0) head-low (a-next a))
+  hold-next a = rw (eq-eqb (slot l 0) _ refl) at (hold-after (slot l 0) head-low (omega (arith, leave-max x)))
 
   -- the queue without its head, and with it at the tail
   abbrev others : List ℕ
@@ -162,7 +159,7 @@ module _ (p : Plan) (v : Valid p) (s : State) (w : Whole p s) {figures keys seat
         shown-as
         (record {
           good = begun-good (l .queued) _ b (good .small) (rw (← count) at (next-queued x queued a)) (good .rest)
-              (next-timed ranked (λ u. hold-within p u q) (l .queued) (slot l) b (a-next a) y within held);
+              (next-timed ranked (λ u. hold-within p u q) (l .queued) (slot l) b (omega (arith, leave-max x)) y within held);
           shows = refl;
         })
         (ruled-as (leave-next (terms p q) x queued b a y

@@ -38,13 +38,10 @@ module _ (p : Plan) (v : Valid p) (s : State) (w : Whole p s) where
   abbrev key : ℕ → ℕ
   key = lostQueue (s .lines)
 
-  head-low : (q : ℕ) → q < 16 → cutsHolder (lineAt s q) ≡ true → slot (lineAt s q) 0 < 8
-  head-low q lq e = low-slot p v s w q 0 lq (cut-queued (lineAt s q) e)
-
   key-mark : (q : ℕ) → q < 16 → mark (cutsHolder (lineAt s q)) ≡ mark (ltb (key q) 128)
   key-mark q lq =
       on-test (mark (cutsHolder (lineAt s q)) ≡ mark (ltb (key q) 128)) (cutsHolder (lineAt s q))
-      (λ e. rw (e, lt-ltb (queueAt (slot (lineAt s q) 0) q) 128 (omega (arith, head-low q lq e)))) (λ e. rw e)
+      (λ e. rw (e, lt-ltb (queueAt (slot (lineAt s q) 0) q) 128 (omega (arith, low-slot p v s w q 0 lq (cut-queued (lineAt s q) e))))) (λ e. rw e)
 
   key-at : (k q : ℕ) → k < 8 → q < 16 → anyBelow 16 (λ r. eqb (key r) (queueAt k q)) ≡ (cutsHolder (lineAt s q) && eqb (slot (lineAt s q) 0) k)
   key-at k q lk lq =
@@ -57,7 +54,7 @@ module _ (p : Plan) (v : Valid p) (s : State) (w : Whole p s) where
       out r lr e =
           on-test ((cutsHolder (lineAt s q) && eqb (slot (lineAt s q) 0) k) ≡ true) (cutsHolder (lineAt s r))
           (λ c. let f : queueAt (slot (lineAt s r) 0) r ≡ queueAt k q = rw c at e in
-          let low : slot (lineAt s r) 0 < 8 = head-low r lr c in
+          let low : slot (lineAt s r) 0 < 8 = low-slot p v s w r 0 lr (cut-queued (lineAt s r) c) in
           let i : r ≡ q = omega arith in
           let h : slot (lineAt s r) 0 ≡ k = omega arith in
           rw (← i, c) (eq-eqb _ k h))

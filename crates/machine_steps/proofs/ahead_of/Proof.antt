@@ -27,11 +27,6 @@ sits c =
     let a = start l .args in
     seat-read (a .seats .now) (a .q) (a .k) (l .loop .j) (l .before .wide .ensures .same) (c .wide2 .ensures .same)
 
-returns : tie.Need-returns Inv-loop μ-loop
-returns c =
-    let t = turn (c .before) in
-    found-empty _ _ _ _ _ _ (t .before .loop .inv) (t .loop-test .taken) (sym (sits (c .before)) ∙ c .if1 .taken)
-
 hold-at-requires : tie.Need-hold-at-requires Inv-loop μ-loop
 hold-at-requires c κs =
     let t = turn (c .before) in
@@ -50,7 +45,10 @@ ahead-of-spec =
     tie.close
     (tie.spec
     Inv-loop μ-loop (λ c. search needs) (λ c κs. search needs) (λ c. search needs) (λ c. search needs) (λ c. counted-none _ _ _ _)
-    (λ c. search needs) (λ c. search needs) (λ c κs. search needs) (λ c. search needs) returns (λ c. omega arith) hold-at-requires
+    (λ c. search needs) (λ c. search needs) (λ c κs. search needs) (λ c. search needs)
+    (λ c. let t = turn (c .before) in
+    found-empty _ _ _ _ _ _ (t .before .loop .inv) (t .loop-test .taken) (sym (sits (c .before)) ∙ c .if1 .taken))
+    (λ c. omega arith) hold-at-requires
     (λ c. search needs) (λ c. let i = turn (c .before .before) .before .loop .inv in omega (arith, i .few, i .small)) (λ c. search needs)
     (λ c. search needs) loop-again (λ c. omega arith)
     (λ c. found-none _ _ _ _ _ _ (c .before .loop .inv) (c .loop-test .left)))

@@ -14,17 +14,11 @@ wide c = c .before .before .before
 low : (c : tie.After-wide) → c .wide .result < 16
 low c = omega (arith, start c .pre .resource, c .wide .ensures .same)
 
-hold-at-requires : tie.Need-hold-at-requires
-hold-at-requires c κs = let p = start c .pre in record { long = p .figures-long; row = p .task; resource = low c }
-
 budget-at-requires : tie.Need-budget-at-requires
 budget-at-requires c κs =
     let w = c .before .before in
     let p = start w .pre in
     record { long = p .figures-long; row = omega (arith, p .core, c .wide2 .ensures .same); resource = low w }
-
-push-requires : tie.Need-push-requires
-push-requires c κs = let w = wide (c .before) in rw (w .wide .ensures .same) (start w .pre .room (w .before .if1 .taken))
 
 returns : tie.Need-returns
 unfolding joinedLines
@@ -49,6 +43,8 @@ pub join-spec : {M : Type 1} → statement M
 join-spec =
     tie.close
     (tie.spec
-    (λ c κs. search needs) (λ c. search needs) (λ c. search needs) (λ c κs. search needs) hold-at-requires (λ c κs. search needs)
-    budget-at-requires (λ c. omega (arith, low (wide c))) (λ c. omega (arith, low (wide c))) push-requires
+    (λ c κs. search needs) (λ c. search needs) (λ c. search needs) (λ c κs. search needs)
+    (λ c κs. let p = start c .pre in record { long = p .figures-long; row = p .task; resource = low c }) (λ c κs. search needs)
+    budget-at-requires (λ c. omega (arith, low (wide c))) (λ c. omega (arith, low (wide c)))
+    (λ c κs. let w = wide (c .before) in rw (w .wide .ensures .same) (start w .pre .room (w .before .if1 .taken)))
     (λ c. omega (arith, low (wide (c .before .before)))) (λ c. omega (arith, low (wide (c .before .before)))) returns returns-2)

@@ -24,11 +24,6 @@ loop-holds : tie.Need-loop-holds Inv-loop μ-loop
 unfolding eachBelow
 loop-holds c = record { few = omega arith; rows = refl }
 
-shared-slice-read-on : tie.Need-shared-slice-read-on Inv-loop μ-loop
-shared-slice-read-on c =
-    let t = c .before .before .before in
-    omega (arith, start t .pre .ended-long, start t .pre .keys-low (t .before .loop .u) (t .loop-test .taken))
-
 returns : tie.Need-returns Inv-loop μ-loop
 unfolding lowered
 returns c = each-done noStanding _ 64 (c .before .loop .u) _ (omega arith) (c .before .loop .inv .rows)
@@ -40,7 +35,9 @@ lower-spec =
     Inv-loop μ-loop loop-holds (λ c. omega arith) (λ c. omega arith) (λ c. omega arith)
     (λ c. omega (arith, start (c .before .before) .pre .keys-long)) (λ c. omega arith) (λ c. omega arith)
     (λ c. let t = c .before .before in omega (arith, start t .pre .keys-low (t .before .loop .u) (t .loop-test .taken)))
-    shared-slice-read-on (λ c κs. tt) (λ c. omega arith) (λ c. omega arith) (λ c. omega arith) (λ c. omega arith)
+    (λ c. let t = c .before .before .before in
+    omega (arith, start t .pre .ended-long, start t .pre .keys-low (t .before .loop .u) (t .loop-test .taken)))
+    (λ c κs. tt) (λ c. omega arith) (λ c. omega arith) (λ c. omega arith) (λ c. omega arith)
     (λ c. let t = c .before .before .before .before in
     record { few = omega arith; rows = each-step noStanding _ _ _ (t .before .loop .inv .rows) (c .fall .ensures) })
     returns)

@@ -9,11 +9,6 @@ use Rattle.machine_steps.proofs.pass.Tie as tie
 abbrev start : tie.After-wide → tie.Start
 start c = c .before .before .before .before
 
-begin-requires : tie.Need-begin-requires
-begin-requires c κs =
-    let p = start (c .before .before .before) .pre in
-    record { tables = p .tables; resource = p .resource; head = λ h. next-begins _ _ _ (p .ready) (omega arith) }
-
 returns : tie.Need-returns
 unfolding passed
 returns c =
@@ -71,5 +66,8 @@ pass-spec =
     (λ c. search needs) (λ c. search needs) (λ c κs. search needs) (λ c. search needs) (λ c. search needs) (λ c. search needs)
     (λ c. let p = start (c .before) .pre in omega (arith, p .tables .seats-long, p .resource, p .ready .placed 0 (p .ready .some)))
     (λ c. search needs) (λ c. search needs) (λ c. search needs) (λ c. search needs) (λ c. search needs) (λ c. search needs)
-    (λ c. search needs) (λ c. search needs) begin-requires returns hold-of-requires returns-2
+    (λ c. search needs) (λ c. search needs)
+    (λ c κs. let p = start (c .before .before .before) .pre in
+    record { tables = p .tables; resource = p .resource; head = λ h. next-begins _ _ _ (p .ready) (omega arith) })
+    returns hold-of-requires returns-2
     (λ c. search needs) (λ c. search needs) (λ c. search needs) begin-requires-2 returns-3)
