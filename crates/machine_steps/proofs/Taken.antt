@@ -11,10 +11,6 @@ module _ (figures seats : List ℕ) (q k : ℕ) where
   abbrev empty : ℕ → Bool
   empty i = eqb (getD seats (seat q k i) 0) 0
 
-  -- the hold time of the task with this number plus 1
-  abbrev holdBy : ℕ → ℕ
-  holdBy r = getD figures (holdCell (r - 1) q) 0
-
   -- the first j seats are taken, by tasks with this sum of hold times
   pub record Counted (j sum : ℕ) : Type 0 where
     pub few : j ≤ 64
@@ -26,13 +22,13 @@ module _ (figures seats : List ℕ) (q k : ℕ) where
   unfolding allBelow sumBelow
   counted-none = record { few = omega arith; full = refl; sums = refl; small = omega arith }
 
-  pub counted-more : (j sum r x : ℕ) → Counted j sum → j < 64 → r ≡ getD seats (seat q k j) 0 → (r ≡ 0 → ⊥) → x ≡ holdBy r → x < 65536
-      → Counted (j + 1) (sum + x)
+  pub counted-more : (j sum r x : ℕ) → Counted j sum → j < 64 → r ≡ getD seats (seat q k j) 0 → (r ≡ 0 → ⊥)
+      → x ≡ getD figures (holdCell (r - 1) q) 0 → x < 65536 → Counted (j + 1) (sum + x)
   counted-more j sum r x c l e n h b =
       record {
         few = omega arith;
         full = all-more j (λ i. not (empty i)) (c .full) (rw (ne-eqb (getD seats (seat q k j) 0) 0 (λ z. n (e ∙ z))));
-        sums = sum-step j (holdOf figures seats q k) (c .sums) (h ∙ ap holdBy e);
+        sums = sum-step j (holdOf figures seats q k) (c .sums) (h ∙ ap (λ (i : ℕ). getD figures (holdCell (i - 1) q) 0) e);
         small = omega (arith, c .small);
       }
 

@@ -45,13 +45,6 @@ returns-2 c =
     let some = ne-eqb (second (h .before)) 0 (λ z. omega (arith, next-seat (h .before))) in
     rw (some, ← h .hold-of .ensures, le-leb (h .hold-of .result) _ (c .if2 .taken))
 
-begin-requires-2 : tie.Need-begin-requires-2
-begin-requires-2 c κs =
-    let else = c .before .before .before .before in
-    let p = start (else .before .before) .pre in
-    let b = turned-begins _ _ _ (p .ready) (next-seat else) in
-    record { tables = p .tables; resource = p .resource; head = λ h. b }
-
 returns-3 : tie.Need-returns-3
 unfolding passed
 returns-3 c =
@@ -70,4 +63,9 @@ pass-spec =
     (λ c κs. let p = start (c .before .before .before) .pre in
     record { tables = p .tables; resource = p .resource; head = λ h. next-begins _ _ _ (p .ready) (omega arith) })
     returns hold-of-requires returns-2
-    (λ c. search needs) (λ c. search needs) (λ c. search needs) begin-requires-2 returns-3)
+    (λ c. search needs) (λ c. search needs) (λ c. search needs)
+    (λ c κs. let else = c .before .before .before .before in
+    let p = start (else .before .before) .pre in
+    let begins = turned-begins _ _ _ (p .ready) (next-seat else) in
+    record { tables = p .tables; resource = p .resource; head = λ h. begins })
+    returns-3)

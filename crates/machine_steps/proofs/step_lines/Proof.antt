@@ -48,12 +48,6 @@ step-requires c κs =
     let p = start t .pre in
     record { tables = p .0; resource = lt; running = λ h. rw e (p .1 (l .q) lt (rw e at h)) }
 
-add-cuts : tie.Need-add-cuts Inv-loop μ-loop
-add-cuts c =
-    let on = c .before .before in
-    let l = turn on .before .loop in
-    record { fits = word-fits _ 16 _ (l .inv .cut) (cut-bit _ _ _ (l .q) (l .inv .lines) (on .cuts-holder .ensures) (c .bit .ensures)) (omega arith) }
-
 add-grants : tie.Need-add-grants Inv-loop μ-loop
 add-grants c =
     let on = asked c in
@@ -105,5 +99,10 @@ step-lines-spec =
     tie.close
     (tie.spec
     Inv-loop μ-loop loop-holds (λ c. omega arith) (λ c. omega arith) (λ c κs. tt) step-requires (λ c. omega arith)
-    (λ c. omega arith) (λ c κs. omega arith) add-cuts (λ c κs. omega arith) add-grants (λ c. omega arith) (λ c. omega arith)
+    (λ c. omega arith) (λ c κs. omega arith)
+    (λ c. let on = c .before .before in
+    let l = turn on .before .loop in
+    let b = cut-bit _ _ _ (l .q) (l .inv .lines) (on .cuts-holder .ensures) (c .bit .ensures) in
+    record { fits = word-fits _ 16 _ (l .inv .cut) b (omega arith) })
+    (λ c κs. omega arith) add-grants (λ c. omega arith) (λ c. omega arith)
     (λ c κs. tt) (λ c. omega arith) array-write-lost (λ c. omega arith) (λ c. omega arith) (λ c. omega arith) loop-again returns)

@@ -8,12 +8,6 @@ use Rattle.machine_steps.proofs.tick.Tie as tie
 abbrev start : tie.After-lines → tie.Start
 start c = c .before .before .before .before
 
-lower-requires : tie.Need-lower-requires
-lower-requires c κs =
-    let then = c .before .before .before in
-    let p = start (then .before .before .before .before) .pre .0 in
-    record { keys-long = p .keys-long; ended-long = search needs; keys-low = p .keys-low }
-
 returns : tie.Need-returns
 returns c =
     let then = c .before .before .before .before in
@@ -34,4 +28,8 @@ pub tick-spec : {M : Type 1} → statement M
 tick-spec =
     tie.close
     (tie.spec
-    (λ c κs. let p = start c .pre in (p .0 .tables, p .1)) (λ c. search needs) lower-requires returns returns-2)
+    (λ c κs. let p = start c .pre in (p .0 .tables, p .1)) (λ c. search needs)
+    (λ c κs. let then = c .before .before .before in
+    let p = start (then .before .before .before .before) .pre .0 in
+    record { keys-long = p .keys-long; ended-long = search needs; keys-low = p .keys-low })
+    returns returns-2)
