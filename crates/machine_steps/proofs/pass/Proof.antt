@@ -38,19 +38,22 @@ hold-of-requires c κs =
       taken = next-seat c;
     }
 
+abbrev budget : tie.After-hold-of → ℕ
+budget h = start (h .before .before .before) .args .line .«budget_left»
+
 returns-2 : tie.Need-returns-2
 unfolding passed
 returns-2 c =
     let h = c .before .before in
     let some = ne-eqb (second (h .before)) 0 (λ z. omega (arith, next-seat (h .before))) in
-    rw (some, ← h .hold-of .ensures, le-leb (h .hold-of .result) _ (c .if2 .taken))
+    rw (some, ← h .hold-of .ensures, le-leb (h .hold-of .result) (budget h) (omega arith))
 
 returns-3 : tie.Need-returns-3
 unfolding passed
 returns-3 c =
     let h = c .before .before .before .before in
     let some = ne-eqb (second (h .before)) 0 (λ z. omega (arith, next-seat (h .before))) in
-    rw (some, ← h .hold-of .ensures, lt-leb (h .hold-of .result) _ (c .before .before .if2 .left)) (c .begin2 .ensures)
+    rw (some, ← h .hold-of .ensures, lt-leb (h .hold-of .result) (budget h) (omega arith)) (c .begin2 .ensures)
 
 pub pass-spec : {M : Type 1} → statement M
 pass-spec =
