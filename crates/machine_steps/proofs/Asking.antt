@@ -1,27 +1,16 @@
 -- What the tables tell of the tasks ahead, what a request is answered, and which tasks are in line.
-use Rattle.folds.proofs.Ground.{ℕ, zero, suc, _+_, _*_, _-_, _<_, _≤_, Bool, true, false, cond, not, _≡_, refl, sym, ap, ap₂, _∙_, _⊎_, inl, inr, List, [], _∷_, _++_, eqb, ltb, length, getD, add-one, arith, eqb-true, eqb-false, eq-eqb, ne-eqb, lt-ltb, le-ltb, not-true}
+use Rattle.folds.proofs.Ground.{ℕ, zero, suc, _+_, _*_, _-_, _<_, _≤_, Bool, true, false, not, _≡_, refl, sym, ap, _∙_, _⊎_, inl, inr, List, [], _∷_, _++_, eqb, length, getD, arith, eqb-true, eqb-false, eq-eqb, ne-eqb, not-true}
 use Rattle.folds.specs.Below.{anyBelow, sumBelow, maxBelow}
 use Rattle.folds.proofs.Tests.{same-test, all-from, any-at, any-out, any-same, find-none}
-use Rattle.folds.proofs.Figures.{max-at, sum-same}
-use Rattle.plan_reading.specs.Plan.{Plan, Valid}
-use Rattle.analysis_equations.specs.Sharing.{processorOf}
-use Rattle.analysis_equations.specs.HoldTimes.{holdAt, waitTime}
-use Rattle.queue_rules.specs.Rules.{line, queueOf, inLine, tasksOf, sumOf, limit}
+use Rattle.folds.proofs.Figures.{sum-same}
+use Rattle.machine_steps.proofs.Names.{Plan, Valid, processorOf, holdAt, waitTime, holdCell, Figures, terms, busy, requestAnswer, listFrom, taskRanked, queueFrom, Standing, LineRow, State, standing, lineAt, slot, rank, shows, noneInLine, seat, Seats, Whole}
+use Rattle.queue_rules.specs.Rules.{line, inLine, tasksOf, sumOf, limit}
 use Rattle.machine_rules.specs.declared.Answer.the-variants.{Granted, Waits}
-use Rattle.machine_rules.specs.Machine.{terms, busy, requestAnswer}
-use Rattle.queue_ranks.specs.Ranks.{listFrom, taskRanked, queueFrom}
 use Rattle.folds.proofs.Searches.{on-le, find-is}
-use Rattle.machine_steps.proofs.Ready.{seat-task}
+use Rattle.machine_steps.proofs.Ready.{seats-few, seat-taken, seat-empty}
 use Rattle.queue_ranks.proofs.Lists.{list-snoc, list-length}
-use Rattle.queue_ranks.proofs.Ranked.{task-rank, ranks-few, full}
-use Rattle.analysis_figures.specs.Figures.{holdCell, Figures}
-use Rattle.machine_state.specs.declared.Standing.{Standing}
-use Rattle.machine_state.specs.declared.LineRow.{LineRow}
-use Rattle.machine_state.specs.declared.State.{State}
-use Rattle.machine_state.specs.Shows.{standing, lineAt, slot, rank, shows, noneInLine}
-use Rattle.machine_state.specs.Inner.{seat, Seats}
+use Rattle.queue_ranks.proofs.Ranked.{full}
 use Rattle.machine_state.proofs.Tables.{low-processor}
-use Rattle.machine_state.proofs.Good.{Whole}
 use Rattle.machine_state.proofs.Wholes.{hold-resource}
 use Rattle.machine_state.proofs.Told.{ahead-list, stands-is}
 use Rattle.machine_steps.specs.Inner.{taken, takenHolds}
@@ -31,12 +20,12 @@ sum-last : (f : ℕ → ℕ) (us : List ℕ) (u : ℕ) → sumOf f (us ++ (u ∷
 sum-last f [] u = omega arith
 sum-last f (v ∷ us) u = omega (arith, sum-last f us u)
 
-sum-list : (n : ℕ) (h f : ℕ → ℕ) → sumBelow n (λ j. h (f (suc j))) ≡ sumOf h (listFrom n 1 f)
+sum-list : (n : ℕ) (h f : ℕ → ℕ) → sumBelow n (λ j. h (f (j + 1))) ≡ sumOf h (listFrom n 1 f)
 unfolding sumBelow listFrom
 sum-list zero h f = refl
 sum-list (suc n) h f =
-    ap (λ (x : ℕ). x + h (f (suc n))) (sum-list n h f)
-    ∙ sym (ap (sumOf h) (list-snoc n 1 (suc n) f (omega arith)) ∙ sum-last h (listFrom n 1 f) (f (suc n)))
+    ap (λ (x : ℕ). x + h (f (n + 1))) (sum-list n h f)
+    ∙ sym (ap (sumOf h) (list-snoc n 1 (n + 1) f (omega arith)) ∙ sum-last h (listFrom n 1 f) (f (n + 1)))
 
 -- ── the tasks ahead ──
 module _ (p : Plan) (v : Valid p) (s : State) (w : Whole p s) (q k : ℕ) (lq : q < 16) where
@@ -47,58 +36,31 @@ module _ (p : Plan) (v : Valid p) (s : State) (w : Whole p s) (q k : ℕ) (lq : 
   most = maxBelow (p .tasks) ranks
 
   module _ (lk : k < 8) {seats : List ℕ} (t : Seats p (s .tasks) seats) where
-    few : most ≤ 64
-    few = omega (arith, v .tasks, ranks-few (w .lines q lq .ranked) k)
-
-    sits : (j : ℕ) → j < 64
-        → getD seats (seat q k j) 0 ≡ cond (ltb (taskRanked (p .tasks) ranks (j + 1)) (p .tasks)) (taskRanked (p .tasks) ranks (j + 1) + 1) 0
-    sits j l = seat-task p s w t q k j lq lk l
-
-    -- the seats are taken from the first on, as many as there are tasks
-    pub seat-taken : (j : ℕ) → j < most → getD seats (seat q k j) 0 ≡ taskRanked (p .tasks) ranks (suc j) + 1
-    seat-taken j l =
-        let a : taskRanked (p .tasks) ranks (j + 1) < p .tasks = full (w .lines q lq .ranked) k (j + 1) (omega arith) (omega arith) in
-        sits j (omega (arith, few)) ∙ rw (lt-ltb _ _ a, add-one j)
-
-    pub seat-empty : (j : ℕ) → most ≤ j → j < 64 → getD seats (seat q k j) 0 ≡ 0
-    seat-empty j m l = sits j l ∙ rw (le-ltb _ _ past)
-      where
-        past : p .tasks ≤ taskRanked (p .tasks) ranks (j + 1)
-        past =
-            on-le (p .tasks ≤ taskRanked (p .tasks) ranks (j + 1)) (p .tasks) (taskRanked (p .tasks) ranks (j + 1)) (λ a. a)
-            (λ a. omega (arith, task-rank (p .tasks) (j + 1) ranks a, max-at (p .tasks) (taskRanked (p .tasks) ranks (j + 1)) ranks a))
-
     pub taken-is : taken seats q k ≡ most
     unfolding taken
     taken-is =
         on-le (taken seats q k ≡ most) 64 most
-        (λ a. find-none 64 test (all-from 64 (λ j. not (test j)) (λ j l. ap not (full-at j (omega arith)))) ∙ omega (arith, few))
-        (λ l. find-is 64 most test l (eq-eqb _ 0 (seat-empty most (omega arith) l)) full-at)
+        (λ a. find-none 64 test (all-from 64 (λ j. not (test j)) (λ j l. ap not (full-at j (omega arith)))) ∙ omega (arith, seats-few p v s w t q k lq lk))
+        (λ l. find-is 64 most test l (eq-eqb _ 0 (seat-empty p v s w t q k lq lk most (omega arith) l)) full-at)
       where
         test : ℕ → Bool
         test j = eqb (getD seats (seat q k j) 0) 0
 
         full-at : (j : ℕ) → j < most → test j ≡ false
-        full-at j l = ne-eqb (getD seats (seat q k j) 0) 0 (λ e. omega (arith, seat-taken j l))
-
-    pub ahead-count : length (tasksOf k (queueOf (shows p s .lines q))) ≡ taken seats q k
-    ahead-count = ap length (ahead-list p v s w q k lq) ∙ list-length most 1 (taskRanked (p .tasks) ranks) ∙ sym taken-is
+        full-at j l = ne-eqb (getD seats (seat q k j) 0) 0 (λ e. omega (arith, seat-taken p v s w t q k lq lk j l))
 
     module _ {figures : List ℕ} (c : Figures p figures) where
-      pub taken-holds : takenHolds figures seats q k ≡ sumOf (terms p q .hold) (listFrom most 1 (taskRanked (p .tasks) ranks))
+      taken-holds : takenHolds figures seats q k ≡ sumOf (terms p q .hold) (listFrom most 1 (taskRanked (p .tasks) ranks))
       unfolding takenHolds
       taken-holds =
           rw taken-is (sum-same most _ _ hold ∙ sum-list most (λ u. holdAt p u q) (taskRanked (p .tasks) ranks))
         where
-          hold : (j : ℕ) → j < most → getD figures (holdCell (getD seats (seat q k j) 0 - 1) q) 0 ≡ holdAt p (taskRanked (p .tasks) ranks (suc j)) q
+          hold : (j : ℕ) → j < most → getD figures (holdCell (getD seats (seat q k j) 0 - 1) q) 0 ≡ holdAt p (taskRanked (p .tasks) ranks (j + 1)) q
           hold j l =
-              let u : ℕ = taskRanked (p .tasks) ranks (suc j) in
-              let a : u < p .tasks = full (w .lines q lq .ranked) k (suc j) (omega arith) l in
-              let e : getD seats (seat q k j) 0 - 1 ≡ u = omega (arith, seat-taken j l) in
+              let u : ℕ = taskRanked (p .tasks) ranks (j + 1) in
+              let a : u < p .tasks = full (w .lines q lq .ranked) k (j + 1) (omega arith) (omega arith) in
+              let e : getD seats (seat q k j) 0 - 1 ≡ u = omega (arith, seat-taken p v s w t q k lq lk j l) in
               rw e (c .hold u q (omega (arith, v .tasks)) lq)
-
-      pub ahead-holds : sumOf (terms p q .hold) (tasksOf k (queueOf (shows p s .lines q))) ≡ takenHolds figures seats q k
-      ahead-holds = ap (sumOf (terms p q .hold)) (ahead-list p v s w q k lq) ∙ sym taken-holds
 
 -- ── the answer ──
 -- of a held line
@@ -124,7 +86,7 @@ module _ (p : Plan) (v : Valid p) (s : State) (w : Whole p s) (i q : ℕ) where
       let lk : k < 8 = low-processor p v i lt in
       let l : LineRow = lineAt s q in
       told-held p i q (p .tasks) (rank p (s .tasks) q) (l .queued) (slot l) (l .«hold_left») (l .«budget_left») a
-      ∙ ap₂ (λ (x y : ℕ). Waits x (y + (x + 1) * waitTime p k q)) (ahead-count p v s w q k lq lk t) (ahead-holds p v s w q k lq lk t c)
+      ∙ rw (ahead-list p v s w q k lq, list-length, taken-is p v s w q k lq lk t, taken-holds p v s w q k lq lk t c)
 
 -- ── who is in line ──
 module _ (p : Plan) (v : Valid p) (s : State) (w : Whole p s) (i : ℕ) (lt : i < p .tasks) where

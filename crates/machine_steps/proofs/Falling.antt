@@ -1,69 +1,66 @@
 -- The rows once some lines lost their holders: in those the queue of the head has moved up, in all others nothing has.
-use Rattle.folds.proofs.Ground.{ℕ, _+_, _-_, _/_, _<_, _≤_, Bool, true, false, cond, _&&_, and-false, _≡_, refl, sym, _∙_, _≢_, _⊎_, inl, inr, List, eqb, getD, sub-zero, arith, eq-eqb, ne-eqb, lt-ltb}
+use Rattle.folds.proofs.Ground.{ℕ, _+_, _-_, _/_, _<_, _≤_, Bool, true, false, cond, _&&_, and-false, _≡_, refl, sym, _∙_, _≢_, _⊎_, inl, inr, ⊎-elim, ap, lt-ltb, eqb-true, List, eqb, ltb, getD, sub-zero, arith, eq-eqb, ne-eqb}
 use Rattle.folds.proofs.Figures.{max-at}
-use Rattle.folds.proofs.Arrays.{by-eq}
+use Rattle.folds.proofs.Ranges.{cond-bound}
+use Rattle.folds.specs.Below.{anyBelow}
+use Rattle.folds.proofs.Arrays.{by-eq, stampedBelow, stamped-at}
 use Rattle.folds.proofs.EachLaws.{each-at}
-use Rattle.plan_reading.specs.Plan.{Plan, Valid}
-use Rattle.analysis_equations.specs.Sharing.{processorOf}
-use Rattle.analysis_equations.specs.HoldTimes.{holdAt}
-use Rattle.folds.proofs.Searches.{on-eq, on-le}
+use Rattle.machine_steps.proofs.Names.{Plan, Valid, processorOf, holdAt, Standing, State, noStanding, noneInLine, movedUp, standing, lineAt, slot, rank, queueAt, seat, noSeat, keyOf, Whole}
+use Rattle.folds.proofs.Searches.{on-le}
 use Rattle.queue_ranks.proofs.Leave.{Leaves}
-use Rattle.machine_state.specs.declared.Standing.{Standing}
-use Rattle.machine_state.specs.declared.State.{State}
-use Rattle.machine_state.specs.Shows.{noStanding, noneInLine, movedUp, standing, lineAt, slot, rank}
-use Rattle.machine_state.specs.Inner.{queueAt, seat, noSeat, keyOf}
-use Rattle.machine_state.proofs.Good.{Whole}
 use Rattle.machine_state.proofs.Tables.{low-processor}
-use Rattle.machine_steps.specs.Inner.{fallen, lowered}
+use Rattle.machine_state.proofs.Wholes.{rank-own}
+use Rattle.machine_steps.specs.Inner.{noMarks, fallen, lowered}
 use Rattle.queue_ranks.proofs.Ranked.{ranks-few}
 use Rattle.machine_steps.proofs.Ready.{Tabled}
+use Rattle.machine_steps.proofs.Marks.{no-mark}
 
 -- the rank that a row gives a task of processor m
 abbrev rankOf : Standing → ℕ → ℕ → ℕ → ℕ
 rankOf s m q k = cond (eqb m k && eqb (s .resource) q) (s .place + 1) 0
 
-rank-other : (s : Standing) (m q k : ℕ) → m ≢ k → rankOf s m q k ≡ 0
-rank-other s m q k n = rw (ne-eqb m k n)
+module _ (s : Standing) (m q k : ℕ) (h : q ≢ 255) where
+  -- where the first of its queue left, it falls by 1
+  fall : (b : Bool) → rankOf (fallen b s) m q k ≡ rankOf s m q k - cond b 1 0
+  unfolding fallen
+  fall false = sym (sub-zero (rankOf s m q k))
+  fall true =
+      by-eq (λ (d : Bool). rankOf (cond d noneInLine (movedUp s)) m q k ≡ rankOf s m q k - 1) (s .place) 0
+      (λ z. rw (ne-eqb 255 q (λ e. h (sym e)), and-false)
+      (omega (arith, cond-bound (eqb m k && eqb (s .resource) q) (s .place + 1) 1 (λ t. omega arith))))
+      (λ n. less (eqb m k && eqb (s .resource) q) n)
+    where
+      less : (d : Bool) → s .place ≢ 0 → cond d (s .place - 1 + 1) 0 ≡ cond d (s .place + 1) 0 - 1
+      less true n = omega arith
+      less false n = refl
 
-rank-away : (s : Standing) (m q k : ℕ) → s .resource ≢ q → rankOf s m q k ≡ 0
-rank-away s m q k n = rw (ne-eqb (s .resource) q n, and-false)
+  -- and in a queue of another, where it has none, it is the same whether or not
+  fall-rank : (b c : Bool) → (m ≡ k → s .resource ≡ q → b ≡ c) → rankOf (fallen b s) m q k ≡ rankOf s m q k - cond c 1 0
+  fall-rank b c same = fall b ∙ go (eqb m k) (eqb (s .resource) q) refl refl
+    where
+      go : (x y : Bool) → eqb m k ≡ x → eqb (s .resource) q ≡ y → cond (x && y) (s .place + 1) 0 - cond b 1 0 ≡ cond (x && y) (s .place + 1) 0 - cond c 1 0
+      go true true i j = ap (λ (d : Bool). s .place + 1 - cond d 1 0) (same (eqb-true m k i) (eqb-true _ q j))
+      go true false i j = omega arith
+      go false y i j = omega arith
 
-rank-own : (s : Standing) (m q k : ℕ) → m ≡ k → s .resource ≡ q → rankOf s m q k ≡ s .place + 1
-rank-own s m q k e f = rw (eq-eqb m k e, eq-eqb (s .resource) q f)
-
--- where the first of its queue left, a row's rank falls by 1; a row of another queue keeps its rank there
-fall-away : (b : Bool) (s : Standing) (q : ℕ) → q ≢ 255 → s .resource ≢ q → fallen b s .resource ≢ q
-unfolding fallen
-fall-away true s q h n =
-    by-eq (λ (d : Bool). cond d noneInLine (movedUp s) .resource ≢ q) (s .place) 0
-    (λ e f. h (sym f)) (λ e. n)
-fall-away false s q h n = n
-
-fall-own : (s : Standing) (m q k : ℕ) → q ≢ 255 → m ≡ k → s .resource ≡ q → rankOf (fallen true s) m q k ≡ s .place
-unfolding fallen
-fall-own s m q k h e f =
-    by-eq (λ (d : Bool). rankOf (cond d noneInLine (movedUp s)) m q k ≡ s .place) (s .place) 0
-    (λ z. rank-away noneInLine m q k (λ i. h (sym i)) ∙ sym z)
-    (λ z. rank-own (movedUp s) m q k e f ∙ omega arith)
-
-fall-rank : (b c : Bool) (s : Standing) (m q k : ℕ) → q ≢ 255 → (m ≡ k → s .resource ≡ q → b ≡ c)
-    → rankOf (fallen b s) m q k ≡ rankOf s m q k - cond c 1 0
-unfolding fallen
-fall-rank b c s m q k h same =
-    on-eq (rankOf (fallen b s) m q k ≡ rankOf s m q k - cond c 1 0) m k
-    (λ e. on-eq (rankOf (fallen b s) m q k ≡ rankOf s m q k - cond c 1 0) (s .resource) q
-    (λ f. rw (same e f) (own c e f))
-    (λ f. rank-away (fallen b s) m q k (fall-away b s q h f) ∙ omega (arith, rank-away s m q k f)))
-    (λ e. rank-other (fallen b s) m q k e ∙ omega (arith, rank-other s m q k e))
-  where
-    own : (c : Bool) → m ≡ k → s .resource ≡ q → rankOf (fallen c s) m q k ≡ rankOf s m q k - cond c 1 0
-    own true e f = fall-own s m q k h e f ∙ omega (arith, rank-own s m q k e f)
-    own false e f = sym (sub-zero (rankOf s m q k))
+-- what stands for a queue in a table of marks
+abbrev pub mark : Bool → ℕ
+mark b = cond b 1 0
 
 -- `ended` has a 1 for the head's queue of each line of which E holds, and no other
 pub record Ended (s : State) (E : ℕ → Bool) (ended : List ℕ) : Type 0 where
-  pub at : (k q : ℕ) → k < 8 → q < 16 → getD ended (queueAt k q) 0 ≡ cond (E q && eqb k (slot (lineAt s q) 0)) 1 0
+  pub at : (k q : ℕ) → k < 8 → q < 16 → getD ended (queueAt k q) 0 ≡ mark (E q && eqb (slot (lineAt s q) 0) k)
   pub none : getD ended 128 0 ≡ 0
+
+-- such are marks that were stored one by one, those of no queue past the last
+pub ended-by : (s : State) (E : ℕ → Bool) (n : ℕ) (f v : ℕ → ℕ) → ((i : ℕ) → i < n → v i ≡ mark (ltb (f i) 128))
+    → ((k q : ℕ) → k < 8 → q < 16 → anyBelow n (λ i. eqb (f i) (queueAt k q)) ≡ (E q && eqb (slot (lineAt s q) 0) k))
+    → Ended s E (stampedBelow n f v noMarks)
+ended-by s E n f v m a = record {
+  at = λ k q lk lq. stamped-at n 129 f v (λ y. mark (ltb y 128)) (queueAt k q) (omega arith) m
+      ∙ rw (lt-ltb (queueAt k q) 128 (omega arith), a k q lk lq);
+  none = stamped-at n 129 f v (λ y. mark (ltb y 128)) 128 (omega arith) m ∙ no-mark (anyBelow n (λ i. eqb (f i) 128));
+}
 
 module _ (p : Plan) (v : Valid p) (s : State) (w : Whole p s) {figures keys seats : List ℕ} (t : Tabled p s figures keys seats)
     {E : ℕ → Bool} {ended : List ℕ} (x : Ended s E ended) where
@@ -75,18 +72,18 @@ module _ (p : Plan) (v : Valid p) (s : State) (w : Whole p s) {figures keys seat
   unfolding lowered
   row u l = each-at noStanding (λ u r. fallen (falls u) r) 64 u (s .tasks) l (omega (arith, t .tasks-long))
 
-  falls-own : (q k u : ℕ) → q < 16 → u < p .tasks → processorOf p u ≡ k → standing (s .tasks) u .resource ≡ q
-      → falls u ≡ (E q && eqb k (slot (lineAt s q) 0))
-  unfolding rank keyOf
-  falls-own q k u lq l e f =
-      let r = w .lines q lq .ranked in
-      let a : standing (s .tasks) u .place + 1 ≤ p .tasks =
-      omega (arith, rank-own (standing (s .tasks) u) (processorOf p u) q k e f, max-at (p .tasks) u (rank p (s .tasks) q k) l, ranks-few r k) in
-      let c : getD keys u 0 ≡ seat q k (standing (s .tasks) u .place) =
-      t .keys-at .at u l ∙ rw (f, e, lt-ltb q 16 lq, lt-ltb (standing (s .tasks) u .place) 64 (omega (arith, v .tasks))) in
-      let d : getD keys u 0 / 64 ≡ queueAt k q = omega (arith, v .tasks) in
-      let y : k < 8 = omega (arith, low-processor p v u l) in
-      rw (d, x .at k q y lq) (one (E q && eqb k (slot (lineAt s q) 0)))
+  falls-own : (u : ℕ) → u < p .tasks → let q = standing (s .tasks) u .resource in
+      q < 16 → falls u ≡ (E q && eqb (slot (lineAt s q) 0) (processorOf p u))
+  unfolding keyOf
+  falls-own u l lq =
+      let q : ℕ = standing (s .tasks) u .resource in
+      let k : ℕ = processorOf p u in
+      let j : ℕ = standing (s .tasks) u .place in
+      let few : j < 64 =
+      omega (arith, v .tasks, rank-own p (s .tasks) u, max-at (p .tasks) u (rank p (s .tasks) q k) l, ranks-few (w .lines q lq .ranked) k) in
+      let c : getD keys u 0 ≡ seat q k j = t .keys-at .at u l ∙ rw (lt-ltb q 16 lq, lt-ltb j 64 few) in
+      let d : getD keys u 0 / 64 ≡ queueAt k q = omega arith in
+      rw (d, x .at k q (low-processor p v u l) lq) (one (E q && eqb (slot (lineAt s q) 0) k))
     where
       one : (b : Bool) → eqb (cond b 1 0) 1 ≡ b
       one true = refl
@@ -101,19 +98,19 @@ module _ (p : Plan) (v : Valid p) (s : State) (w : Whole p s) {figures keys seat
 
   -- the rank of each task
   rank-after : (q : ℕ) → q < 16 → (k u : ℕ) → u < p .tasks
-      → rank p (lowered keys ended (s .tasks)) q k u ≡ rank p (s .tasks) q k u - cond (E q && eqb k (slot (lineAt s q) 0)) 1 0
+      → rank p (lowered keys ended (s .tasks)) q k u ≡ rank p (s .tasks) q k u - cond (E q && eqb (slot (lineAt s q) 0) k) 1 0
   unfolding rank
   rank-after q lq k u l =
       rw (row u (omega (arith, v .tasks)))
-      (fall-rank (falls u) (E q && eqb k (slot (lineAt s q) 0)) (standing (s .tasks) u) (processorOf p u) q k (λ e. omega arith)
-      (λ e f. falls-own q k u lq l e f))
+      (fall-rank (standing (s .tasks) u) (processorOf p u) q k (λ e. omega arith) (falls u) (E q && eqb (slot (lineAt s q) 0) k)
+      (λ e f. rw (← e, ← f) (falls-own u l (rw f lq))))
 
   -- the ranks of a line whose holder leaves, and of one whose holder stays
   pub ranks-leave : (q : ℕ) → q < 16 → E q ≡ true
       → Leaves (p .tasks) (rank p (s .tasks) q) (rank p (lowered keys ended (s .tasks)) q) (slot (lineAt s q) 0)
   ranks-leave q lq e = record {
     fall = λ u l. rw e at (rw (eq-eqb (slot (lineAt s q) 0) _ refl) at (rank-after q lq (slot (lineAt s q) 0) u l));
-    kept = λ k u n l. rank-after q lq k u l ∙ rw (ne-eqb k (slot (lineAt s q) 0) n, and-false) (sub-zero (rank p (s .tasks) q k u));
+    kept = λ k u n l. rank-after q lq k u l ∙ rw (ne-eqb (slot (lineAt s q) 0) k (λ e. n (sym e)), and-false) (sub-zero (rank p (s .tasks) q k u));
   }
 
   pub ranks-stay : (q : ℕ) → q < 16 → E q ≡ false → (k u : ℕ) → u < p .tasks
@@ -123,17 +120,11 @@ module _ (p : Plan) (v : Valid p) (s : State) (w : Whole p s) {figures keys seat
   pub rows-after : (u : ℕ) → u < 64
       → (standing (lowered keys ended (s .tasks)) u ≡ noneInLine) ⊎ (1 ≤ holdAt p u (standing (lowered keys ended (s .tasks)) u .resource))
   unfolding fallen
-  rows-after u l = rw (row u l) (go (w .rows u l))
+  rows-after u l = rw (row u l) (⊎-elim (λ e. inl (rw (falls-none u l e) e)) (there (falls u) (standing (s .tasks) u)) (w .rows u l))
     where
       Fits : Standing → Type 0
       Fits r = (r ≡ noneInLine) ⊎ (1 ≤ holdAt p u (r .resource))
 
       there : (b : Bool) (r : Standing) → 1 ≤ holdAt p u (r .resource) → Fits (fallen b r)
-      there true r h =
-          by-eq (λ (d : Bool). Fits (cond d noneInLine (movedUp r))) (r .place) 0
-          (λ e. inl refl) (λ e. inr h)
+      there true r h = by-eq (λ (d : Bool). Fits (cond d noneInLine (movedUp r))) (r .place) 0 (λ e. inl refl) (λ e. inr h)
       there false r h = inr h
-
-      go : Fits (standing (s .tasks) u) → Fits (fallen (falls u) (standing (s .tasks) u))
-      go (inl e) = inl (rw (falls-none u l e) e)
-      go (inr h) = there (falls u) (standing (s .tasks) u) h

@@ -1,58 +1,23 @@
 -- Task i joins the line of q: the state stays sound, and shows what the rule makes of that line.
-use Rattle.folds.proofs.Ground.{ℕ, _+_, _<_, _≤_, Bool, true, false, cond, and-false, _≡_, refl, sym, ap, _∙_, fun-ext, _≢_, _⊎_, inr, List, eqb, length, getD, set, List·getD-eq-default, getD-set-same, getD-set-other, add-one, arith, eq-eqb, ne-eqb}
+use Rattle.folds.proofs.Ground.{ℕ, _+_, _<_, _≤_, Bool, cond, and-false, _≡_, refl, sym, ap, _∙_, _≢_, _⊎_, inr, List, eqb, length, getD, set, List·getD-eq-default, getD-set-same, getD-set-other, add-one, arith, eq-eqb, ne-eqb}
 use Rattle.folds.specs.Below.{maxBelow}
-use Rattle.folds.proofs.Arrays.{by-eq}
-use Rattle.folds.proofs.Ranges.{max-where-at}
-use Rattle.plan_reading.specs.Plan.{Plan, Valid}
-use Rattle.analysis_equations.specs.Sharing.{processorOf}
-use Rattle.analysis_equations.specs.HoldTimes.{holdAt, budget}
-use Rattle.analysis_equations.proofs.Laws.{budget-holds}
+use Rattle.machine_steps.proofs.Names.{Plan, Valid, processorOf, holdAt, budget, terms, change, Standing, LineRow, State, noStanding, noLine, standing, lineAt, slot, rank, shownLine, shows, noneInLine, inLineAt, Good, Whole}
+use Rattle.analysis_equations.proofs.Laws.{hold-within}
 use Rattle.queue_rules.specs.Rules as Rules
 use Rattle.queue_rules.specs.Rules.{entered}
-use Rattle.machine_rules.specs.Machine.{Lines, terms, change}
-use Rattle.queue_ranks.specs.Ranks.{listFrom}
+use Rattle.folds.proofs.Arrays.{by-eq}
 use Rattle.folds.proofs.Searches.{on-eq, on-le}
-use Rattle.queue_ranks.proofs.Ranked.{At, Timed, room, queued-few}
-use Rattle.queue_ranks.proofs.Same.{same-ranked, same-queued, same-timed, same-queue}
+use Rattle.queue_ranks.proofs.Ranked.{At, Ranked, Timed, queued-few}
 use Rattle.queue_ranks.proofs.Join.{Joins, enter-free, enter-new, enter-there}
 use Rattle.queue_ranks.proofs.JoinKeeps.{join-ranked, join-queued, join-queued-new, join-timed, join-timed-new}
-use Rattle.machine_state.specs.declared.Standing.{Standing}
-use Rattle.machine_state.specs.declared.LineRow.{LineRow}
-use Rattle.machine_state.specs.declared.State.{State}
-use Rattle.machine_state.specs.Shows.{noStanding, noLine, standing, lineAt, slot, rank, shownLine, shows, noneInLine, inLineAt}
-use Rattle.machine_state.proofs.Good.{Good, Whole}
-use Rattle.machine_state.proofs.Wholes.{hold-resource}
+use Rattle.machine_state.proofs.Wholes.{rank-none, hold-resource}
 use Rattle.machine_steps.specs.Inner.{pushed, joinedLines, joined}
+use Rattle.machine_steps.proofs.Shown.{Shown, Changes, changed-whole, changed-shows}
 
--- ── ranks of a row ──
-module _ (p : Plan) (ts : List Standing) (q k u : ℕ) where
-  rank-own : processorOf p u ≡ k → standing ts u .resource ≡ q → rank p ts q k u ≡ standing ts u .place + 1
-  unfolding rank
-  rank-own e f = rw (eq-eqb (processorOf p u) k e, eq-eqb (standing ts u .resource) q f)
-
-  rank-other : processorOf p u ≢ k → rank p ts q k u ≡ 0
-  unfolding rank
-  rank-other n = rw (ne-eqb (processorOf p u) k n)
-
-  rank-away : standing ts u .resource ≢ q → rank p ts q k u ≡ 0
-  unfolding rank
-  rank-away n = rw (ne-eqb (standing ts u .resource) q n, and-false)
-
-rank-row : (p : Plan) (ts xs : List Standing) (q k u : ℕ) → standing ts u ≡ standing xs u → rank p ts q k u ≡ rank p xs q k u
+-- a task has no rank for another resource than its row names
+rank-away : (p : Plan) (ts : List Standing) (q k u : ℕ) → standing ts u .resource ≢ q → rank p ts q k u ≡ 0
 unfolding rank
-rank-row p ts xs q k u e = rw e
-
--- ── a hold time is within the budget ──
-module _ (p : Plan) (v : Valid p) (i q : ℕ) where
-  hold-within : i < p .tasks → holdAt p i q ≤ budget p (processorOf p i) q
-  hold-within l =
-      rw budget-holds
-      (max-where-at (p .tasks) i (λ j. eqb (processorOf p j) (processorOf p i)) (λ j. holdAt p j q) l (eq-eqb (processorOf p i) (processorOf p i) refl))
-
--- the line of a row is sound and shows m
-record Keeps (p : Plan) (ts : List Standing) (q : ℕ) (l : LineRow) (m : Rules.Line) : Type 0 where
-  good : Good p ts q l
-  shown : shownLine p ts q l ≡ m
+rank-away p ts q k u n = rw (ne-eqb (standing ts u .resource) q n, and-false)
 
 -- how many fellows of task i are in line for q, and the state once it joined them
 abbrev pub aheadOf : Plan → State → ℕ → ℕ → ℕ
@@ -86,13 +51,14 @@ module _ (p : Plan) (v : Valid p) (s : State) (w : Whole p s) (len : length (s .
   row-other u n = getD-set-other (s .tasks) i u (inLineAt q ahead) noStanding n
 
   joins : Joins (p .tasks) (terms p q) (rank p (s .tasks) q) (rank p after q) i
+  unfolding rank
   joins =
       record {
         inside = lt;
         out = rank-away p (s .tasks) q k i (λ e. omega (arith, low, resource));
-        new = rank-own p after q k i refl (ap (λ (x : Standing). x .resource) row) ∙ rw row (add-one ahead);
-        elsewhere = λ j ne. rank-other p after q j i (λ e. ne (sym e)) ∙ sym (rank-other p (s .tasks) q j i (λ e. ne (sym e)));
-        kept = λ j u _ d. rank-row p after (s .tasks) q j u (row-other u d);
+        new = rw (row, eq-eqb k k refl, eq-eqb q q refl) (add-one ahead);
+        elsewhere = λ j ne. rank-none p after q j i ne ∙ sym (rank-none p (s .tasks) q j i ne);
+        kept = λ j u _ d. rw (row-other u d);
       }
 
   -- ── the line of q ──
@@ -102,6 +68,10 @@ module _ (p : Plan) (v : Valid p) (s : State) (w : Whole p s) (len : length (s .
   abbrev slots : List ℕ
   slots = set (l .queue) (l .queued) k
 
+  -- with the task's processor at its tail
+  abbrev entry : LineRow
+  entry = pushed l k (holdAt p i q) (budget p k q)
+
   -- what the rule makes of it
   abbrev ruled : Rules.Line
   ruled = entered (terms p q) i (shownLine p (s .tasks) q l)
@@ -109,37 +79,28 @@ module _ (p : Plan) (v : Valid p) (s : State) (w : Whole p s) (len : length (s .
   was : Good p (s .tasks) q l
   was = w .lines q low
 
-  -- the place of the task fits
-  pub ahead-few : aheadOf p s i q < 64
-  ahead-few = omega (arith, v .tasks, room (was .ranked) i lt (joins .out))
+  ranked : Ranked (p .tasks) (terms p q) (rank p after q)
+  ranked = join-ranked joins (was .ranked) some
 
-  -- and there is a slot for its processor, where that is not queued
+  -- there is a slot for its processor, where that is not queued
   pub join-room : aheadOf p s i q ≡ 0 → lineAt s q .queued < 8
   join-room z =
-      omega (
-        arith,
-        v .processors,
-        queued-few (join-queued-new joins more (was .queued) z (v .task-fits i lt .processor)
-            (λ j b. rw (ne-eqb j (l .queued) (λ e. omega arith))) (rw (eq-eqb (l .queued) (l .queued) refl))),
-      )
+      let next = join-queued-new joins more (was .queued) z (v .task-fits i lt .processor)
+      (λ j b. rw (ne-eqb j (l .queued) (λ e. omega arith))) (rw (eq-eqb (l .queued) (l .queued) refl)) in
+      omega (arith, v .processors, queued-few next)
     where
       more : ℕ → ℕ
       more j = cond (eqb j (l .queued)) k (slot l j)
 
   -- its processor is queued
-  there : 1 ≤ ahead → Keeps p after q l ruled
+  there : 1 ≤ ahead → Shown p after q l ruled
   there a =
       let at : At (l .queued) (slot l) k = was .queued .stands k a in
       let held : 1 ≤ l .queued = omega (arith, at .within) in
       record {
-        good = record {
-          small = was .small;
-          ranked = join-ranked joins (was .ranked) some;
-          queued = join-queued joins (was .queued) a;
-          rest = was .rest;
-          timed = join-timed joins (l .queued) (slot l) (was .queued) (was .timed) held held refl;
-        };
-        shown = sym (enter-there joins (l .queued) (slot l) (l .«hold_left») (l .«budget_left») (was .queued) a);
+        good = let timed = join-timed joins (l .queued) (slot l) (was .queued) (was .timed) held held refl in
+            record { small = was .small; ranked = ranked; queued = join-queued joins (was .queued) a; rest = was .rest; timed = timed };
+        shows = sym (enter-there joins (l .queued) (slot l) (l .«hold_left») (l .«budget_left») (was .queued) a);
       }
 
   -- its processor joins: in the slot of the tail stands 255, so it is there
@@ -158,7 +119,7 @@ module _ (p : Plan) (v : Valid p) (s : State) (w : Whole p s) (len : length (s .
   pushed-good h b z t =
       record {
         small = omega (arith, join-room z);
-        ranked = join-ranked joins (was .ranked) some;
+        ranked = ranked;
         queued = join-queued-new joins _ (was .queued) z (v .task-fits i lt .processor) slot-same (slot-last z);
         rest = λ j a c. getD-set-other (l .queue) (l .queued) j k 0 (λ e. omega arith) ∙ was .rest j (omega arith) c;
         timed = t;
@@ -166,91 +127,60 @@ module _ (p : Plan) (v : Valid p) (s : State) (w : Whole p s) (len : length (s .
 
   -- a held line
   behind : ahead ≡ 0 → 1 ≤ l .queued
-      → Keeps p after q (record { queued = l .queued + 1; queue = slots; «hold_left» = l .«hold_left»; «budget_left» = l .«budget_left» }) ruled
+      → Shown p after q (record { queued = l .queued + 1; queue = slots; «hold_left» = l .«hold_left»; «budget_left» = l .«budget_left» }) ruled
   behind z a =
       record {
         good = pushed-good (l .«hold_left») (l .«budget_left») z
             (join-timed joins (l .queued + 1) _ (was .queued) (was .timed) a (omega arith) (slot-same 0 a));
-        shown = sym (enter-new joins (l .queued) (slot l) _ (l .«hold_left») (l .«budget_left») a (was .queued) z slot-same (slot-last z));
+        shows = sym (enter-new joins (l .queued) (slot l) _ (l .«hold_left») (l .«budget_left») a (was .queued) z slot-same (slot-last z));
       }
 
   -- a free one
   first : ahead ≡ 0 → l .queued ≡ 0
-      → Keeps p after q (record { queued = 1; queue = set (l .queue) 0 k; «hold_left» = holdAt p i q; «budget_left» = budget p k q }) ruled
+      → Shown p after q (record { queued = 1; queue = set (l .queue) 0 k; «hold_left» = holdAt p i q; «budget_left» = budget p k q }) ruled
   first z none =
       let last : getD (set (l .queue) 0 k) 0 0 ≡ k = rw none at (slot-last z) in
       record {
         good = rw none at (pushed-good (holdAt p i q) (budget p k q) z
-            (rw none (join-timed-new joins _ z last some (hold-within p v i q lt))));
-        shown = sym (enter-free joins (l .queued) (slot l) _ (l .«hold_left») (l .«budget_left») none z last);
+            (rw none (join-timed-new joins _ z last some (hold-within p i q lt))));
+        shows = sym (enter-free joins (l .queued) (slot l) _ (l .«hold_left») (l .«budget_left») none z last);
       }
 
-  pushes : ahead ≡ 0 → Keeps p after q (pushed l k (holdAt p i q) (budget p k q)) ruled
-  unfolding pushed
-  pushes z =
-      on-eq (Keeps p after q (pushed l k (holdAt p i q) (budget p k q)) ruled) (l .queued) 0
-      (λ e. rw (eq-eqb (l .queued) 0 e) (first z e)) (λ n. rw (ne-eqb (l .queued) 0 n) (behind z (omega arith)))
-
-  joins-line : Keeps p after q (lineAt (entering p s i q) q) ruled
-  unfolding joinedLines
+  joins-line : Shown p after q (lineAt (entering p s i q) q) ruled
+  unfolding joinedLines pushed
   joins-line =
-      on-eq (Keeps p after q (lineAt (entering p s i q) q) ruled) ahead 0
-      (λ z. rw (eq-eqb ahead 0 z, getD-set-same (s .lines) q (pushed l k (holdAt p i q) (budget p k q)) noLine (omega (arith, low))) (pushes z))
+      on-eq (Shown p after q (lineAt (entering p s i q) q) ruled) ahead 0
+      (λ z. rw (eq-eqb ahead 0 z, getD-set-same (s .lines) q entry noLine (omega (arith, low)))
+      (on-eq (Shown p after q entry ruled) (l .queued) 0
+      (λ e. rw (eq-eqb (l .queued) 0 e) (first z e)) (λ n. rw (ne-eqb (l .queued) 0 n) (behind z (omega arith)))))
       (λ n. rw (ne-eqb ahead 0 n) (there (omega arith)))
 
-  -- ── the other lines stay, and so do the ranks for them ──
-  apart-line : (r : ℕ) → r ≢ q → lineAt (entering p s i q) r ≡ lineAt s r
-  unfolding joinedLines
-  apart-line r n = go (eqb ahead 0)
-    where
-      line : LineRow
-      line = pushed l k (holdAt p i q) (budget p k q)
-
-      go : (b : Bool) → getD (cond b (set (s .lines) q line) (s .lines)) r noLine ≡ lineAt s r
-      go true = getD-set-other (s .lines) q r line noLine n
-      go false = refl
-
-  apart-rank : (r : ℕ) → r < 16 → r ≢ q → (k u : ℕ) → u < p .tasks → rank p (s .tasks) r k u ≡ rank p after r k u
-  apart-rank r lr n k u b =
-      on-eq (rank p (s .tasks) r k u ≡ rank p after r k u) u i
-      (λ e. rw e (rank-away p (s .tasks) r k i (λ f. omega (arith, resource))
-      ∙ sym (rank-away p after r k i (λ f. n (sym f ∙ ap (λ (x : Standing). x .resource) row)))))
-      (λ d. rank-row p (s .tasks) after r k u (sym (row-other u d)))
-
-  apart-good : (r : ℕ) → r < 16 → r ≢ q → Good p after r (lineAt (entering p s i q) r)
-  apart-good r lr n =
-      let g : Good p (s .tasks) r (lineAt s r) = w .lines r lr in
-      let m : LineRow = lineAt s r in
-      let same : (k u : ℕ) → u < p .tasks → rank p (s .tasks) r k u ≡ rank p after r k u = apart-rank r lr n in
-      rw (apart-line r n)
-      (record {
-        small = g .small;
-        ranked = same-ranked (p .tasks) (terms p r) _ _ same (g .ranked);
-        queued = same-queued (p .tasks) _ _ same (m .queued) (p .processors) (slot m) (slot m) (λ j b. refl) (g .queued);
-        rest = g .rest;
-        timed = same-timed (p .tasks) _ _ same (m .queued) (terms p r) (slot m) (slot m) (m .«hold_left») (m .«budget_left») (λ j b. refl) (g .timed);
-      })
-
-  apart-shows : (r : ℕ) → r ≢ q → shows p (entering p s i q) .lines r ≡ shows p s .lines r
-  unfolding shows listFrom
-  apart-shows r n =
-      rw (apart-line r n)
-      (on-le (shownLine p after r (lineAt s r) ≡ shownLine p (s .tasks) r (lineAt s r)) 16 r
-      (λ past. rw (List·getD-eq-default (s .lines) noLine {n = r} (omega arith)))
-      (λ lr. ap (Rules.line (lineAt s r .«hold_left») (lineAt s r .«budget_left»))
-      (sym (same-queue (p .tasks) _ _ (apart-rank r lr n) (lineAt s r .queued) (slot (lineAt s r))))))
+  -- the ranks for the other lines stay
+  apart-rank : (r : ℕ) → r < 16 → r ≢ q → (j u : ℕ) → u < p .tasks → rank p (s .tasks) r j u ≡ rank p after r j u
+  unfolding rank
+  apart-rank r lr n j u b =
+      on-eq (rank p (s .tasks) r j u ≡ rank p after r j u) u i
+      (λ e. rw e (rank-away p (s .tasks) r j i (λ f. omega (arith, resource))
+      ∙ sym (rank-away p after r j i (λ f. n (sym f ∙ ap (λ (x : Standing). x .resource) row)))))
+      (λ d. rw (row-other u d))
 
   -- ── the whole state ──
-  pub joined-whole : Whole p (entering p s i q)
-  joined-whole =
+  changes : Changes p s (entering p s i q) q (entered (terms p q) i)
+  unfolding shows joinedLines
+  changes =
       record {
+        lines-long = wide;
+        resource = low;
+        line = joins-line;
+        others = λ r n. by-eq (λ (b : Bool). getD (cond b (set (s .lines) q entry) (s .lines)) r noLine ≡ lineAt s r) ahead 0
+            (λ e. getD-set-other (s .lines) q r entry noLine n) (λ e. refl);
+        ranks = apart-rank;
         rows = λ u b. on-eq ((standing after u ≡ noneInLine) ⊎ (1 ≤ holdAt p u (standing after u .resource))) u i
             (λ e. rw (e, row) (inr some)) (λ n. rw (row-other u n) (w .rows u b));
-        lines = λ r b. on-eq (Good p after r (lineAt (entering p s i q) r)) r q (λ e. rw e (joins-line .good)) (λ n. apart-good r b n);
       }
 
+  pub joined-whole : Whole p (entering p s i q)
+  joined-whole = changed-whole w changes
+
   pub joined-shows : shows p (entering p s i q) ≡ record { lines = change (shows p s .lines) q (entered (terms p q) i) }
-  unfolding shows
-  joined-shows =
-      ap (λ (l : Lines). record { lines = l }) (fun-ext (λ r. by-eq (λ (b : Bool). shows p (entering p s i q) .lines r ≡ cond b (entered (terms p q) i (shows p s .lines r)) (shows p s .lines r)) r q
-      (λ e. rw e (joins-line .shown)) (λ n. apart-shows r n)))
+  joined-shows = changed-shows w changes

@@ -1,35 +1,19 @@
 -- The holder of a line leaves: the state after it shows what the rule makes of what it showed, and is sound.
-use Rattle.folds.proofs.Ground.{ℕ, zero, suc, _+_, _-_, _<_, _≤_, Bool, false, cond, _&&_, and-true, and-false, _≡_, refl, sym, ap, _∙_, List, eqb, getD, set, replicate, length-set, length-replicate, getD-replicate, getD-set-same, getD-set-other, arith, eq-eqb, ne-eqb}
-use Rattle.folds.proofs.Arrays.{by-eq, cell-eqb}
-use Rattle.plan_reading.specs.Plan.{Plan, Valid}
+use Rattle.folds.proofs.Ground.{ℕ, zero, suc, _+_, _-_, _<_, _≤_, Bool, false, cond, _&&_, and-true, and-false, _≡_, refl, sym, ap, _∙_, List, eqb, getD, set, getD-set-same, getD-set-other, arith, eq-eqb, ne-eqb, lt-ltb}
+use Rattle.folds.specs.Below.{anyBelow}
+use Rattle.folds.proofs.Arrays.{by-eq, cell-eqb, stampedBelow}
+use Rattle.machine_steps.proofs.Names.{Plan, Valid, change, terms, releaseAnswer, listFrom, taskRanked, queueFrom, LineRow, State, noLine, lineAt, slot, rank, shows, queueAt, seat, Seats, Whole}
 use Rattle.queue_rules.specs.Rules as Rules
 use Rattle.machine_rules.specs.declared.Answer.the-variants.{Next, Free}
-use Rattle.machine_rules.specs.Machine.{change, terms, releaseAnswer}
-use Rattle.queue_ranks.specs.Ranks.{listFrom, taskRanked, queueFrom}
 use Rattle.folds.proofs.Searches.{same-eqb}
 use Rattle.queue_ranks.proofs.Ranked.{full}
 use Rattle.queue_ranks.proofs.Reading.{holds-none, holds-first}
 use Rattle.queue_ranks.proofs.Leave.{Leaves}
-use Rattle.machine_state.specs.declared.LineRow.{LineRow}
-use Rattle.machine_state.specs.declared.State.{State}
-use Rattle.machine_state.specs.Shows.{noLine, lineAt, slot, rank, shownLine, shows}
-use Rattle.machine_state.specs.Inner.{queueAt, seat, Seats}
-use Rattle.machine_state.proofs.Good.{Whole}
-use Rattle.machine_steps.specs.Inner.{passed, leftBy}
-use Rattle.machine_steps.proofs.Ready.{Tabled, seat-some, first-task}
-use Rattle.machine_steps.proofs.Falling.{Ended, ranks-leave, ranks-stay, rows-after}
-use Rattle.machine_steps.proofs.Passed.{Shown, stays-shown, past-shows, all-shown, Held, good-held, first-after, passed-shown}
-
--- one mark in an empty table
-mark-at : (m i x : ℕ) → i < m → x < m → getD (set (replicate {A = ℕ} m 0) i 1) x 0 ≡ cond (eqb x i) 1 0
-mark-at m i x li lx =
-    by-eq (λ (b : Bool). getD (set (replicate {A = ℕ} m 0) i 1) x 0 ≡ cond b 1 0) x i
-    (λ e. rw e (getD-set-same (replicate {A = ℕ} m 0) i 1 0 (rw length-replicate li)))
-    (λ n. getD-set-other (replicate {A = ℕ} m 0) i x 1 0 n ∙ getD-replicate {A = ℕ} m x 0 0 lx)
-
--- the task that a line begins with once the first of processor `gone` left, by the seats from before, as its number plus 1
-abbrev pub nextSeat : List ℕ → ℕ → LineRow → ℕ → ℕ
-nextSeat seats q l gone = getD seats (seat q (slot l 0) (cond (eqb (slot l 0) gone) 1 0)) 0
+use Rattle.machine_steps.specs.Inner.{noMarks, passed, leftBy}
+use Rattle.machine_steps.proofs.Ready.{Tabled, low-slot, seat-taken}
+use Rattle.machine_steps.proofs.Falling.{Ended, ended-by, ranks-leave, ranks-stay, rows-after}
+use Rattle.machine_steps.proofs.Shown.{Changes, changed-whole, changed-shows}
+use Rattle.machine_steps.proofs.Passed.{first-after, passed-shown}
 
 -- who holds: nobody where nobody is queued, else who sits first
 pub holder-none : (p : Plan) (s : State) (q i : ℕ) → lineAt s q .queued ≡ 0 → Rules.holds i (shows p s .lines q) ≡ false
@@ -39,7 +23,7 @@ holder-none p s q i e =
 
 module _ (p : Plan) (v : Valid p) (s : State) (w : Whole p s) (q : ℕ) (lq : q < 16) (held : 1 ≤ lineAt s q .queued) where
   pub head-low : slot (lineAt s q) 0 < 8
-  head-low = omega (arith, v .processors, w .lines q lq .queued .placed 0 held)
+  head-low = low-slot p v s w q 0 lq held
 
   pub holder-seat : {seats : List ℕ} → Seats p (s .tasks) seats → (i : ℕ)
       → Rules.holds i (shows p s .lines q) ≡ eqb (getD seats (seat q (slot (lineAt s q) 0) 0) 0) (i + 1)
@@ -47,57 +31,53 @@ module _ (p : Plan) (v : Valid p) (s : State) (w : Whole p s) (q : ℕ) (lq : q 
   holder-seat {seats} t i =
       let g : LineRow = lineAt s q in
       let seated : getD seats (seat q (slot g 0) 0) 0 ≡ taskRanked (p .tasks) (rank p (s .tasks) q (slot g 0)) 1 + 1 =
-      seat-some p s w t q (slot g 0) 0 lq head-low (omega arith) (first-task p s w q 0 lq held) in
+      seat-taken p v s w t q (slot g 0) lq head-low 0 (w .lines q lq .queued .served 0 held) in
       holds-first (p .tasks) (rank p (s .tasks) q) i (g .queued) (slot g) (g .«hold_left») (g .«budget_left») held
       ∙ same-eqb (taskRanked (p .tasks) (rank p (s .tasks) q (slot g 0)) 1) i _ (i + 1) (λ e. omega arith) (λ e. omega arith)
 
 module _ (p : Plan) (v : Valid p) (s : State) (w : Whole p s) {figures keys seats : List ℕ} (t : Tabled p s figures keys seats) where
   module _ (q : ℕ) (lq : q < 16) (held : 1 ≤ lineAt s q .queued) where
-    gone-low : slot (lineAt s q) 0 < 8
-    gone-low = head-low p v s w q lq held
-
     -- ── the state after it ──
     abbrev L : State
     L = leftBy figures keys seats q s
 
-    ended : Ended s (λ r. eqb r q) (set (replicate 129 0) (queueAt (slot (lineAt s q) 0) q) 1)
-    ended = record {
-      at = λ k r lk lr. mark-at 129 (queueAt (slot (lineAt s q) 0) q) (queueAt k r) (omega (arith, gone-low)) (omega arith)
-          ∙ ap (λ (b : Bool). cond b 1 0) (cell-eqb 8 k (slot (lineAt s q) 0) r q lk gone-low ∙ both k r);
-      none = mark-at 129 (queueAt (slot (lineAt s q) 0) q) 128 (omega (arith, gone-low)) (omega arith)
-          ∙ rw (ne-eqb 128 (queueAt (slot (lineAt s q) 0) q) (λ e. omega (arith, gone-low)));
-    }
+    -- one queue loses its first
+    abbrev gone : ℕ
+    gone = queueAt (slot (lineAt s q) 0) q
+
+    ended : Ended s (eqb q) (set noMarks gone 1)
+    unfolding stampedBelow anyBelow
+    ended =
+        ended-by s (eqb q) 1 (λ i. gone) (λ i. 1) (λ i l. rw (lt-ltb gone 128 (omega (arith, head-low p v s w q lq held))))
+        (λ k r lk lr. cell-eqb 8 (slot (lineAt s q) 0) k q r (head-low p v s w q lq held) lk ∙ both k r)
       where
-        both : (k r : ℕ) → (eqb k (slot (lineAt s q) 0) && eqb r q) ≡ (eqb r q && eqb k (slot (lineAt s r) 0))
+        both : (k r : ℕ) → (eqb (slot (lineAt s q) 0) k && eqb q r) ≡ (eqb q r && eqb (slot (lineAt s r) 0) k)
         both k r =
-            by-eq (λ (b : Bool). (eqb k (slot (lineAt s q) 0) && b) ≡ (b && eqb k (slot (lineAt s r) 0))) r q
-            (λ e. rw e (and-true (eqb k (slot (lineAt s q) 0)))) (λ n. and-false (eqb k (slot (lineAt s q) 0)))
+            by-eq (λ (b : Bool). (eqb (slot (lineAt s q) 0) k && b) ≡ (b && eqb (slot (lineAt s r) 0) k)) q r
+            (λ e. rw (← e) (and-true (eqb (slot (lineAt s q) 0) k))) (λ n. and-false (eqb (slot (lineAt s q) 0) k))
 
     leaves : Leaves (p .tasks) (rank p (s .tasks) q) (rank p (L .tasks) q) (slot (lineAt s q) 0)
     leaves = ranks-leave p v s w t ended q lq (eq-eqb q q refl)
 
-    line-held : Held p (s .tasks) q (lineAt s q)
-    line-held = good-held p (s .tasks) q (lineAt s q) (w .lines q lq) held
-
-    pub left-line : lineAt (leftBy figures keys seats q s) q ≡ passed figures seats q (lineAt s q)
-    left-line = getD-set-same (s .lines) q (passed figures seats q (lineAt s q)) noLine (omega (arith, t .lines-long))
-
-    left-shown : (r : ℕ) → r < 16 → Shown p (L .tasks) r (lineAt L r) (change (shows p s .lines) q (Rules.released (terms p q)) r)
+    changes : Changes p s L q (Rules.released (terms p q))
     unfolding shows
-    left-shown r lr =
-        by-eq (λ (b : Bool). Shown p (L .tasks) r (lineAt L r) (cond b (Rules.released (terms p q) (shows p s .lines r)) (shows p s .lines r))) r q
-        (λ e. rw (e, left-line) (passed-shown p v s w t (L .tasks) q lq (lineAt s q) line-held leaves))
-        (λ n. rw (getD-set-other (s .lines) q r (passed figures seats q (lineAt s q)) noLine n)
-        (stays-shown p (s .tasks) (L .tasks) r (lineAt s r) (ranks-stay p v s w t ended r lr (ne-eqb r q n)) (w .lines r lr)))
+    changes =
+        let own = passed-shown p v s w t (L .tasks) q lq held leaves (lineAt s q .«hold_left») (lineAt s q .«budget_left»)
+        (w .lines q lq .timed .runs held .3) in
+        record {
+          lines-long = t .lines-long;
+          resource = lq;
+          line = rw (getD-set-same (s .lines) q (passed figures seats q (lineAt s q)) noLine (omega (arith, t .lines-long))) own;
+          others = λ r n. getD-set-other (s .lines) q r (passed figures seats q (lineAt s q)) noLine n;
+          ranks = λ r lr n. ranks-stay p v s w t ended r lr (ne-eqb q r (λ e. n (sym e)));
+          rows = rows-after p v s w t ended;
+        }
 
     pub left-whole : Whole p (leftBy figures keys seats q s)
-    left-whole = record { rows = rows-after p v s w t ended; lines = λ r lr. left-shown r lr .good }
+    left-whole = changed-whole w changes
 
     pub left-shows : shows p (leftBy figures keys seats q s) ≡ record { lines = change (shows p s .lines) q (Rules.released (terms p q)) }
-    left-shows =
-        all-shown p L (change (shows p s .lines) q (Rules.released (terms p q)))
-        (length-set (s .lines) q (passed figures seats q (lineAt s q)) ∙ t .lines-long) left-shown
-        (λ r a. rw (ne-eqb r q (λ e. omega arith)) (past-shows p s r (t .lines-long) a))
+    left-shows = changed-shows w changes
 
     -- ── the answer ──
     -- the line after it, who is granted next, and the first task of its head
@@ -105,36 +85,30 @@ module _ (p : Plan) (v : Valid p) (s : State) (w : Whole p s) {figures keys seat
     after = lineAt L q
 
     abbrev granted : ℕ
-    granted = nextSeat seats q after (slot (lineAt s q) 0)
+    granted = getD seats (seat q (slot after 0) (cond (eqb (slot after 0) (slot (lineAt s q) 0)) 1 0)) 0
 
     abbrev first : ℕ
     first = taskRanked (p .tasks) (rank p (L .tasks) q (slot after 0)) 1
 
-    next-low : 1 ≤ after .queued → slot after 0 < 8
-    next-low a = omega (arith, v .processors, left-whole .lines q lq .queued .placed 0 a)
-
     next-first : 1 ≤ after .queued → granted ≡ first + 1
     next-first a =
-        first-after p v s w t (L .tasks) q lq (lineAt s q) line-held leaves (slot after 0) (next-low a) (left-whole .lines q lq .queued .served 0 a)
+        first-after p v s w t (L .tasks) q lq held leaves (slot after 0) (low-slot p v L left-whole q 0 lq a)
+        (left-whole .lines q lq .queued .served 0 a)
 
     pub next-seat : 1 ≤ after .queued → (slot after 0 < 8) × (1 ≤ granted) × (granted ≤ p .tasks)
     next-seat a =
         let g = left-whole .lines q lq in
         let l : first < p .tasks = full (g .ranked) (slot after 0) 1 (omega arith) (g .queued .served 0 a) in
-        (next-low a, omega (arith, next-first a), omega (arith, next-first a))
+        (low-slot p v L left-whole q 0 lq a, omega (arith, next-first a), omega (arith, next-first a))
 
     pub next-told : releaseAnswer p (Rules.released (terms p q) (shows p s .lines q)) ≡ cond (eqb (after .queued) 0) Free (Next (p .task (granted - 1) .tag))
     unfolding shows listFrom
     next-told =
-        let m : Rules.released (terms p q) (shows p s .lines q) ≡ shownLine p (L .tasks) q after =
-        sym (rw (eq-eqb q q refl) at (left-shown q lq .shows)) in
-        ap (releaseAnswer p) m
-        ∙ told (p .tasks) (rank p (L .tasks) q) (after .queued) (slot after) (after .«hold_left») (after .«budget_left»)
-        ∙ by-eq (λ (b : Bool). cond b Free (Next (p .task first .tag)) ≡ cond b Free (Next (p .task (granted - 1) .tag)))
-        (after .queued) 0 (λ e. refl)
-        (λ n. let u : first ≡ granted - 1 = omega (arith, next-first (omega arith)) in ap (λ (i : ℕ). Next (p .task i .tag)) u)
+        ap (releaseAnswer p) (sym (changes .line .shows))
+        ∙ told (p .tasks) (rank p (L .tasks) q) (after .queued) (slot after) (after .«hold_left») (after .«budget_left») granted next-first
       where
-        told : (n : ℕ) (S : ℕ → ℕ → ℕ) (c : ℕ) (g : ℕ → ℕ) (h b : ℕ)
-            → releaseAnswer p (Rules.line h b (queueFrom n S c g)) ≡ cond (eqb c 0) Free (Next (p .task (taskRanked n (S (g 0)) 1) .tag))
-        told n S zero g h b = refl
-        told n S (suc c) g h b = rw (ne-eqb (suc c) 0 (λ e. omega arith))
+        told : (n : ℕ) (S : ℕ → ℕ → ℕ) (c : ℕ) (g : ℕ → ℕ) (h b x : ℕ) → (1 ≤ c → x ≡ taskRanked n (S (g 0)) 1 + 1)
+            → releaseAnswer p (Rules.line h b (queueFrom n S c g)) ≡ cond (eqb c 0) Free (Next (p .task (x - 1) .tag))
+        told n S zero g h b x e = refl
+        told n S (suc c) g h b x e =
+            let u : x - 1 ≡ taskRanked n (S (g 0)) 1 = omega (arith, e (omega arith)) in rw (ne-eqb (suc c) 0 (λ i. omega arith), u)

@@ -1,9 +1,11 @@
+pub mod Names
 pub mod Marks
 pub mod Passing
 pub mod Taken
 pub mod Joins
 pub mod Asking
 pub mod Ready
+pub mod Shown
 pub mod Falling
 pub mod Passed
 pub mod Leaving

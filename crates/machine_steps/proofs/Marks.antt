@@ -1,41 +1,30 @@
 -- Laws of what a tick tells: the words of resources, and the queues that lose their first.
-use Rattle.folds.proofs.Ground.{ℕ, zero, suc, _+_, _*_, _/_, _<_, _≤_, Bool, true, false, cond, _&&_, _≡_, refl, sym, ap, ap₂, _∙_, List, eqb, ltb, length, getD, set, replicate, set-getD, arith, ltb-true}
-use lib.Pow.{pow-pos}
+use Rattle.folds.proofs.Ground.{ℕ, zero, suc, _+_, _*_, _/_, _<_, _≤_, Bool, true, false, cond, _&&_, true≢false, _≡_, refl, sym, ap, ap₂, _∙_, List, eqb, ltb, length, getD, set, set-getD, arith, ltb-true}
+use lib.Count.{ones}
 use Rattle.folds.specs.Below.{anyBelow}
-use Rattle.folds.proofs.Tests.{and-parts}
-use Rattle.folds.proofs.Searches.{on-le}
+use Rattle.folds.proofs.Tests.{and-parts, is-not-true, any-at}
+use Rattle.folds.proofs.Ranges.{any-count}
 use Rattle.folds.specs.Each.{eachBelow}
 use Rattle.folds.specs.Words.{bitOf, wordBelow}
-use Rattle.folds.proofs.Arrays.{stampedBelow, stamped-step, stamped-at}
+use Rattle.folds.proofs.Arrays.{stamped-step, stamped-at}
 use Rattle.folds.proofs.EachLaws.{each-at, each-later}
-use Rattle.folds.proofs.WordLaws.{word-done, word-same}
-use Rattle.machine_state.specs.declared.Standing.{Standing}
-use Rattle.machine_state.specs.declared.LineRow.{LineRow}
-use Rattle.machine_state.specs.Shows.{noStanding, noLine, slot}
-use Rattle.machine_state.specs.Inner.{queueAt}
-use Rattle.machine_steps.specs.Inner.{fallen, lowered, cutsHolder, endedOf, stepped, steppedLines, cutWord, grantWord}
+use Rattle.folds.proofs.WordLaws.{word-ones, word-done, word-same}
+use Rattle.machine_steps.proofs.Names.{Standing, LineRow, noStanding, noLine, slot, seatCount}
+use Rattle.machine_steps.specs.Inner.{fallen, lowered, cutsHolder, lostQueue, endedBelow, endedOf, stepped, steppedLines, cutWord, grantWord}
+
+-- what stands for a queue that loses nobody
+pub no-mark : (b : Bool) → cond {A = ℕ} b 0 0 ≡ 0
+no-mark true = refl
+no-mark false = refl
 
 -- where a tick cuts the holder, somebody is queued
 pub cut-queued : (l : LineRow) → cutsHolder l ≡ true → 1 ≤ l .queued
 cut-queued l e = ltb-true 0 (l .queued) (and-parts (ltb 0 (l .queued)) (eqb (l .«hold_left») 1) e .0)
 
--- the queues of the resources below n that lose their first
-abbrev pub endedBelow : List LineRow → ℕ → List ℕ
-endedBelow ls n =
-    stampedBelow n (λ q. cond (cutsHolder (getD ls q noLine)) (queueAt (slot (getD ls q noLine) 0) q) 128)
-    (λ q. cond (cutsHolder (getD ls q noLine)) 1 0) (replicate 129 0)
-
--- a turn of the loop where the tick cuts the holder, one where it does not, and its end
-module _ (ls : List LineRow) (n : ℕ) {m : List ℕ} (p : m ≡ endedBelow ls n) where
-  ended-cut : {k : ℕ} → cutsHolder (getD ls n noLine) ≡ true → k ≡ slot (getD ls n noLine) 0 → set m (n * 8 + k) 1 ≡ endedBelow ls (n + 1)
-  ended-cut e q = stamped-step n _ _ _ p (rw (e, q)) (rw e)
-
-  ended-kept : cutsHolder (getD ls n noLine) ≡ false → set m 128 0 ≡ endedBelow ls (n + 1)
-  ended-kept e = stamped-step n _ _ _ p (rw e) (rw e)
-
-  pub ended-done : n ≡ 16 → m ≡ endedOf ls
-  unfolding endedOf
-  ended-done e = rw (← e, p)
+-- the end of the loop that marks the queues
+pub ended-done : (ls : List LineRow) (n : ℕ) {m : List ℕ} → n ≡ 16 → m ≡ endedBelow ls n → m ≡ endedOf ls
+unfolding endedOf
+ended-done ls n e p = rw (← e, p)
 
 -- a resource with a new grant, by its line before the tick
 module _ (figures seats : List ℕ) (ls : List LineRow) where
@@ -63,10 +52,12 @@ module _ (figures seats : List ℕ) (ls : List LineRow) where
 
       -- the marks, where the tick cuts the holder and where it does not
       pub mark-cut : {t : List ℕ} {k : ℕ} → t ≡ endedBelow ls n → on ≡ true → k ≡ slot (getD m n noLine) 0 → set t (n * 8 + k) 1 ≡ endedBelow ls (n + 1)
-      mark-cut f t k = ended-cut ls n f (sym ends-kept ∙ t) (k ∙ ap (λ (x : LineRow). slot x 0) line-kept)
+      mark-cut f t k =
+          let e : cutsHolder (getD ls n noLine) ≡ true = sym ends-kept ∙ t in
+          stamped-step n _ _ _ f (rw (e, k, line-kept)) (rw e)
 
       pub mark-kept : {t : List ℕ} → t ≡ endedBelow ls n → on ≡ false → set t 128 0 ≡ endedBelow ls (n + 1)
-      mark-kept f t = ended-kept ls n f (sym ends-kept ∙ t)
+      mark-kept f t = let e : cutsHolder (getD ls n noLine) ≡ false = sym ends-kept ∙ t in stamped-step n _ _ _ f (rw e) (rw e)
 
       pub cut-bit : {b : ℕ} → b ≡ bitOf on n → b ≡ bitOf (cutsHolder (getD ls n noLine)) n
       cut-bit f = f ∙ ap (λ (x : Bool). bitOf x n) ends-kept
@@ -81,16 +72,9 @@ module _ (figures seats : List ℕ) (ls : List LineRow) where
 
 -- a word of no bits
 word-none : (n : ℕ) (f : ℕ → Bool) → wordBelow n f ≡ 0 → (q : ℕ) → q < n → f q ≡ false
-unfolding wordBelow
-word-none zero f e q l = let bad : ⊥ = omega arith in absurd bad
-word-none (suc n) f e q l =
-    on-le (f q ≡ false) n q
-    (λ h. let i : q ≡ n = omega arith in rw i (none (f n) refl))
-    (λ h. word-none n f (omega arith) q h)
-  where
-    none : (b : Bool) → f n ≡ b → b ≡ false
-    none true t = let bad : ⊥ = omega (arith, ap (λ (x : Bool). bitOf x n) t, pow-pos n) in absurd bad
-    none false t = refl
+unfolding ones
+word-none n f e q l =
+    is-not-true (f q) (λ t. true≢false (sym (any-at n q f l t) ∙ any-count n f ∙ ap (ltb 0) (sym (word-ones n f) ∙ ap ones e)))
 
 -- a loop that changes nothing
 each-kept : {A : Type 0} (d : A) (g : ℕ → A → A) (n : ℕ) (l : List A) → ((u : ℕ) → u < n → g u (getD l u d) ≡ getD l u d) → eachBelow d g n l ≡ l
@@ -100,18 +84,12 @@ each-kept {A} d g (suc n) l h =
     ap₂ (λ (x : List A) (y : A). set x n y) (each-kept d g n l (λ u b. h u (omega arith))) (h n (omega arith)) ∙ set-getD l n d
 
 -- the rows of the tasks stay as they are
-pub rows-kept : (keys : List ℕ) (ls : List LineRow) (ts : List Standing) → ((u : ℕ) → u < 64 → getD keys u 0 < 8193) → cutWord ls ≡ 0 → lowered keys (endedOf ls) ts ≡ ts
+pub rows-kept : (keys : List ℕ) (ls : List LineRow) (ts : List Standing) → ((u : ℕ) → u < 64 → getD keys u 0 < seatCount) → cutWord ls ≡ 0
+    → lowered keys (endedOf ls) ts ≡ ts
 unfolding cutWord endedOf lowered fallen
 rows-kept keys ls ts low e = each-kept noStanding _ 64 ts (λ u l. rw (unmarked (getD keys u 0 / 64) (omega (arith, low u l))))
   where
-    queue : ℕ → ℕ
-    queue q = cond (cutsHolder (getD ls q noLine)) (queueAt (slot (getD ls q noLine) 0) q) 128
-
-    nothing : (b : Bool) → cond {A = ℕ} b 0 0 ≡ 0
-    nothing true = refl
-    nothing false = refl
-
     unmarked : (x : ℕ) → x < 129 → getD (endedOf ls) x 0 ≡ 0
     unmarked x l =
-        stamped-at 16 129 queue (λ q. cond (cutsHolder (getD ls q noLine)) 1 0) (λ y. 0) x l (λ q b. rw (word-none 16 _ e q b))
-        ∙ nothing (anyBelow 16 (λ q. eqb (queue q) x))
+        stamped-at 16 129 (lostQueue ls) (λ q. cond (cutsHolder (getD ls q noLine)) 1 0) (λ y. 0) x l (λ q b. rw (word-none 16 _ e q b))
+        ∙ no-mark (anyBelow 16 (λ q. eqb (lostQueue ls q) x))

@@ -1,10 +1,8 @@
 -- What the tables tell of a line that goes on to its next task.
-use Rattle.folds.proofs.Ground.{ℕ, _+_, _*_, _-_, _≤_, _<_, Bool, true, false, cond, _≡_, refl, sym, ap, subst, _∙_, List, eqb, getD, getD-set-other, arith, eq-eqb, ne-eqb}
-use mir.Val.{boolByte}
-use Rattle.folds.proofs.Arrays.{by-eq}
-use Rattle.machine_state.specs.declared.LineRow.{LineRow}
-use Rattle.machine_state.specs.Shows.{slot}
-use Rattle.machine_state.specs.Inner.{seat, seatCount}
+use Rattle.folds.proofs.Ground.{ℕ, _+_, _*_, _-_, _≤_, _<_, _≡_, refl, ap, _∙_, List, getD, getD-set-other, arith, eq-eqb, ne-eqb}
+use Rattle.folds.proofs.Searches.{on-eq}
+pub use Rattle.folds.proofs.Tests.{byte-count as flag, byte-le as flag-low}
+use Rattle.machine_steps.proofs.Names.{LineRow, slot, seat, seatCount}
 use Rattle.machine_steps.specs.Inner.{Ready, Begins, shifted, turned}
 
 -- a seat read by a copy w of its processor's number
@@ -14,15 +12,6 @@ seat-read t q k j e p = p ∙ ap (λ (v : ℕ). getD t ((q * 8 + v) * 64 + j) 0)
 -- a seat of a queue is in the table
 pub seat-within : {q k j : ℕ} → q < 16 → k < 8 → j < 64 → seat q k j < seatCount
 seat-within a b c = omega arith
-
--- a test as a number
-pub flag : (b : Bool) → boolByte b ≡ cond b 1 0
-flag true = refl
-flag false = refl
-
-pub flag-low : (b : Bool) → boolByte b ≤ 1
-flag-low true = omega arith
-flag-low false = omega arith
 
 -- the second in line can once the head left
 pub next-begins : (seats : List ℕ) (q : ℕ) (l : LineRow) → Ready seats q l → 2 ≤ l .queued → Begins seats q (slot l 0) (slot l 1)
@@ -36,18 +25,9 @@ next-begins seats q l r m =
 pub turned-begins : (seats : List ℕ) (q : ℕ) (l : LineRow) → Ready seats q l → 1 ≤ getD seats (seat q (slot l 0) 1) 0
     → Begins seats q (slot l 0) (getD (turned (l .queue) (l .queued)) 0 0)
 turned-begins seats q l r m =
-    by-eq (λ (b : Bool). Begins seats q (slot l 0) (getD (turned (l .queue) (l .queued)) 0 0)) (l .queued) 1
-    (λ e. subst (Begins seats q (slot l 0)) (sym (lone e)) (record { core = r .placed 0 (omega (arith, r .some)); taken = rw (eq-eqb (slot l 0) (slot l 0) refl) m }))
-    (λ d. subst (Begins seats q (slot l 0)) (sym (more d)) (next-begins seats q l r (omega (arith, r .some))))
-  where
-    lone : l .queued ≡ 1 → getD (turned (l .queue) (l .queued)) 0 0 ≡ slot l 0
-    lone e = rw e
-
-    more : (l .queued ≡ 1 → ⊥) → getD (turned (l .queue) (l .queued)) 0 0 ≡ slot l 1
-    more d = getD-set-other (shifted (l .queue)) (l .queued - 1) 0 (slot l 0) 0 (λ e. omega (arith, r .some))
-
--- the clock of a line is no matter
-pub ready-again : (seats : List ℕ) (q : ℕ) (l : LineRow) (hold budget : ℕ) → Ready seats q l
-    → Ready seats q (record { queued = l .queued; queue = l .queue; «hold_left» = hold; «budget_left» = budget })
-ready-again seats q l hold budget r =
-    record { some = r .some; few = r .few; placed = r .placed; once = r .once; seated = r .seated }
+    on-eq (Begins seats q (slot l 0) (getD (turned (l .queue) (l .queued)) 0 0)) (l .queued) 1
+    (λ e. let h : getD (turned (l .queue) (l .queued)) 0 0 ≡ slot l 0 = rw e in
+    rw h (record { core = r .placed 0 (omega (arith, r .some)); taken = rw (eq-eqb (slot l 0) (slot l 0) refl) m }))
+    (λ d. let h : getD (turned (l .queue) (l .queued)) 0 0 ≡ slot l 1 =
+    getD-set-other (shifted (l .queue)) (l .queued - 1) 0 (slot l 0) 0 (λ e. omega (arith, r .some)) in
+    rw h (next-begins seats q l r (omega (arith, r .some))))

@@ -3,40 +3,32 @@ use Rattle.folds.proofs.Ground.{ℕ, _+_, _*_, _-_, _≤_, _<_, Bool, true, not
 use Rattle.folds.specs.Below.{allBelow, sumBelow}
 use Rattle.folds.proofs.Tests.{all-more, find-at, find-none}
 use Rattle.folds.proofs.Figures.{sum-step}
-use Rattle.analysis_figures.specs.Figures.{holdCell}
-use Rattle.machine_state.specs.Inner.{seat}
-use Rattle.machine_steps.specs.Inner.{taken, takenHolds, AheadOf}
+use Rattle.machine_steps.proofs.Names.{holdCell, seat}
+use Rattle.machine_steps.specs.Inner.{taken, takenHolds, holdOf, AheadOf}
 
 module _ (figures seats : List ℕ) (q k : ℕ) where
   -- nobody has the i-th seat of the queue of processor k for q
   abbrev empty : ℕ → Bool
   empty i = eqb (getD seats (seat q k i) 0) 0
 
-  -- the hold time of the task with this number plus 1, and that of who has the i-th seat
-  abbrev holdBy : ℕ → ℕ
-  holdBy r = getD figures (holdCell (r - 1) q) 0
-
-  abbrev holdIn : ℕ → ℕ
-  holdIn i = holdBy (getD seats (seat q k i) 0)
-
   -- the first j seats are taken, by tasks with this sum of hold times
   pub record Counted (j sum : ℕ) : Type 0 where
     pub few : j ≤ 64
     pub full : allBelow j (λ i. not (empty i)) ≡ true
-    pub sums : sum ≡ sumBelow j holdIn
+    pub sums : sum ≡ sumBelow j (holdOf figures seats q k)
     pub small : sum ≤ j * 65535
 
   pub counted-none : Counted 0 0
   unfolding allBelow sumBelow
   counted-none = record { few = omega arith; full = refl; sums = refl; small = omega arith }
 
-  pub counted-more : (j sum r x : ℕ) → Counted j sum → j < 64 → r ≡ getD seats (seat q k j) 0 → (r ≡ 0 → ⊥) → x ≡ holdBy r → x < 65536
-      → Counted (j + 1) (sum + x)
+  pub counted-more : (j sum r x : ℕ) → Counted j sum → j < 64 → r ≡ getD seats (seat q k j) 0 → (r ≡ 0 → ⊥)
+      → x ≡ getD figures (holdCell (r - 1) q) 0 → x < 65536 → Counted (j + 1) (sum + x)
   counted-more j sum r x c l e n h b =
       record {
         few = omega arith;
         full = all-more j (λ i. not (empty i)) (c .full) (rw (ne-eqb (getD seats (seat q k j) 0) 0 (λ z. n (e ∙ z))));
-        sums = sum-step j holdIn (c .sums) (h ∙ ap holdBy e);
+        sums = sum-step j (holdOf figures seats q k) (c .sums) (h ∙ ap (λ (i : ℕ). getD figures (holdCell (i - 1) q) 0) e);
         small = omega (arith, c .small);
       }
 
@@ -52,6 +44,6 @@ module _ (figures seats : List ℕ) (q k : ℕ) where
   unfolding taken
   found-empty j sum c l e = found j sum c (find-at 64 j empty l (c .full) (eq-eqb (getD seats (seat q k j) 0) 0 e))
 
-  pub found-none : (sum : ℕ) → Counted 64 sum → Found 64 sum
+  pub found-none : (j sum : ℕ) → Counted j sum → 64 ≤ j → Found 64 sum
   unfolding taken
-  found-none sum c = found 64 sum c (find-none 64 empty (c .full))
+  found-none j sum c l = let e : j ≡ 64 = omega (arith, c .few) in let d = rw e at c in found 64 sum d (find-none 64 empty (d .full))

@@ -1,175 +1,25 @@
 -- A tick: the state after it shows what the rules make of what it showed, and is sound; and the two words of its answer.
-use Rattle.folds.proofs.Ground.{ℕ, zero, suc, _+_, _-_, _<_, _≤_, Bool, true, false, cond, _&&_, and-false, _≡_, refl, sym, ap, ap₂, _∙_, _≢_, List, eqb, ltb, getD, arith, ltb-true, eqb-true, eq-eqb, ne-eqb, lt-ltb}
+use Rattle.folds.proofs.Ground.{ℕ, zero, suc, _-_, _<_, _≤_, Bool, true, false, _&&_, and-false, _≡_, refl, sym, ap, ap₂, _∙_, _≢_, List, eqb, ltb, arith, eqb-true, eq-eqb, ne-eqb, lt-ltb}
 use Rattle.folds.specs.Below.{anyBelow}
-use Rattle.folds.specs.Words.{bitOf, wordBelow}
+use Rattle.folds.specs.Words.{wordBelow}
 use Rattle.folds.proofs.Tests.{and-parts, same-test, any-at, any-out}
-use Rattle.folds.proofs.Arrays.{stamped-at}
 use Rattle.folds.proofs.WordLaws.{word-same}
 use Rattle.folds.proofs.EachLaws.{each-at, each-length}
-use Rattle.plan_reading.specs.Plan.{Plan, Valid}
+use Rattle.machine_steps.proofs.Names.{Plan, Valid, terms, held, regranted, listFrom, queueFrom, LineRow, State, noLine, lineAt, slot, rank, shownLine, shows, queueAt, Good, Whole}
 use Rattle.queue_rules.specs.Rules as Rules
-use Rattle.machine_rules.specs.Machine.{terms, held, regranted}
-use Rattle.queue_ranks.specs.Ranks.{listFrom, queueFrom}
 use Rattle.folds.proofs.Searches.{on-eq, same-eqb}
 use Rattle.queue_ranks.proofs.Leave.{tick-none, tick-some}
 use Rattle.queue_ranks.proofs.LeaveKeeps.{tick-timed}
-use Rattle.machine_state.specs.declared.LineRow.{LineRow}
-use Rattle.machine_state.specs.declared.State.{State}
-use Rattle.machine_state.specs.Shows.{noLine, lineAt, slot, rank, shownLine, shows}
-use Rattle.machine_state.specs.Inner.{queueAt}
-use Rattle.machine_state.proofs.Good.{Good, Whole}
-use Rattle.machine_steps.specs.Inner.{passed, stepped, cutsHolder, endedOf, steppedLines, tickedBy, cutWord, grantWord}
-use Rattle.machine_steps.proofs.Ready.{Tabled}
-use Rattle.machine_steps.proofs.Falling.{Ended, ranks-leave, ranks-stay, rows-after}
-use Rattle.machine_steps.proofs.Passed.{Shown, stays-shown, past-shows, all-shown, Held, passed-shown}
+use Rattle.machine_steps.specs.Inner.{passed, stepped, cutsHolder, lostQueue, endedOf, steppedLines, tickedBy, cutWord, grantWord}
+use Rattle.machine_steps.proofs.Ready.{Tabled, low-slot}
+use Rattle.machine_steps.proofs.Falling.{mark, Ended, ended-by, ranks-leave, ranks-stay, rows-after}
+use Rattle.machine_steps.proofs.Marks.{cut-queued}
+use Rattle.machine_steps.proofs.Shown.{Shown, shown-as, stays-shown, past-row, past-shows, all-shown}
+use Rattle.machine_steps.proofs.Passed.{passed-shown}
 
 on-test : (A : Type 0) (b : Bool) → (b ≡ true → A) → (b ≡ false → A) → A
 on-test A true f g = f refl
 on-test A false f g = g refl
-
--- a line that a tick does not cut, and one that it does
-ends-free : (l : LineRow) → l .queued ≡ 0 → cutsHolder l ≡ false
-ends-free l e = rw e
-
-ends-on : (l : LineRow) → l .«hold_left» ≢ 1 → cutsHolder l ≡ false
-ends-on l n = rw (ne-eqb (l .«hold_left») 1 n) (and-false (ltb 0 (l .queued)))
-
-ends-cut : (l : LineRow) → 1 ≤ l .queued → l .«hold_left» ≡ 1 → cutsHolder l ≡ true
-ends-cut l a e = rw (lt-ltb 0 (l .queued) a) (eq-eqb (l .«hold_left») 1 e)
-
-ends-held : (l : LineRow) → cutsHolder l ≡ true → 1 ≤ l .queued
-ends-held l e = ltb-true 0 (l .queued) (and-parts (ltb 0 (l .queued)) (eqb (l .«hold_left») 1) e .0)
-
--- what stands for a queue in the table of those that lose their first
-abbrev mark : Bool → ℕ
-mark b = cond b 1 0
-
-module _ (p : Plan) (v : Valid p) (s : State) (w : Whole p s) where
-  -- the queue that the line of q loses its first from
-  abbrev key : ℕ → ℕ
-  key q = cond (cutsHolder (lineAt s q)) (queueAt (slot (lineAt s q) 0) q) 128
-
-  head-low : (q : ℕ) → q < 16 → cutsHolder (lineAt s q) ≡ true → slot (lineAt s q) 0 < 8
-  head-low q lq e = omega (arith, v .processors, w .lines q lq .queued .placed 0 (ends-held (lineAt s q) e))
-
-  key-mark : (q : ℕ) → q < 16 → mark (cutsHolder (lineAt s q)) ≡ mark (ltb (key q) 128)
-  key-mark q lq =
-      on-test (mark (cutsHolder (lineAt s q)) ≡ mark (ltb (key q) 128)) (cutsHolder (lineAt s q))
-      (λ e. rw (e, lt-ltb (queueAt (slot (lineAt s q) 0) q) 128 (omega (arith, head-low q lq e)))) (λ e. rw e)
-
-  key-at : (k q : ℕ) → k < 8 → q < 16 → anyBelow 16 (λ r. eqb (key r) (queueAt k q)) ≡ (cutsHolder (lineAt s q) && eqb k (slot (lineAt s q) 0))
-  key-at k q lk lq =
-      same-test _ _
-      (λ a. any-out 16 (λ r. eqb (key r) (queueAt k q)) _ a (λ r lr e. out r lr (eqb-true _ _ e)))
-      (λ a. let b = and-parts (cutsHolder (lineAt s q)) (eqb k (slot (lineAt s q) 0)) a in
-      any-at 16 q (λ r. eqb (key r) (queueAt k q)) lq (eq-eqb (key q) (queueAt k q) (rw (b .0, eqb-true k (slot (lineAt s q) 0) (b .1)))))
-    where
-      out : (r : ℕ) → r < 16 → key r ≡ queueAt k q → (cutsHolder (lineAt s q) && eqb k (slot (lineAt s q) 0)) ≡ true
-      out r lr e =
-          on-test ((cutsHolder (lineAt s q) && eqb k (slot (lineAt s q) 0)) ≡ true) (cutsHolder (lineAt s r))
-          (λ c. let f : queueAt (slot (lineAt s r) 0) r ≡ queueAt k q = rw c at e in
-          let low : slot (lineAt s r) 0 < 8 = head-low r lr c in
-          let i : r ≡ q = omega arith in
-          let h : slot (lineAt s r) 0 ≡ k = omega arith in
-          rw (← i, c) (eq-eqb k _ (sym h)))
-          (λ c. let f : 128 ≡ queueAt k q = rw c at e in let bad : ⊥ = omega arith in absurd bad)
-
-  ended : Ended s (λ q. cutsHolder (lineAt s q)) (endedOf (s .lines))
-  unfolding endedOf
-  ended = record {
-    at = λ k q lk lq. stamped (queueAt k q) (omega arith) ∙ rw (lt-ltb (queueAt k q) 128 (omega arith), key-at k q lk lq);
-    none = stamped 128 (omega arith) ∙ nothing (anyBelow 16 (λ r. eqb (key r) 128));
-  }
-    where
-      stamped : (x : ℕ) → x < 129 → getD (endedOf (s .lines)) x 0 ≡ cond (anyBelow 16 (λ r. eqb (key r) x)) (mark (ltb x 128)) 0
-      stamped x l = stamped-at 16 129 key (λ q. mark (cutsHolder (lineAt s q))) (λ y. mark (ltb y 128)) x l key-mark
-
-      nothing : (b : Bool) → cond b (mark (ltb 128 128)) 0 ≡ 0
-      nothing true = refl
-      nothing false = refl
-
-module _ (p : Plan) (v : Valid p) (s : State) (w : Whole p s) {figures keys seats : List ℕ} (t : Tabled p s figures keys seats) where
-  abbrev T : State
-  T = tickedBy figures keys seats s
-
-  -- ── the line of q ──
-  module _ (q : ℕ) (lq : q < 16) where
-    abbrev l : LineRow
-    l = lineAt s q
-
-    -- with a tick less of both
-    abbrev less : LineRow
-    less = record { queued = l .queued; queue = l .queue; «hold_left» = l .«hold_left» - 1; «budget_left» = l .«budget_left» - 1 }
-
-    shown-as : (g : LineRow) (m : Rules.Line) → Shown p (T .tasks) q g m → Rules.ticked (terms p q) (shownLine p (s .tasks) q l) ≡ m
-        → Shown p (T .tasks) q g (Rules.ticked (terms p q) (shownLine p (s .tasks) q l))
-    shown-as g m y e = record { good = y .good; shows = y .shows ∙ sym e }
-
-    tick-free : l .queued ≡ 0 → Shown p (T .tasks) q l (Rules.ticked (terms p q) (shownLine p (s .tasks) q l))
-    tick-free e =
-        shown-as _ _ (stays-shown p (s .tasks) (T .tasks) q l (ranks-stay p v s w t (ended p v s w) q lq (ends-free l e)) (w .lines q lq))
-        (tick-none (p .tasks) (terms p q) (rank p (s .tasks) q) (l .queued) (slot l) (l .«hold_left») (l .«budget_left») e)
-
-    -- what the rules make of a held one
-    ruled : 1 ≤ l .queued → (b : Bool) → eqb (l .«hold_left» - 1) 0 ≡ b → Rules.ticked (terms p q) (shownLine p (s .tasks) q l)
-        ≡ cond b (Rules.leave (terms p q) (l .«budget_left» - 1) (queueFrom (p .tasks) (rank p (s .tasks) q) (l .queued) (slot l)))
-        (Rules.line (l .«hold_left» - 1) (l .«budget_left» - 1) (queueFrom (p .tasks) (rank p (s .tasks) q) (l .queued) (slot l)))
-    ruled a b e =
-        tick-some (p .tasks) (terms p q) (rank p (s .tasks) q) (l .queued) (slot l) (l .«hold_left») (l .«budget_left») a ∙ rw e
-
-    tick-cut : 1 ≤ l .queued → l .«hold_left» ≡ 1
-        → Shown p (T .tasks) q (passed figures seats q less) (Rules.ticked (terms p q) (shownLine p (s .tasks) q l))
-    tick-cut a e =
-        let g : Good p (s .tasks) q l = w .lines q lq in
-        let h : Held p (s .tasks) q less = record {
-          some = a;
-          small = g .small;
-          ranked = g .ranked;
-          queued = g .queued;
-          rest = g .rest;
-          within = omega (arith, g .timed .runs a .3);
-        } in
-        shown-as _ _
-        (passed-shown p v s w t (T .tasks) q lq less h (ranks-leave p v s w t (ended p v s w) q lq (ends-cut l a e)))
-        (ruled a true (eq-eqb (l .«hold_left» - 1) 0 (omega arith)))
-
-    tick-on : 1 ≤ l .queued → l .«hold_left» ≢ 1 → Shown p (T .tasks) q less (Rules.ticked (terms p q) (shownLine p (s .tasks) q l))
-    tick-on a n =
-        let g : Good p (s .tasks) q l = w .lines q lq in
-        let some : 2 ≤ l .«hold_left» = let y = g .timed .runs a .0 in omega arith in
-        shown-as _ _
-        (stays-shown p (s .tasks) (T .tasks) q less (ranks-stay p v s w t (ended p v s w) q lq (ends-on l n)) (record {
-          small = g .small;
-          ranked = g .ranked;
-          queued = g .queued;
-          rest = g .rest;
-          timed = tick-timed (g .timed) a some;
-        }))
-        (ruled a false (ne-eqb (l .«hold_left» - 1) 0 (λ e. omega arith)))
-
-    ticked-line : lineAt T q ≡ stepped figures seats q l
-    unfolding steppedLines
-    ticked-line = each-at noLine (λ q l. stepped figures seats q l) 16 q (s .lines) lq (omega (arith, t .lines-long))
-
-    ticked-shown : Shown p (T .tasks) q (lineAt T q) (Rules.ticked (terms p q) (shows p s .lines q))
-    unfolding stepped shows
-    ticked-shown =
-        rw ticked-line
-        (on-eq (Shown p (T .tasks) q (stepped figures seats q l) (Rules.ticked (terms p q) (shows p s .lines q))) (l .queued) 0
-        (λ e. rw (eq-eqb (l .queued) 0 e) (tick-free e))
-        (λ n. on-eq (Shown p (T .tasks) q (stepped figures seats q l) (Rules.ticked (terms p q) (shows p s .lines q))) (l .«hold_left») 1
-        (λ e. rw (ne-eqb (l .queued) 0 n, eq-eqb (l .«hold_left») 1 e) (tick-cut (omega arith) e))
-        (λ m. rw (ne-eqb (l .queued) 0 n, ne-eqb (l .«hold_left») 1 m) (tick-on (omega arith) m))))
-
-  pub ticked-whole : Whole p (tickedBy figures keys seats s)
-  ticked-whole = record { rows = rows-after p v s w t (ended p v s w); lines = λ q lq. ticked-shown q lq .good }
-
-  pub ticked-shows : shows p (tickedBy figures keys seats s) ≡ record { lines = λ q. Rules.ticked (terms p q) (shows p s .lines q) }
-  unfolding steppedLines
-  ticked-shows =
-      all-shown p T (λ q. Rules.ticked (terms p q) (shows p s .lines q))
-      (each-length noLine (λ q l. stepped figures seats q l) 16 (s .lines) ∙ t .lines-long) ticked-shown
-      (λ q a. rw (past-shows p s q (t .lines-long) a))
 
 -- a line is cut where one tick of the hold is left, and held where somebody is queued
 cut-line : (n : ℕ) (R : ℕ → ℕ → ℕ) (c : ℕ) (g : ℕ → ℕ) (h b : ℕ) → (1 ≤ c → 1 ≤ h)
@@ -184,7 +34,100 @@ unfolding listFrom
 held-line n R zero g h b = refl
 held-line n R (suc c) g h b = lt-ltb 0 (suc c) (omega arith)
 
+module _ (p : Plan) (v : Valid p) (s : State) (w : Whole p s) where
+  abbrev key : ℕ → ℕ
+  key = lostQueue (s .lines)
+
+  key-mark : (q : ℕ) → q < 16 → mark (cutsHolder (lineAt s q)) ≡ mark (ltb (key q) 128)
+  key-mark q lq =
+      on-test (mark (cutsHolder (lineAt s q)) ≡ mark (ltb (key q) 128)) (cutsHolder (lineAt s q))
+      (λ e. rw (e, lt-ltb (queueAt (slot (lineAt s q) 0) q) 128 (omega (arith, low-slot p v s w q 0 lq (cut-queued (lineAt s q) e))))) (λ e. rw e)
+
+  key-at : (k q : ℕ) → k < 8 → q < 16 → anyBelow 16 (λ r. eqb (key r) (queueAt k q)) ≡ (cutsHolder (lineAt s q) && eqb (slot (lineAt s q) 0) k)
+  key-at k q lk lq =
+      same-test _ _
+      (λ a. any-out 16 (λ r. eqb (key r) (queueAt k q)) _ a (λ r lr e. out r lr (eqb-true _ _ e)))
+      (λ a. let b = and-parts (cutsHolder (lineAt s q)) (eqb (slot (lineAt s q) 0) k) a in
+      any-at 16 q (λ r. eqb (key r) (queueAt k q)) lq (eq-eqb (key q) (queueAt k q) (rw (b .0, eqb-true (slot (lineAt s q) 0) k (b .1)))))
+    where
+      out : (r : ℕ) → r < 16 → key r ≡ queueAt k q → (cutsHolder (lineAt s q) && eqb (slot (lineAt s q) 0) k) ≡ true
+      out r lr e =
+          on-test ((cutsHolder (lineAt s q) && eqb (slot (lineAt s q) 0) k) ≡ true) (cutsHolder (lineAt s r))
+          (λ c. let f : queueAt (slot (lineAt s r) 0) r ≡ queueAt k q = rw c at e in
+          let low : slot (lineAt s r) 0 < 8 = low-slot p v s w r 0 lr (cut-queued (lineAt s r) c) in
+          let i : r ≡ q = omega arith in
+          let h : slot (lineAt s r) 0 ≡ k = omega arith in
+          rw (← i, c) (eq-eqb _ k h))
+          (λ c. let f : 128 ≡ queueAt k q = rw c at e in let bad : ⊥ = omega arith in absurd bad)
+
+  ended : Ended s (λ q. cutsHolder (lineAt s q)) (endedOf (s .lines))
+  unfolding endedOf
+  ended = ended-by s (λ q. cutsHolder (lineAt s q)) 16 key (λ q. mark (cutsHolder (lineAt s q))) key-mark key-at
+
 module _ (p : Plan) (v : Valid p) (s : State) (w : Whole p s) {figures keys seats : List ℕ} (t : Tabled p s figures keys seats) where
+  abbrev T : State
+  T = tickedBy figures keys seats s
+
+  -- ── the line of q ──
+  module _ (q : ℕ) (lq : q < 16) where
+    abbrev l : LineRow
+    l = lineAt s q
+
+    -- with a tick less of both
+    abbrev less : LineRow
+    less = record { queued = l .queued; queue = l .queue; «hold_left» = l .«hold_left» - 1; «budget_left» = l .«budget_left» - 1 }
+
+    -- what the rules make of it
+    abbrev next : Rules.Line
+    next = Rules.ticked (terms p q) (shownLine p (s .tasks) q l)
+
+    tick-free : l .queued ≡ 0 → Shown p (T .tasks) q l next
+    tick-free e =
+        let on : cutsHolder l ≡ false = rw e in
+        shown-as (stays-shown p (s .tasks) (T .tasks) q l (ranks-stay p v s w t (ended p v s w) q lq on) (w .lines q lq))
+        (sym (tick-none (p .tasks) (terms p q) (rank p (s .tasks) q) (l .queued) (slot l) (l .«hold_left») (l .«budget_left») e))
+
+    tick-cut : 1 ≤ l .queued → l .«hold_left» ≡ 1 → Shown p (T .tasks) q (passed figures seats q less) next
+    tick-cut a e =
+        let on : cutsHolder l ≡ true = rw (lt-ltb 0 (l .queued) a) (eq-eqb (l .«hold_left») 1 e) in
+        shown-as
+        (passed-shown p v s w t (T .tasks) q lq a (ranks-leave p v s w t (ended p v s w) q lq on) (l .«hold_left» - 1) (l .«budget_left» - 1)
+        (omega (arith, w .lines q lq .timed .runs a .3)))
+        (sym (tick-some (p .tasks) (terms p q) (rank p (s .tasks) q) (l .queued) (slot l) (l .«hold_left») (l .«budget_left») a
+        ∙ rw (eq-eqb (l .«hold_left» - 1) 0 (omega arith))))
+
+    tick-on : 1 ≤ l .queued → l .«hold_left» ≢ 1 → Shown p (T .tasks) q less next
+    tick-on a n =
+        let g : Good p (s .tasks) q l = w .lines q lq in
+        let some : 2 ≤ l .«hold_left» = omega (arith, g .timed .runs a .0) in
+        let on : cutsHolder l ≡ false = rw (ne-eqb (l .«hold_left») 1 n) (and-false (ltb 0 (l .queued))) in
+        shown-as
+        (stays-shown p (s .tasks) (T .tasks) q less (ranks-stay p v s w t (ended p v s w) q lq on)
+        (record { small = g .small; ranked = g .ranked; queued = g .queued; rest = g .rest; timed = tick-timed (g .timed) a some }))
+        (sym (tick-some (p .tasks) (terms p q) (rank p (s .tasks) q) (l .queued) (slot l) (l .«hold_left») (l .«budget_left») a
+        ∙ rw (ne-eqb (l .«hold_left» - 1) 0 (λ e. omega arith))))
+
+    ticked-shown : Shown p (T .tasks) q (lineAt T q) (Rules.ticked (terms p q) (shows p s .lines q))
+    unfolding stepped steppedLines shows
+    ticked-shown =
+        rw (each-at noLine (λ q l. stepped figures seats q l) 16 q (s .lines) lq (omega (arith, t .lines-long)))
+        (on-eq (Shown p (T .tasks) q (stepped figures seats q l) (Rules.ticked (terms p q) (shows p s .lines q))) (l .queued) 0
+        (λ e. rw (eq-eqb (l .queued) 0 e) (tick-free e))
+        (λ n. on-eq (Shown p (T .tasks) q (stepped figures seats q l) (Rules.ticked (terms p q) (shows p s .lines q))) (l .«hold_left») 1
+        (λ e. rw (ne-eqb (l .queued) 0 n, eq-eqb (l .«hold_left») 1 e) (tick-cut (omega arith) e))
+        (λ m. rw (ne-eqb (l .queued) 0 n, ne-eqb (l .«hold_left») 1 m) (tick-on (omega arith) m))))
+
+  pub ticked-whole : Whole p (tickedBy figures keys seats s)
+  ticked-whole = record { rows = rows-after p v s w t (ended p v s w); lines = λ q lq. ticked-shown q lq .good }
+
+  pub ticked-shows : shows p (tickedBy figures keys seats s) ≡ record { lines = λ q. Rules.ticked (terms p q) (shows p s .lines q) }
+  unfolding steppedLines
+  ticked-shows =
+      all-shown p T (λ q. Rules.ticked (terms p q) (shows p s .lines q)) ticked-shown
+      (λ q a. let long = each-length noLine (λ q l. stepped figures seats q l) 16 (s .lines) ∙ t .lines-long in
+      past-shows p T q (past-row T long q a) ∙ rw (past-shows p s q (past-row s (t .lines-long) q a)))
+
+  -- ── the words ──
   ends-cuts : (q : ℕ) → q < 16 → cutsHolder (lineAt s q) ≡ Rules.cut (shows p s .lines q)
   unfolding shows
   ends-cuts q lq =
@@ -203,4 +146,4 @@ module _ (p : Plan) (v : Valid p) (s : State) (w : Whole p s) {figures keys seat
       holding q lq =
           let l : LineRow = lineAt (tickedBy figures keys seats s) q in
           held-line (p .tasks) (rank p (tickedBy figures keys seats s .tasks) q) (l .queued) (slot l) (l .«hold_left») (l .«budget_left»)
-          ∙ ap held (ticked-shown p v s w t q lq .shows)
+          ∙ ap held (ticked-shown q lq .shows)

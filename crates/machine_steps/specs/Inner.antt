@@ -1,12 +1,13 @@
 -- What joining, leaving and a tick make of the rows of a state, by the tables. None of this is a rule of document 01: the rules are
 -- those of a line.
-use Prim.Native.Nat.{ℕ, _+_, _-_, _/_, _≤_, _<_}
+use Prim.Native.Nat.{ℕ, _+_, _-_, _*_, _/_, _≤_, _<_}
 use mathlib.Core.Bool.{Bool, cond, _&&_}
 use mathlib.Core.List.{List, [], _∷_}
 use mathlib.Core.Logic.{_≢_}
 use mathlib.Core.Path.{_≡_}
 use lib.Dec.{eqb, leb, ltb}
 use lib.ListN.{length, getD, set, replicate}
+use Rattle.sizes.specs.Sizes.{mostProcessors, mostTasks, mostResources, absent}
 use Rattle.folds.specs.Below.{findBelow, sumBelow}
 use Rattle.folds.specs.Each.{eachBelow}
 use Rattle.folds.specs.Words.{wordBelow}
@@ -21,50 +22,58 @@ use Rattle.machine_steps.specs.declared.Ahead.{Ahead}
 use Rattle.machine_steps.specs.declared.Stepped.{Stepped}
 use Rattle.machine_steps.specs.declared.Ticked.{Ticked}
 
+-- how many queues of tasks there are
+abbrev pub queueCount : ℕ
+queueCount = mostResources * mostProcessors
+
+-- a mark for each of them and one more for none, none set
+abbrev pub noMarks : List ℕ
+noMarks = replicate (queueCount + 1) 0
+
 -- ── what the functions rely on ──
 
 -- the queue of processor k for q
 pub record QueueOf (figures seats : List ℕ) (q k : ℕ) : Type 0 where
   pub tables : SeatSized figures seats
-  pub resource : q < 16
-  pub core : k < 8
+  pub resource : q < mostResources
+  pub core : k < mostProcessors
 
 -- a place in it that is taken
 pub record PlaceTaken (figures seats : List ℕ) (q k j : ℕ) : Type 0 where
   pub queue : QueueOf figures seats q k
-  pub place : j < 64
+  pub place : j < mostTasks
   pub taken : 1 ≤ getD seats (seat q k j) 0
 
 -- task i of processor k, which joins the line of q behind `ahead` of its fellows
 pub record Joining (figures : List ℕ) (s : State) (q i k ahead : ℕ) : Type 0 where
   pub figures-long : length figures ≡ figureCount
-  pub resource : q < 16
-  pub task : i < 64
-  pub core : k < 8
-  pub room : ahead ≡ 0 → lineAt s q .queued < 8
+  pub resource : q < mostResources
+  pub task : i < mostTasks
+  pub core : k < mostProcessors
+  pub room : ahead ≡ 0 → lineAt s q .queued < mostProcessors
 
 -- the seats of the tasks, and the marks of queues
 pub record Lowering (keys ended : List ℕ) : Type 0 where
-  pub keys-long : length keys ≡ 64
-  pub ended-long : length ended ≡ 129
-  pub keys-low : (u : ℕ) → u < 64 → getD keys u 0 < seatCount
+  pub keys-long : length keys ≡ mostTasks
+  pub ended-long : length ended ≡ queueCount + 1
+  pub keys-low : (u : ℕ) → u < mostTasks → getD keys u 0 < seatCount
 
 -- processor k can begin once the first task of processor `gone` left
 pub record Begins (seats : List ℕ) (q gone k : ℕ) : Type 0 where
-  pub core : k < 8
+  pub core : k < mostProcessors
   pub taken : 1 ≤ getD seats (seat q k (cond (eqb k gone) 1 0)) 0
 
 -- and so can the head of a queue of c, where there is one
 pub record Beginning (figures seats : List ℕ) (q gone : ℕ) (queue : List ℕ) (c : ℕ) : Type 0 where
   pub tables : SeatSized figures seats
-  pub resource : q < 16
+  pub resource : q < mostResources
   pub head : 1 ≤ c → Begins seats q gone (getD queue 0 0)
 
 -- a held line: its processors are there, each once, with a first task each
 pub record Ready (seats : List ℕ) (q : ℕ) (l : LineRow) : Type 0 where
   pub some : 1 ≤ l .queued
-  pub few : l .queued ≤ 8
-  pub placed : (i : ℕ) → i < l .queued → slot l i < 8
+  pub few : l .queued ≤ mostProcessors
+  pub placed : (i : ℕ) → i < l .queued → slot l i < mostProcessors
   pub once : (i : ℕ) → 1 ≤ i → i < l .queued → slot l i ≢ slot l 0
   pub seated : (i : ℕ) → i < l .queued → 1 ≤ getD seats (seat q (slot l i) 0) 0
 
@@ -77,22 +86,22 @@ pub record Running (seats : List ℕ) (q : ℕ) (l : LineRow) : Type 0 where
 -- such a line of q, with the tables
 pub record Passing (figures seats : List ℕ) (q : ℕ) (l : LineRow) : Type 0 where
   pub tables : SeatSized figures seats
-  pub resource : q < 16
+  pub resource : q < mostResources
   pub ready : Ready seats q l
 
 pub record Stepping (figures seats : List ℕ) (q : ℕ) (l : LineRow) : Type 0 where
   pub tables : SeatSized figures seats
-  pub resource : q < 16
+  pub resource : q < mostResources
   pub running : 1 ≤ l .queued → Running seats q l
 
 pub record Leaving (figures keys seats : List ℕ) (q : ℕ) (l : LineRow) : Type 0 where
   pub tables : Sized figures keys seats
-  pub resource : q < 16
+  pub resource : q < mostResources
   pub ready : Ready seats q l
 
 -- all held lines of a state go on
 abbrev pub AllRunning : List ℕ → List LineRow → Type 0
-AllRunning seats ls = (q : ℕ) → q < 16 → 1 ≤ getD ls q noLine .queued → Running seats q (getD ls q noLine)
+AllRunning seats ls = (q : ℕ) → q < mostResources → 1 ≤ getD ls q noLine .queued → Running seats q (getD ls q noLine)
 
 -- ── joining ──
 
@@ -126,7 +135,7 @@ joinedBy figures s q i k ahead = joined s q i k ahead (getD figures (holdCell i 
 
 -- how many seats of the queue of processor k for q are taken, from the first on
 unfoldable pub taken : List ℕ → ℕ → ℕ → ℕ
-taken seats q k = findBelow 64 (λ j. eqb (getD seats (seat q k j) 0) 0)
+taken seats q k = findBelow mostTasks (λ j. eqb (getD seats (seat q k j) 0) 0)
 
 -- the hold times of those who sit there
 unfoldable pub takenHolds : (figures seats : List ℕ) → ℕ → ℕ → ℕ
@@ -140,11 +149,11 @@ fallen on s = cond on (cond (eqb (s .place) 0) noneInLine (movedUp s)) s
 
 -- the rows of the tasks; `ended` has a 1 for each queue that lost its first
 unfoldable pub lowered : List ℕ → List ℕ → List Standing → List Standing
-lowered keys ended ts = eachBelow noStanding (λ u s. fallen (eqb (getD ended (getD keys u 0 / 64) 0) 1) s) 64 ts
+lowered keys ended ts = eachBelow noStanding (λ u s. fallen (eqb (getD ended (getD keys u 0 / mostTasks) 0) 1) s) mostTasks ts
 
 -- a queue without its head
 abbrev pub shifted : List ℕ → List ℕ
-shifted l = getD l 1 0 ∷ getD l 2 0 ∷ getD l 3 0 ∷ getD l 4 0 ∷ getD l 5 0 ∷ getD l 6 0 ∷ getD l 7 0 ∷ 255 ∷ []
+shifted l = getD l 1 0 ∷ getD l 2 0 ∷ getD l 3 0 ∷ getD l 4 0 ∷ getD l 5 0 ∷ getD l 6 0 ∷ getD l 7 0 ∷ absent ∷ []
 
 -- and with its head at the tail
 abbrev pub turned : List ℕ → ℕ → List ℕ
@@ -199,7 +208,7 @@ abbrev pub leftBy : (figures keys seats : List ℕ) → ℕ → State → State
 leftBy figures keys seats q s =
     record {
       lines = set (s .lines) q (passed figures seats q (lineAt s q));
-      tasks = lowered keys (set (replicate 129 0) (queueAt (slot (lineAt s q) 0) q) 1) (s .tasks);
+      tasks = lowered keys (set noMarks (queueAt (slot (lineAt s q) 0) q) 1) (s .tasks);
     }
 
 -- ── a tick ──
@@ -208,15 +217,21 @@ leftBy figures keys seats q s =
 abbrev pub cutsHolder : LineRow → Bool
 cutsHolder l = ltb 0 (l .queued) && eqb (l .«hold_left») 1
 
--- the queues that lose their first in a tick; 128 is no queue
+-- the queue that then loses its first; past the last one where it does not
+abbrev pub lostQueue : List LineRow → ℕ → ℕ
+lostQueue ls q = cond (cutsHolder (getD ls q noLine)) (queueAt (slot (getD ls q noLine) 0) q) queueCount
+
+-- the marks of the queues that lose their first in a tick, for the resources below n
+abbrev pub endedBelow : List LineRow → ℕ → List ℕ
+endedBelow ls n = stampedBelow n (lostQueue ls) (λ q. cond (cutsHolder (getD ls q noLine)) 1 0) noMarks
+
+-- and for all
 unfoldable pub endedOf : List LineRow → List ℕ
-endedOf ls =
-    stampedBelow 16 (λ q. cond (cutsHolder (getD ls q noLine)) (queueAt (slot (getD ls q noLine) 0) q) 128)
-    (λ q. cond (cutsHolder (getD ls q noLine)) 1 0) (replicate 129 0)
+endedOf ls = endedBelow ls mostResources
 
 -- the lines after a tick
 unfoldable pub steppedLines : (figures seats : List ℕ) → List LineRow → List LineRow
-steppedLines figures seats ls = eachBelow noLine (λ q l. stepped figures seats q l) 16 ls
+steppedLines figures seats ls = eachBelow noLine (λ q l. stepped figures seats q l) mostResources ls
 
 -- and the state
 abbrev pub tickedBy : (figures keys seats : List ℕ) → State → State
@@ -228,11 +243,11 @@ tickedBy figures keys seats s =
 
 -- the resources cut
 unfoldable pub cutWord : List LineRow → ℕ
-cutWord ls = wordBelow 16 (λ q. cutsHolder (getD ls q noLine))
+cutWord ls = wordBelow mostResources (λ q. cutsHolder (getD ls q noLine))
 
 -- those of them with a new grant
 unfoldable pub grantWord : List LineRow → List LineRow → ℕ
-grantWord before after = wordBelow 16 (λ q. cutsHolder (getD before q noLine) && ltb 0 (getD after q noLine .queued))
+grantWord before after = wordBelow mostResources (λ q. cutsHolder (getD before q noLine) && ltb 0 (getD after q noLine .queued))
 
 -- ── what the functions give ──
 
@@ -240,8 +255,8 @@ grantWord before after = wordBelow 16 (λ q. cutsHolder (getD before q noLine) &
 pub record AheadOf (figures seats : List ℕ) (q k : ℕ) (r : Ahead) : Type 0 where
   pub counted : r .count ≡ taken seats q k
   pub held : r .holds ≡ takenHolds figures seats q k
-  pub few : r .count ≤ 64
-  pub small : r .holds ≤ 4194240
+  pub few : r .count ≤ mostTasks
+  pub small : r .holds ≤ mostTasks * 65535
 
 -- the lines after a tick, and what it tells of them
 pub record SteppedOf (figures seats : List ℕ) (ls : List LineRow) (r : Stepped) : Type 0 where

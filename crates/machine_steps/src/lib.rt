@@ -14,6 +14,13 @@ ghost use Rattle.machine_state.specs.Inner.{SeatSized, Sized};
 ghost use Rattle.machine_steps.specs.Inner.{pushed, joinedBy, fallen, lowered, holdOf, begun, passed, stepped, leftBy};
 ghost use Rattle.machine_steps.specs.Inner.{QueueOf, PlaceTaken, Joining, Lowering, Beginning, Passing, Stepping, Leaving, AllRunning};
 ghost use Rattle.machine_steps.specs.Inner.{AheadOf, SteppedOf, TickedOf};
+ghost use Rattle.sizes.specs.Sizes.{mostProcessors, mostResources};
+
+// The queues of all processors for all resources.
+const QUEUES: usize = sizes::RESOURCES * sizes::PROCESSORS;
+
+// A mark for each, and one more for none.
+const MARKS: usize = QUEUES + 1;
 
 // The tasks ahead in a queue: how many, and the sum of their hold times.
 pub struct Ahead {
@@ -24,8 +31,8 @@ pub struct Ahead {
 // What a tick makes of the lines: they after it, a mark for each queue that loses its first, the resources cut, and those of them
 // with a new grant.
 struct Stepped {
-    lines: [LineRow; 16],
-    marks: [u8; 129],
+    lines: [LineRow; sizes::RESOURCES],
+    marks: [u8; MARKS],
     cuts: u16,
     grants: u16,
 }
@@ -42,10 +49,10 @@ pub fn ahead_of(figures: &[u16], seats: &[u8], q: usize, k: u8) -> Ahead
     requires { ⌜ QueueOf (now figures) (now seats) q k ⌝ }
     ensures { λ r. ⌜ AheadOf (now (figures .entry)) (now (seats .entry)) q k r ⌝ }
 {
-    let base = (q * 8 + folds::wide(k)) * 64;
+    let base = (q * sizes::PROCESSORS + folds::wide(k)) * sizes::TASKS;
     let mut sum = 0u32;
     let mut j = 0;
-    while j < 64 {
+    while j < sizes::TASKS {
         let sits = folds::wide(seats[base + j]);
         if sits == 0 {
             return Ahead {
@@ -57,15 +64,15 @@ pub fn ahead_of(figures: &[u16], seats: &[u8], q: usize, k: u8) -> Ahead
         j += 1;
     }
     Ahead {
-        count: 64,
+        count: sizes::TASKS as u8,
         holds: sum,
     }
 }
 
 // The line with processor k at its tail, which begins where nobody was queued.
 fn push(line: LineRow, k: u8, hold: u16, budget: u16) -> LineRow
-    requires { ⌜ line .queued < 8 ⌝ }
-    ensures { λ r. ⌜ (r ≡ pushed line k hold budget) × (length (line .queue) ≡ 8) ⌝ }
+    requires { ⌜ line .queued < mostProcessors ⌝ }
+    ensures { λ r. ⌜ (r ≡ pushed line k hold budget) × (length (line .queue) ≡ mostProcessors) ⌝ }
 {
     let mut queue = line.queue;
     if line.queued == 0 {
@@ -117,15 +124,15 @@ fn fall(s: Standing, on: bool) -> Standing
 }
 
 // The rows of the tasks once the queues that `ended` marks lost their first.
-fn lower(tasks: [Standing; 64], keys: &[u16], ended: &[u8]) -> [Standing; 64]
+fn lower(tasks: [Standing; sizes::TASKS], keys: &[u16], ended: &[u8]) -> [Standing; sizes::TASKS]
     requires { ⌜ Lowering (now keys) (now ended) ⌝ }
     ensures { λ r. ⌜ r ≡ lowered (now (keys .entry)) (now (ended .entry)) tasks ⌝ }
 {
     let mut next = tasks;
     let mut u = 0;
-    while u < 64 {
+    while u < sizes::TASKS {
         let s = next[u];
-        let queue = (keys[u] / 64) as usize;
+        let queue = (keys[u] / sizes::TASKS as u16) as usize;
         let on = ended[queue] == 1;
         let after = fall(s, on);
         next[u] = after;
@@ -139,12 +146,19 @@ fn hold_of(figures: &[u16], seats: &[u8], q: usize, k: u8, j: usize) -> u16
     requires { ⌜ PlaceTaken (now figures) (now seats) q k j ⌝ }
     ensures { λ r. ⌜ r ≡ holdOf (now (figures .entry)) (now (seats .entry)) q k j ⌝ }
 {
-    let sits = folds::wide(seats[(q * 8 + folds::wide(k)) * 64 + j]);
+    let sits = folds::wide(seats[(q * sizes::PROCESSORS + folds::wide(k)) * sizes::TASKS + j]);
     analysis_figures::hold_at(figures, sits - 1, q)
 }
 
 // The head of a queue of c begins, once the first task of processor `gone` left.
-fn begin(queue: [u8; 8], c: u8, gone: u8, figures: &[u16], seats: &[u8], q: usize) -> LineRow
+fn begin(
+    queue: [u8; sizes::PROCESSORS],
+    c: u8,
+    gone: u8,
+    figures: &[u16],
+    seats: &[u8],
+    q: usize,
+) -> LineRow
     requires { ⌜ Beginning (now figures) (now seats) q gone queue c ⌝ }
     ensures { λ r. ⌜ r ≡ begun (now (figures .entry)) (now (seats .entry)) q gone queue c ⌝ }
 {
@@ -173,8 +187,8 @@ fn pass(line: LineRow, figures: &[u16], seats: &[u8], q: usize) -> LineRow
 {
     let l = line.queue;
     let head = l[0];
-    let next = seats[(q * 8 + folds::wide(head)) * 64 + 1];
-    let mut queue = [l[1], l[2], l[3], l[4], l[5], l[6], l[7], 255];
+    let next = seats[(q * sizes::PROCESSORS + folds::wide(head)) * sizes::TASKS + 1];
+    let mut queue = [l[1], l[2], l[3], l[4], l[5], l[6], l[7], sizes::ABSENT];
     if next == 0 {
         return begin(queue, line.queued - 1, head, figures, seats, q);
     }
@@ -198,8 +212,8 @@ pub fn leave(mut state: State, figures: &[u16], keys: &[u16], seats: &[u8], q: u
 {
     let line = state.lines[q];
     let queue = line.queue;
-    let mut marks = [0u8; 129];
-    marks[q * 8 + folds::wide(queue[0])] = 1;
+    let mut marks = [0u8; MARKS];
+    marks[q * sizes::PROCESSORS + folds::wide(queue[0])] = 1;
     let rows = state.tasks;
     let tasks = lower(rows, keys, &marks);
     let after = pass(line, figures, seats, q);
@@ -238,7 +252,7 @@ fn cuts_holder(line: LineRow) -> bool
 
 // 2 to the power of q where `on`, else 0.
 fn bit(on: bool, q: usize) -> u16
-    requires { ⌜ q < 16 ⌝ }
+    requires { ⌜ q < mostResources ⌝ }
     ensures { λ r. ⌜ r ≡ bitOf on q ⌝ }
 {
     if on {
@@ -248,16 +262,16 @@ fn bit(on: bool, q: usize) -> u16
 }
 
 // The lines after a tick, in one pass with what the tick tells of them.
-fn step_lines(lines: [LineRow; 16], figures: &[u16], seats: &[u8]) -> Stepped
+fn step_lines(lines: [LineRow; sizes::RESOURCES], figures: &[u16], seats: &[u8]) -> Stepped
     requires { ⌜ (SeatSized (now figures) (now seats)) × (AllRunning (now seats) lines) ⌝ }
     ensures { λ r. ⌜ SteppedOf (now (figures .entry)) (now (seats .entry)) lines r ⌝ }
 {
     let mut next = lines;
-    let mut lost = [0u8; 129];
+    let mut lost = [0u8; MARKS];
     let mut cuts = 0u16;
     let mut grants = 0u16;
     let mut q = 0;
-    while q < 16 {
+    while q < sizes::RESOURCES {
         let line = next[q];
         let queue = line.queue;
         let on = cuts_holder(line);
@@ -266,10 +280,10 @@ fn step_lines(lines: [LineRow; 16], figures: &[u16], seats: &[u8]) -> Stepped
         cuts += bit(on, q);
         grants += bit(on & (0 < after.queued), q);
         if on {
-            lost[q * 8 + folds::wide(queue[0])] = 1;
+            lost[q * sizes::PROCESSORS + folds::wide(queue[0])] = 1;
         } else {
-            // 128 is no queue: both arms store once, so that the table is one of stores by key.
-            lost[128] = 0;
+            // Past the last queue: both arms store once, so that the table is one of stores by key.
+            lost[QUEUES] = 0;
         }
         q += 1;
     }

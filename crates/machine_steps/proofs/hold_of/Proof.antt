@@ -5,16 +5,22 @@ use Rattle.machine_steps.proofs.Passing.{seat-read, seat-within}
 use Rattle.machine_steps.proofs.hold_of.Statement.{statement}
 use Rattle.machine_steps.proofs.hold_of.Tie as tie
 
+-- the processor's number is read, and before it nothing
+abbrev core : tie.After-wide2 → tie.After-wide
+core c = c .before .before
+
+abbrev start : tie.After-wide2 → tie.Start
+start c = core c .before .before .before
+
 -- who sits there
-sits : (c : tie.After-wide2) → let a = c .before .before .before .before .before .args in
-    c .wide2 .result ≡ getD (a .seats .now) (seat (a .q) (a .k) (a .j)) 0
+sits : (c : tie.After-wide2) → let a = start c .args in c .wide2 .result ≡ getD (a .seats .now) (seat (a .q) (a .k) (a .j)) 0
 sits c =
-    let a = c .before .before .before .before .before .args in
-    seat-read (a .seats .now) (a .q) (a .k) (a .j) (c .before .before .wide .ensures .same) (c .wide2 .ensures .same)
+    let a = start c .args in
+    seat-read (a .seats .now) (a .q) (a .k) (a .j) (core c .wide .ensures .same) (c .wide2 .ensures .same)
 
 hold-at-requires : tie.Need-hold-at-requires
 hold-at-requires c κs =
-    let p = c .before .before .before .before .before .pre in
+    let p = start c .pre in
     let q = p .queue in
     let low = q .tables .seats-low _ (seat-within (q .resource) (q .core) (p .place)) in
     record { long = q .tables .figures-long; row = omega (arith, sits c, low); resource = q .resource }
@@ -24,5 +30,4 @@ hold-of-spec =
     tie.close
     (tie.spec
     (λ c. search needs) (λ c κs. search needs) (λ c. search needs) (λ c. search needs) (λ c. search needs) (λ c. search needs)
-    (λ c κs. search needs) (λ c. omega (arith, sits c, c .before .before .before .before .before .pre .taken)) hold-at-requires
-    (λ c. rw (c .hold-at .ensures, sits (c .before))))
+    (λ c κs. search needs) (λ c. omega (arith, sits c, start c .pre .taken)) hold-at-requires (λ c. rw (c .hold-at .ensures, sits (c .before))))

@@ -1,14 +1,13 @@
 -- The invariant: the lines below `q` have made their tick, the others are as they were; marks and words tell of those below.
-use Rattle.folds.proofs.Ground.{ℕ, _≤_, _-_, Bool, _&&_, _≡_, refl, sym, ap, _∙_, ⊎-elim, List, ltb, getD, arith}
+use Rattle.folds.proofs.Ground.{ℕ, _≤_, _-_, _≡_, refl, ap, ⊎-elim, List, getD, arith}
 use Rattle.folds.specs.Each.{eachBelow}
-use Rattle.folds.specs.Words.{bitOf, wordBelow}
+use Rattle.folds.specs.Words.{wordBelow}
 use Rattle.folds.proofs.Arrays.{stampedBelow}
-use Rattle.folds.proofs.EachLaws.{each-later, each-step, each-done}
+use Rattle.folds.proofs.EachLaws.{each-step, each-done}
 use Rattle.folds.proofs.WordLaws.{word-step, word-fits, word-done}
-use Rattle.machine_state.specs.declared.LineRow.{LineRow}
-use Rattle.machine_state.specs.Shows.{noLine, slot}
-use Rattle.machine_steps.specs.Inner.{cutsHolder, stepped, steppedLines, cutWord}
-use Rattle.machine_steps.proofs.Marks.{endedBelow, ended-done, newly, grants-done, line-kept, kept-queued, mark-cut, mark-kept, cut-bit, grant-bit}
+use Rattle.machine_steps.proofs.Names.{LineRow, noLine, slot}
+use Rattle.machine_steps.specs.Inner.{cutsHolder, endedBelow, stepped, steppedLines, cutWord}
+use Rattle.machine_steps.proofs.Marks.{ended-done, newly, grants-done, line-kept, kept-queued, mark-cut, mark-kept, cut-bit, grant-bit}
 use Rattle.machine_steps.proofs.step_lines.Statement.{statement}
 use Rattle.machine_steps.proofs.step_lines.Tie as tie
 
@@ -34,6 +33,9 @@ loop-holds c = record { few = omega arith; lines = refl; marks = refl; cut = ref
 abbrev turn : tie.After-cuts-holder Inv-loop μ-loop → tie.In-loop Inv-loop μ-loop
 turn c = c .before .before .before
 
+abbrev asked : tie.After-bit2 Inv-loop μ-loop → tie.After-cuts-holder Inv-loop μ-loop
+asked c = c .before .before .before .before
+
 abbrev start : tie.In-loop Inv-loop μ-loop → tie.Start Inv-loop μ-loop
 start c = c .before .before .before .before
 
@@ -46,24 +48,17 @@ step-requires c κs =
     let p = start t .pre in
     record { tables = p .0; resource = lt; running = λ h. rw e (p .1 (l .q) lt (rw e at h)) }
 
-add-cuts : tie.Need-add-cuts Inv-loop μ-loop
-add-cuts c =
-    let on = c .before .before in
-    let l = turn on .before .loop in
-    record { fits = word-fits _ 16 _ (l .inv .cut) (cut-bit _ _ _ (l .q) (l .inv .lines) (on .cuts-holder .ensures) (c .bit .ensures)) (omega arith) }
-
 add-grants : tie.Need-add-grants Inv-loop μ-loop
 add-grants c =
-    let after = c .before .before .before in
-    let on = after .before in
+    let on = asked c in
     let l = turn on .before .loop in
-    let b = grant-bit _ _ _ (l .q) (l .inv .lines) (on .cuts-holder .ensures) (after .step .ensures) (c .bit2 .ensures) in
+    let b = grant-bit _ _ _ (l .q) (l .inv .lines) (on .cuts-holder .ensures) (c .before .before .before .step .ensures) (c .bit2 .ensures) in
     record { fits = word-fits _ 16 _ (l .inv .granted) b (omega arith) }
 
 array-write-lost : tie.Need-array-write-lost Inv-loop μ-loop
 array-write-lost c =
     let marked = c .before in
-    let on = marked .before .before .before .before .before in
+    let on = asked (marked .before) in
     let t = turn on in
     let l = t .before .loop in
     let e = kept-queued _ _ _ (l .q) (l .inv .lines) (on .cuts-holder .ensures) (marked .if1 .taken) in
@@ -94,7 +89,7 @@ returns c =
     let l = c .before .loop in
     record {
       lines = each-done _ _ 16 _ _ (omega arith) (l .inv .lines);
-      marks = ended-done _ (l .q) (l .inv .marks) (omega arith);
+      marks = ended-done _ (l .q) (omega arith) (l .inv .marks);
       cuts = word-done _ (l .q) _ (omega arith) (l .inv .cut);
       grants = grants-done _ _ _ (l .q) (omega arith) (omega arith) (l .inv .granted);
     }
@@ -104,5 +99,10 @@ step-lines-spec =
     tie.close
     (tie.spec
     Inv-loop μ-loop loop-holds (λ c. omega arith) (λ c. omega arith) (λ c κs. tt) step-requires (λ c. omega arith)
-    (λ c. omega arith) (λ c κs. omega arith) add-cuts (λ c κs. omega arith) add-grants (λ c. omega arith) (λ c. omega arith)
+    (λ c. omega arith) (λ c κs. omega arith)
+    (λ c. let on = c .before .before in
+    let l = turn on .before .loop in
+    let b = cut-bit _ _ _ (l .q) (l .inv .lines) (on .cuts-holder .ensures) (c .bit .ensures) in
+    record { fits = word-fits _ 16 _ (l .inv .cut) b (omega arith) })
+    (λ c κs. omega arith) add-grants (λ c. omega arith) (λ c. omega arith)
     (λ c κs. tt) (λ c. omega arith) array-write-lost (λ c. omega arith) (λ c. omega arith) (λ c. omega arith) loop-again returns)
