@@ -6,7 +6,7 @@ use Rattle.plan_reading.specs.Plan.{Plan, Valid}
 use Rattle.analysis_equations.specs.Sharing.{processorOf, uses, global}
 use Rattle.analysis_equations.specs.HoldTimes.{longestOn, longestOff, interference, holdTime, holdAt, budget}
 use Rattle.analysis_equations.proofs.Laws.{budget-holds, off-high, uses-longest}
-use Rattle.analysis_hold_times.specs.Inner.{cell, Held, Put, Row, Flags, Sits, Tops, rankOf, sharedOn}
+use Rattle.analysis_hold_times.specs.Inner.{cell, Held, RowSet, ResourceRow, Flags, Sits, Tops, rankOf, sharedOn}
 use Rattle.analysis_hold_times.proofs.Rows.{row-same}
 use Rattle.analysis_hold_times.proofs.Walks.{passed, passed-none, passed-own, passed-new, passed-above, passed-other, passed-all, MostBelow, most-none, most-step, most-done, SumBelow, sums-none, sums-step, sums-high}
 use Rattle.analysis_hold_times.proofs.Tops.{shared-high, top-own, top-off}
@@ -34,7 +34,7 @@ module _ (p : Plan) (v : Valid p) (k : ℕ) where
   above-high old x h = sums-high p (longestOff p) k v x (off-high p v) (h .added)
 
   pub held-done : (old : List ℕ) (x : ℕ) (rows above most : List ℕ) → HeldBelow old x rows above most → ((i : ℕ) → i < p .tasks → processorOf p i ≡ k → rankOf p i < x)
-      → (Row (budget p k) most) × Held p k old rows
+      → (ResourceRow (budget p k) most) × Held p k old rows
   held-done old x rows above most h all = (
     row-same _ _ (most-done p (holdAt p) k x all (h .greatest)) (λ q l. sym (budget-holds p k q)),
     record {
@@ -80,13 +80,13 @@ module _ (p : Plan) (v : Valid p) (k : ℕ) where
     pub product-high : (q : ℕ) → q < 16 → getD rows (cell i q) 0 * getD flags q 0 ≤ 1000
     product-high q l = rw (product q l) (shared-high p v i q)
 
-    pub own-row : {own : List ℕ} → Row (λ q. getD rows (cell i q) 0 * getD flags q 0) own → Row (sharedOn p i) own
+    pub own-row : {own : List ℕ} → ResourceRow (λ q. getD rows (cell i q) 0 * getD flags q 0) own → ResourceRow (sharedOn p i) own
     own-row r = row-same _ _ r product
 
-    pub own-high : {own : List ℕ} → Row (sharedOn p i) own → (q : ℕ) → q < 16 → getD own q 0 ≤ 1000
+    pub own-high : {own : List ℕ} → ResourceRow (sharedOn p i) own → (q : ℕ) → q < 16 → getD own q 0 ≤ 1000
     own-high r q l = omega (arith, r .at q l, shared-high p v i q)
 
-    pub own-top : {own : List ℕ} → Row (sharedOn p i) own → (q : ℕ) → q < 16 → getD own q 0 ≤ getD tops i 0
+    pub own-top : {own : List ℕ} → ResourceRow (sharedOn p i) own → (q : ℕ) → q < 16 → getD own q 0 ≤ getD tops i 0
     own-top r q l = omega (arith, r .at q l, top-own p v tops i (n .longest) low q)
 
     -- what those passed add is its interference
@@ -95,7 +95,7 @@ module _ (p : Plan) (v : Valid p) (k : ℕ) where
     above-own q l = h .added .at q l ∙ sum-same (p .tasks) _ _ (λ j lj. ap (λ (b : Bool). cond b (longestOff p j q) 0) (passed-above p k x i s j lj))
 
     -- and so its hold times
-    pub held-row : (own : List ℕ) {held : List ℕ} → Row (sharedOn p i) own → Row (λ q. cond (eqb (getD own q 0) 0) 0 (getD own q 0 + getD above q 0)) held → Row (holdAt p i) held
+    pub held-row : (own : List ℕ) {held : List ℕ} → ResourceRow (sharedOn p i) own → ResourceRow (λ q. cond (eqb (getD own q 0) 0) 0 (getD own q 0 + getD above q 0)) held → ResourceRow (holdAt p i) held
     unfolding holdAt holdTime
     held-row own o r = row-same _ _ r (λ q l. rw (o .at q l, above-own q l) (one q))
       where
@@ -109,13 +109,13 @@ module _ (p : Plan) (v : Valid p) (k : ℕ) where
         one q = pick (global p q) q (longestOn p i q) refl
 
     pub held-step : (own held : List ℕ) {put next-above next-most : List ℕ} {first second : ℕ}
-        → Row (sharedOn p i) own
-        → Row (holdAt p i) held
-        → Put held i rows put
+        → ResourceRow (sharedOn p i) own
+        → ResourceRow (holdAt p i) held
+        → RowSet held i rows put
         → first ≡ getD tops i 0
         → second ≡ getD tops (64 + i) 0
-        → Row (λ q. getD above q 0 + first - (getD own q 0 - second)) next-above
-        → Row (λ q. max (getD most q 0) (getD put (cell i q) 0)) next-most
+        → ResourceRow (λ q. getD above q 0 + first - (getD own q 0 - second)) next-above
+        → ResourceRow (λ q. max (getD most q 0) (getD put (cell i q) 0)) next-most
         → HeldBelow old (x + 1) put next-above next-most
     held-step own held {put} o d r ef es a m =
         record {

@@ -11,7 +11,7 @@ use Rattle.plan_reading.specs.Plan.{Plan, Valid}
 use Rattle.analysis_equations.specs.Sharing.{processorOf, sectionOn, uses, usedOn, global}
 use Rattle.analysis_equations.specs.HoldTimes.{longestOn}
 use Rattle.analysis_equations.proofs.Laws.{used-at, used-out, uses-longest}
-use Rattle.analysis_hold_times.specs.Inner.{cell, Sections, column, Columns, Row, usedTime}
+use Rattle.analysis_hold_times.specs.Inner.{cell, Sections, column, Columns, ResourceRow, usedTime}
 use Rattle.analysis_hold_times.proofs.Rows.{row-zeros, row-same}
 
 -- the longer of two, as a sum
@@ -122,7 +122,7 @@ module _ (p : Plan) (v : Valid p) where
 
   -- how many of the processors below k use each resource
   abbrev pub UsersBelow : ℕ → List ℕ → Type 0
-  UsersBelow k = Row (λ q. countBelow k (λ l. usedOn p l q))
+  UsersBelow k = ResourceRow (λ q. countBelow k (λ l. usedOn p l q))
 
   pub users-none : UsersBelow 0 (replicate 16 0)
   unfolding countBelow
@@ -143,6 +143,6 @@ module _ (p : Plan) (v : Valid p) where
       one n few true e = omega (arith, Tests.leb-true 2 n e)
       one n few false e = omega (arith, Tests.leb-false 2 n e)
 
-  pub users-step : (k : ℕ) (users row : List ℕ) {next : List ℕ} → UsersBelow k users → Row (usedTime p k) row → Row (λ q. getD users q 0 + cond (eqb (getD row q 0) 0) 0 1) next → UsersBelow (k + 1) next
+  pub users-step : (k : ℕ) (users row : List ℕ) {next : List ℕ} → UsersBelow k users → ResourceRow (usedTime p k) row → ResourceRow (λ q. getD users q 0 + cond (eqb (getD row q 0) 0) 0 1) next → UsersBelow (k + 1) next
   users-step k users row u r n =
       row-same _ _ n (λ q l. count-step k (λ l. usedOn p l q) (u .at q l) (rw (r .at q l) (time-used k q)))

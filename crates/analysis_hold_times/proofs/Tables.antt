@@ -9,7 +9,7 @@ use Rattle.analysis_equations.specs.Sharing.{processorOf, sectionOn, uses, used
 use Rattle.analysis_equations.specs.HoldTimes.{longestOn, holdAt, budget, userOn}
 use Rattle.analysis_equations.proofs.Laws.{budget-unused}
 use Rattle.analysis_figures.specs.Figures.{Figures}
-use Rattle.analysis_hold_times.specs.Inner.{cell, Sections, Held, Put, Row}
+use Rattle.analysis_hold_times.specs.Inner.{cell, Sections, Held, RowSet, ResourceRow}
 use Rattle.analysis_hold_times.proofs.Holding.{Begun}
 
 module _ (p : Plan) (v : Valid p) where
@@ -51,8 +51,8 @@ module _ (p : Plan) (v : Valid p) where
       h .at j q (omega (arith, v .tasks)) lq ∙ rw (le-ltb (processorOf p j) k (omega (arith, e)), and-false)
 
   pub table-step : (k : ℕ) (old : List ℕ) {next most put : List ℕ} → k < p .processors → TableBelow k old
-      → (Row (budget p k) most) × Held p k old next
-      → Put most (64 + k) next put
+      → (ResourceRow (budget p k) most) × Held p k old next
+      → RowSet most (64 + k) next put
       → TableBelow (k + 1) put
   table-step k old {next} {most} {put} lk h r b =
       record {

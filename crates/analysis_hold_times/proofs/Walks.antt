@@ -7,7 +7,7 @@ use Rattle.folds.proofs.Ranges.{max-none, max-insert, sum-none, sum-where-bound
 use Rattle.folds.proofs.Arrays.{by-eq}
 use Rattle.plan_reading.specs.Plan.{Plan, Valid}
 use Rattle.analysis_equations.specs.Sharing.{processorOf, priorityOf, higher}
-use Rattle.analysis_hold_times.specs.Inner.{part, Row, rankOf, Sits, Orders}
+use Rattle.analysis_hold_times.specs.Inner.{part, ResourceRow, rankOf, Sits, Orders}
 use Rattle.analysis_hold_times.proofs.Rows.{row-zeros, row-same}
 use Rattle.analysis_hold_times.proofs.Ranks.{rank-order, rank-below, rank-distinct}
 
@@ -58,34 +58,34 @@ module _ (p : Plan) where
   module _ (f : ℕ → ℕ → ℕ) (k : ℕ) where
     -- a row of it
     abbrev pub MostBelow : ℕ → List ℕ → Type 0
-    MostBelow x = Row (λ q. maxBelow (p .tasks) (λ j. cond (passed k x j) (f j q) 0))
+    MostBelow x = ResourceRow (λ q. maxBelow (p .tasks) (λ j. cond (passed k x j) (f j q) 0))
 
     pub most-none : MostBelow 0 (replicate 16 0)
     most-none = row-zeros _ (λ q l. max-none (p .tasks) (passed k 0) (λ j. f j q) (any-none (p .tasks) (passed k 0) (λ j lj. passed-none k j)))
 
-    pub most-step : (v : Valid p) (x i : ℕ) (row : List ℕ) {g : ℕ → ℕ} {next : List ℕ} → Sits p k x i → MostBelow x row → ((q : ℕ) → q < 16 → g q ≡ f i q) → Row (λ q. max (getD row q 0) (g q)) next → MostBelow (x + 1) next
+    pub most-step : (v : Valid p) (x i : ℕ) (row : List ℕ) {g : ℕ → ℕ} {next : List ℕ} → Sits p k x i → MostBelow x row → ((q : ℕ) → q < 16 → g q ≡ f i q) → ResourceRow (λ q. max (getD row q 0) (g q)) next → MostBelow (x + 1) next
     most-step v x i row {g} s m e r =
         row-same _ _ r
         (λ q l. ap₂ max (m .at q l) (e q l) ∙ sym (max-insert (p .tasks) i (passed k (x + 1)) (passed k x) (λ j. f j q) (s .below) (passed-own k x i s) (passed-other k x i s v) (passed-new k x i s)))
 
-    pub most-done : (x : ℕ) {row : List ℕ} → ((i : ℕ) → i < p .tasks → processorOf p i ≡ k → rankOf p i < x) → MostBelow x row → Row (λ q. maxBelow (p .tasks) (λ j. cond (eqb (processorOf p j) k) (f j q) 0)) row
+    pub most-done : (x : ℕ) {row : List ℕ} → ((i : ℕ) → i < p .tasks → processorOf p i ≡ k → rankOf p i < x) → MostBelow x row → ResourceRow (λ q. maxBelow (p .tasks) (λ j. cond (eqb (processorOf p j) k) (f j q) 0)) row
     most-done x h m = row-same _ _ m (λ q l. max-same (p .tasks) _ _ (λ j lj. ap (λ (b : Bool). cond b (f j q) 0) (passed-all k x h j lj)))
 
     -- ── the sum of a figure over the tasks passed ──
 
     -- a row of it
     abbrev pub SumBelow : ℕ → List ℕ → Type 0
-    SumBelow x = Row (λ q. sumBelow (p .tasks) (λ j. cond (passed k x j) (f j q) 0))
+    SumBelow x = ResourceRow (λ q. sumBelow (p .tasks) (λ j. cond (passed k x j) (f j q) 0))
 
     pub sums-none : SumBelow 0 (replicate 16 0)
     sums-none = row-zeros _ (λ q l. sum-none (p .tasks) _ (λ j lj. rw (passed-none k j)))
 
-    pub sums-step : (v : Valid p) (x i : ℕ) (row : List ℕ) {g : ℕ → ℕ} {next : List ℕ} → Sits p k x i → SumBelow x row → ((q : ℕ) → q < 16 → g q ≡ getD row q 0 + f i q) → Row g next → SumBelow (x + 1) next
+    pub sums-step : (v : Valid p) (x i : ℕ) (row : List ℕ) {g : ℕ → ℕ} {next : List ℕ} → Sits p k x i → SumBelow x row → ((q : ℕ) → q < 16 → g q ≡ getD row q 0 + f i q) → ResourceRow g next → SumBelow (x + 1) next
     sums-step v x i row {g} s m e r =
         row-same _ _ r
         (λ q l. e q l ∙ ap (λ (y : ℕ). y + f i q) (m .at q l) ∙ sym (sum-insert (p .tasks) i (passed k (x + 1)) (passed k x) (λ j. f j q) (s .below) (passed-own k x i s) (passed-new k x i s) (passed-other k x i s v)))
 
-    pub sums-done : (x : ℕ) {row : List ℕ} → ((i : ℕ) → i < p .tasks → processorOf p i ≡ k → rankOf p i < x) → SumBelow x row → Row (λ q. sumBelow (p .tasks) (λ j. cond (eqb (processorOf p j) k) (f j q) 0)) row
+    pub sums-done : (x : ℕ) {row : List ℕ} → ((i : ℕ) → i < p .tasks → processorOf p i ≡ k → rankOf p i < x) → SumBelow x row → ResourceRow (λ q. sumBelow (p .tasks) (λ j. cond (eqb (processorOf p j) k) (f j q) 0)) row
     sums-done x h m = row-same _ _ m (λ q l. sum-same (p .tasks) _ _ (λ j lj. ap (λ (b : Bool). cond b (f j q) 0) (passed-all k x h j lj)))
 
     pub sums-high : (v : Valid p) (x : ℕ) {row : List ℕ} → ((j q : ℕ) → f j q ≤ 1000) → SumBelow x row → (q : ℕ) → q < 16 → getD row q 0 ≤ 64000

@@ -2,7 +2,7 @@
 use Rattle.folds.proofs.Ground.{ℕ, _-_, _≤_, _≡_, refl, sym, _∙_, List, arith, needs}
 use Rattle.plan_reading.specs.Plan.{planOf}
 use Rattle.plan_reading.proofs.Laws.{valid-plan}
-use Rattle.analysis_hold_times.specs.Inner.{Row, Walk, sharedOn}
+use Rattle.analysis_hold_times.specs.Inner.{ResourceRow, Walk, sharedOn}
 use Rattle.analysis_hold_times.proofs.Walks.{rank-tasks, next-sits, last-sits}
 use Rattle.analysis_hold_times.proofs.Holding.{HeldBelow, Next, low, held-none, held-done, above-high, product-high, own-row, own-high, own-top, held-row, held-step}
 use Rattle.analysis_hold_times.proofs.Tops.{top-high}
@@ -60,7 +60,7 @@ Own = tie.After-shared-row Inv-loop μ-loop
 abbrev seat : Own → Seated
 seat c = c .before .before
 
-own : (c : Own) → Row (sharedOn (planOf (seat c .before .before .before .before .before .before .before .before .before .before .before .args .file .now)) (seat c .before .wide2 .result - 1)) (c .shared-row .result)
+own : (c : Own) → ResourceRow (sharedOn (planOf (seat c .before .before .before .before .before .before .before .before .before .before .before .args .file .now)) (seat c .before .wide2 .result - 1)) (c .shared-row .result)
 own c = own-row _ _ _ (next (seat c)) (c .shared-row .ensures)
 
 held-row-requires : tie.Need-held-row-requires Inv-loop μ-loop
