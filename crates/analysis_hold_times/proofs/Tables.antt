@@ -8,9 +8,20 @@ use Rattle.plan_reading.specs.Plan.{Plan, Valid}
 use Rattle.analysis_equations.specs.Sharing.{processorOf, sectionOn, uses, usedOn}
 use Rattle.analysis_equations.specs.HoldTimes.{longestOn, holdAt, budget, userOn}
 use Rattle.analysis_equations.proofs.Laws.{budget-unused}
-use Rattle.analysis_figures.specs.Figures.{Figures}
+use Rattle.analysis_figures.specs.Figures.{figureCount, Figures}
 use Rattle.analysis_hold_times.specs.Inner.{cell, Sections, Held, RowSet, ResourceRow}
-use Rattle.analysis_hold_times.proofs.Holding.{Begun}
+
+module _ (p : Plan) where
+  -- task j is one of a processor below k
+  abbrev done : ℕ → ℕ → Bool
+  done k j = ltb j (p .tasks) && ltb (processorOf p j) k
+
+  -- the table once the processors below k are passed
+  pub record TableBelow (k : ℕ) (t : List ℕ) : Type 0 where
+    pub long : length t ≡ figureCount
+    pub at : (j q : ℕ) → j < 64 → q < 16 → getD t (cell j q) 0 ≡ cond (done k j) (holdAt p j q) (longestOn p j q)
+    pub shares : (l q : ℕ) → l < k → q < 16 → getD t (cell (64 + l) q) 0 ≡ budget p l q
+    pub rest : (l q : ℕ) → k ≤ l → l < 8 → q < 16 → getD t (cell (64 + l) q) 0 ≡ 0
 
 module _ (p : Plan) (v : Valid p) where
   -- past the tasks nothing is used
@@ -25,18 +36,7 @@ module _ (p : Plan) (v : Valid p) where
   unfolding holdAt uses
   past-tasks j q l = past-longest j q l ∙ sym (rw (past-idle j q l, and-false))
 
-  -- task j is one of a processor below k
-  abbrev done : ℕ → ℕ → Bool
-  done k j = ltb j (p .tasks) && ltb (processorOf p j) k
-
-  -- the table once the processors below k are passed
-  pub record TableBelow (k : ℕ) (t : List ℕ) : Type 0 where
-    pub long : length t ≡ 1152
-    pub at : (j q : ℕ) → j < 64 → q < 16 → getD t (cell j q) 0 ≡ cond (done k j) (holdAt p j q) (longestOn p j q)
-    pub shares : (l q : ℕ) → l < k → q < 16 → getD t (cell (64 + l) q) 0 ≡ budget p l q
-    pub rest : (l q : ℕ) → k ≤ l → l < 8 → q < 16 → getD t (cell (64 + l) q) 0 ≡ 0
-
-  pub table-none : {t : List ℕ} → Sections p t → TableBelow 0 t
+  pub table-none : {t : List ℕ} → Sections p t → TableBelow p 0 t
   table-none c =
       record {
         long = c .long;
@@ -46,14 +46,15 @@ module _ (p : Plan) (v : Valid p) where
       }
 
   -- the rows of processor k begin with its longest sections
-  pub table-begun : (k : ℕ) {t : List ℕ} → TableBelow k t → Begun p v k t
+  pub table-begun : (k : ℕ) {t : List ℕ} → TableBelow p k t
+      → (j q : ℕ) → j < p .tasks → q < 16 → processorOf p j ≡ k → getD t (cell j q) 0 ≡ longestOn p j q
   table-begun k h j q lj lq e =
       h .at j q (omega (arith, v .tasks)) lq ∙ rw (le-ltb (processorOf p j) k (omega (arith, e)), and-false)
 
-  pub table-step : (k : ℕ) (old : List ℕ) {next most put : List ℕ} → k < p .processors → TableBelow k old
+  pub table-step : (k : ℕ) (old : List ℕ) {next most put : List ℕ} → k < p .processors → TableBelow p k old
       → (ResourceRow (budget p k) most) × Held p k old next
       → RowSet most (64 + k) next put
-      → TableBelow (k + 1) put
+      → TableBelow p (k + 1) put
   table-step k old {next} {most} {put} lk h r b =
       record {
         long = b .long ∙ r .1 .long;
@@ -94,7 +95,7 @@ module _ (p : Plan) (v : Valid p) where
   past-processors k q l =
       sym (budget-unused p k q (any-none (p .tasks) (userOn p k q) (λ i li. rw (ne-eqb (processorOf p i) k (λ e. omega (arith, v .task-fits i li .processor))))))
 
-  pub table-done : (k : ℕ) {t : List ℕ} → k ≡ p .processors → TableBelow k t → Figures p t
+  pub table-done : (k : ℕ) {t : List ℕ} → k ≡ p .processors → TableBelow p k t → Figures p t
   table-done k {t} e h =
       record {
         long = h .long;
