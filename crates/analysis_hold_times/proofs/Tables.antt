@@ -51,11 +51,11 @@ module _ (p : Plan) (v : Valid p) where
   table-begun k h j q lj lq e =
       h .at j q (omega (arith, v .tasks)) lq ∙ rw (le-ltb (processorOf p j) k (omega (arith, e)), and-false)
 
-  pub table-step : (k : ℕ) (old : List ℕ) {next most put : List ℕ} → k < p .processors → TableBelow p k old
+  pub table-step : (k : ℕ) (old : List ℕ) {next most put : List ℕ} → TableBelow p k old
       → (ResourceRow (budget p k) most) × Held p k old next
       → RowSet most (64 + k) next put
       → TableBelow p (k + 1) put
-  table-step k old {next} {most} {put} lk h r b =
+  table-step k old {next} {most} {put} h r b =
       record {
         long = b .long ∙ r .1 .long;
         at = λ j q lj lq. other j q lq (λ e. omega arith) ∙ go j q lj lq (ltb j (p .tasks)) refl;

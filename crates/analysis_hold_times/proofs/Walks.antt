@@ -13,20 +13,21 @@ use Rattle.analysis_hold_times.proofs.Rows.{row-zeros, row-same}
 use Rattle.analysis_hold_times.proofs.Ranks.{rank-order, rank-below, rank-distinct}
 
 -- what stands at x in the order of processor k, for x below the number of tasks
-module _ {f o : List ℕ} (k x n : ℕ) (plan : Checked f) (h : Orders (planOf f) o) (lk : k < 8) (all : n ≡ planOf f .tasks) where
-  pub order-there : x < n → part k x < length o
-  order-there lx = omega (arith, valid-plan f plan .tasks, h .long)
+module _ {f o : List ℕ} (k x : ℕ) (plan : Checked f) (h : Orders (planOf f) o) (lk : k < 8) where
+  pub order-there : x < planOf f .tasks → part k x < length o
+  order-there l = omega (arith, valid-plan f plan .tasks, h .long)
 
-  pub next-sits : {w : ℕ} → x < n → w ≡ getD o (part k x) 0 → (w ≡ 0 → ⊥) → Sits (planOf f) k x (w - 1)
-  next-sits lx e d = rw e (h .task k x lk (omega (arith, valid-plan f plan .tasks)) (omega (arith, d)))
+  module _ {w : ℕ} (l : x < planOf f .tasks) (e : w ≡ getD o (part k x) 0) where
+    pub next-sits : (w ≡ 0 → ⊥) → Sits (planOf f) k x (w - 1)
+    next-sits d = rw e (h .task k x lk (omega (arith, valid-plan f plan .tasks)) (omega (arith, d)))
 
-  pub last-sits : {w : ℕ} → x < n → w ≡ getD o (part k x) 0 → w ≡ 0 → AllAbove (planOf f) k x
-  last-sits lx e z = h .last k x lk (omega (arith, valid-plan f plan .tasks)) (sym e ∙ z)
+    pub last-sits : w ≡ 0 → AllAbove (planOf f) k x
+    last-sits z = h .last k x lk (omega (arith, valid-plan f plan .tasks)) (sym e ∙ z)
 
-  -- no task has as many above it as there are tasks
-  pub all-above : n ≤ x → AllAbove (planOf f) k x
-  all-above ge i l own =
-      omega (arith, rank-below (planOf f) i l, count-bound (planOf f .tasks) (λ j. eqb (processorOf (planOf f) j) (processorOf (planOf f) i)))
+-- no task has as many above it as there are tasks
+pub all-above : (p : Plan) (k x : ℕ) → p .tasks ≤ x → AllAbove p k x
+all-above p k x ge i l own =
+    omega (arith, rank-below p i l, count-bound (p .tasks) (λ j. eqb (processorOf p j) (processorOf p i)))
 
 module _ (p : Plan) (k : ℕ) where
   -- the tasks of processor k with fewer than x above them

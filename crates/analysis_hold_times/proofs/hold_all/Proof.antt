@@ -1,5 +1,5 @@
 -- The invariant: the processors passed have their hold times and budgets in the tables.
-use Rattle.folds.proofs.Ground.{ℕ, _-_, _<_, _≤_, _≡_, sym, _∙_, List, arith, needs}
+use Rattle.folds.proofs.Ground.{ℕ, _-_, _≤_, sym, _∙_, List, arith, needs}
 use Rattle.plan_reading.specs.Plan.{planOf}
 use Rattle.plan_reading.proofs.Laws.{valid-plan}
 use Rattle.analysis_hold_times.specs.Inner.{Ordered, Tops, Flags}
@@ -9,7 +9,6 @@ use Rattle.analysis_hold_times.proofs.hold_all.Tie as tie
 
 record Passed (f old order tops flags : List ℕ) (m k : ℕ) (figures : List ℕ) : Type 0 where
   within : k ≤ m
-  all : m ≡ planOf f .processors
   known : Ordered f old order
   longest : Tops (planOf f) 64 tops
   shared : Flags (planOf f) flags
@@ -23,17 +22,10 @@ abbrev μ-loop : tie.MeasureT-loop
 
 loop-holds : tie.Need-loop-holds Inv-loop μ-loop
 loop-holds c =
-    let counted = c .before .before in
-    let known = counted .before in
-    let h = known .before .before .before .before .pre in
-    record {
-      within = omega arith;
-      all = c .before .wide .ensures .same ∙ counted .counts .ensures .processors;
-      known = h .known;
-      longest = h .longest;
-      shared = c .shared-flags .ensures;
-      table = table-none _ (valid-plan _ (h .known .plan)) (h .known .sections);
-    }
+    let read = c .before .before .before in
+    let h = read .before .before .before .before .pre in
+    let none = table-none _ (valid-plan _ (h .known .plan)) (h .known .sections) in
+    record { within = omega arith; known = h .known; longest = h .longest; shared = c .shared-flags .ensures; table = none }
 
 -- ── a turn: the hold times of a processor, and then its budgets ──
 abbrev turn : tie.After-hold-rows Inv-loop μ-loop → tie.At-loop Inv-loop μ-loop
@@ -52,16 +44,10 @@ hold-rows-requires c κs =
       tasks = i .known .tasks;
       longest = i .longest;
       shared = i .shared;
-      processor = omega (arith, v .processors, i .all);
+      processor = omega (arith, v .processors);
       long = i .table .long;
       begun = table-begun _ v (l .k) (i .table);
     }
-
-set-row-requires : tie.Need-set-row-requires Inv-loop μ-loop
-set-row-requires c κs =
-    let i = turn (held c) .loop .inv in
-    let long = held c .hold-rows .ensures .1 .long in
-    (omega (arith, long, valid-plan _ (i .known .plan) .processors, i .all), long)
 
 loop-again : tie.Need-loop-again Inv-loop μ-loop
 loop-again c =
@@ -69,27 +55,14 @@ loop-again c =
     let h = held (set .before) in
     let l = turn h .loop in
     let i = l .inv in
-    let v = valid-plan _ (i .known .plan) in
-    record {
-      within = omega arith;
-      all = i .all;
-      known = i .known;
-      longest = i .longest;
-      shared = i .shared;
-      table = table-step _ v (l .k) _ (omega (arith, i .all)) (i .table) (h .hold-rows .ensures) (set .set-row .ensures);
-    }
-
-returns : tie.Need-returns Inv-loop μ-loop
-returns c =
-    let l = c .before .loop in
-    let i = l .inv in
-    let h = i .known .plan in
-    record { plan = h; figures = table-done _ (valid-plan _ h) (l .k) (omega (arith, i .all)) (i .table) }
+    let more = table-step _ (valid-plan _ (i .known .plan)) (l .k) _ (i .table) (h .hold-rows .ensures) (set .set-row .ensures) in
+    record { within = omega arith; known = i .known; longest = i .longest; shared = i .shared; table = more }
 
 pub hold-all-spec : {M : Type 1} → statement M
 hold-all-spec =
     tie.close
     (tie.spec
-    Inv-loop μ-loop (λ c κs. search needs) (λ c κs. search needs) (λ c κs. search needs) loop-holds hold-rows-requires
-    (λ c. omega arith) set-row-requires (λ c. omega arith) (λ c. omega arith) loop-again
-    (λ c. let i = c .before .loop .inv in i .table .long ∙ sym (i .known .sections .long)) returns)
+    Inv-loop μ-loop (λ c κs. search needs) (λ c κs. search needs) (λ c κs. search needs) loop-holds hold-rows-requires (λ c. omega arith)
+    (λ c κs. let long = held c .hold-rows .ensures .1 .long in (omega (arith, long, valid-plan _ (turn (held c) .loop .inv .known .plan) .processors), long))
+    (λ c. omega arith) (λ c. omega arith) loop-again (λ c. let i = c .before .loop .inv in i .table .long ∙ sym (i .known .sections .long))
+    (λ c. let l = c .before .loop in let h = l .inv .known .plan in record { plan = h; figures = table-done _ (valid-plan _ h) (l .k) (omega arith) (l .inv .table) }))

@@ -1,6 +1,7 @@
 -- The invariant: the tasks passed have their hold times in the rows, and the sums and maxima are over them.
-use Rattle.folds.proofs.Ground.{ℕ, _-_, _<_, _≤_, _≡_, sym, _∙_, List, arith, needs}
+use Rattle.folds.proofs.Ground.{ℕ, _-_, _<_, _≤_, sym, _∙_, List, arith, needs}
 use Rattle.plan_reading.specs.Plan.{planOf}
+use Rattle.plan_reading.proofs.Laws.{valid-plan}
 use Rattle.analysis_hold_times.specs.Inner.{Walk}
 use Rattle.analysis_hold_times.proofs.Walks.{order-there, next-sits, last-sits, all-above}
 use Rattle.analysis_hold_times.proofs.Holding.{HeldBelow, Next, low, first-high, held-none, held-done, above-high, product-high, own-high, own-top, held-step}
@@ -9,7 +10,6 @@ use Rattle.analysis_hold_times.proofs.hold_rows.Tie as tie
 
 record Passed (f old order tops flags : List ℕ) (k n x : ℕ) (rows above most : List ℕ) : Type 0 where
   within : x ≤ n
-  all : n ≡ planOf f .tasks
   walk : Walk f old order tops flags k
   held : HeldBelow (planOf f) k old x rows above most
 
@@ -23,27 +23,14 @@ loop-holds : tie.Need-loop-holds Inv-loop μ-loop
 loop-holds c =
     let known = c .before .before in
     let w = known .before .before .before .before .pre in
-    record { within = omega arith; all = c .wide .ensures .same ∙ c .before .counts .ensures .tasks; walk = w; held = held-none _ _ _ (w .long) }
+    record { within = omega arith; walk = w; held = held-none _ _ _ (w .long) }
 
-order-read : tie.Need-shared-slice-read-wide Inv-loop μ-loop
-order-read c =
-    let l = c .before .before .loop in
-    let w = l .inv .walk in
-    order-there _ (l .x) _ (w .plan) (w .tasks) (w .processor) (l .inv .all) (omega arith)
-
--- ── where the order ends ──
 returns : tie.Need-returns Inv-loop μ-loop
 returns c =
     let l = c .before .before .before .before .loop in
     let w = l .inv .walk in
-    held-done _ _ _ (l .inv .held)
-    (last-sits _ (l .x) _ (w .plan) (w .tasks) (w .processor) (l .inv .all) (omega arith) (c .before .wide2 .ensures .same) (c .if1 .taken))
-
-returns-2 : tie.Need-returns-2 Inv-loop μ-loop
-returns-2 c =
-    let l = c .before .loop in
-    let w = l .inv .walk in
-    held-done _ _ _ (l .inv .held) (all-above _ (l .x) _ (w .plan) (w .tasks) (w .processor) (l .inv .all) (omega arith))
+    let last = last-sits _ (l .x) (w .plan) (w .tasks) (w .processor) (omega arith) (c .before .wide2 .ensures .same) (c .if1 .taken) in
+    held-done _ _ _ (l .inv .held) last
 
 -- ── where a task is next ──
 abbrev turn : tie.Else1 Inv-loop μ-loop → tie.At-loop Inv-loop μ-loop
@@ -53,10 +40,8 @@ next : (c : tie.Else1 Inv-loop μ-loop) → let l = turn c .loop in Next (l .inv
 next c =
     let l = turn c .loop in
     let w = l .inv .walk in
-    record {
-      held = l .inv .held;
-      sits = next-sits _ (l .x) _ (w .plan) (w .tasks) (w .processor) (l .inv .all) (omega arith) (c .before .wide2 .ensures .same) (c .if1 .left);
-    }
+    let sits = next-sits _ (l .x) (w .plan) (w .tasks) (w .processor) (omega arith) (c .before .wide2 .ensures .same) (c .if1 .left) in
+    record { held = l .inv .held; sits = sits }
 
 -- its own sections are read, its hold times are put down, and the greatest are known
 abbrev own : tie.After-set-row Inv-loop μ-loop → tie.After-shared-row Inv-loop μ-loop
@@ -86,16 +71,10 @@ above-row-requires c κs =
 loop-again : tie.Need-loop-again Inv-loop μ-loop
 loop-again c =
     let longer = c .before .before .before in
-    let i = turn (seat longer) .loop .inv in
-    record {
-      within = omega (arith, seat longer .before .before .before .loop-test .taken);
-      all = i .all;
-      walk = i .walk;
-      held =
-          let set = put longer in
-          held-step (next (seat longer)) (own set .shared-row .ensures) (set .before .held-row .ensures) (set .set-row .ensures)
-          (c .above-row .ensures) (longer .longer-row .ensures);
-    }
+    let set = put longer in
+    let test = seat longer .before .before .before .loop-test .taken in
+    let more = held-step (next (seat longer)) (own set .shared-row .ensures) (set .before .held-row .ensures) (set .set-row .ensures) in
+    record { within = omega (arith, test); walk = turn (seat longer) .loop .inv .walk; held = more (c .above-row .ensures) (longer .longer-row .ensures) }
 
 pub hold-rows-spec : {M : Type 1} → statement M
 hold-rows-spec =
@@ -103,8 +82,9 @@ hold-rows-spec =
     (tie.spec
     Inv-loop μ-loop (λ c κs. c .before .before .before .before .pre .plan) (λ c κs. search needs) loop-holds
     (λ c. omega (arith, c .before .loop .inv .walk .processor))
-    (λ c. let l = c .before .loop in let w = l .inv .walk in omega (arith, order-there _ (l .x) _ (w .plan) (w .tasks) (w .processor) (l .inv .all) (omega arith), w .tasks .long))
-    order-read (λ c κs. search needs)
+    (λ c. omega (arith, c .before .loop .inv .walk .processor, valid-plan _ (c .before .loop .inv .walk .plan) .tasks))
+    (λ c. let l = c .before .before .loop in let w = l .inv .walk in order-there _ (l .x) (w .plan) (w .tasks) (w .processor) (omega arith))
+    (λ c κs. search needs)
     (λ c. let i = c .before .before .before .before .loop .inv in i .held .long ∙ sym (i .walk .long)) returns (λ c. omega arith)
     (λ c κs. let n = next (c .before) in record { long = n .held .long; task = low n; low = product-high n })
     (λ c κs. let own = c .before in let n = next (own .before .before) in λ q l. (own-high n (own .shared-row .ensures) q l, above-high n q l))
@@ -113,4 +93,5 @@ hold-rows-spec =
     (λ c. omega (arith, low-seat c)) (λ c. omega (arith, low-seat (c .before), next (seat (c .before)) .held .long))
     (λ c. omega (arith, low-seat (c .before))) (λ c. omega (arith, low-seat (c .before)))
     (λ c. omega (arith, low-seat (c .before .before))) above-row-requires (λ c. omega arith) (λ c. omega arith) loop-again
-    (λ c. let i = c .before .loop .inv in i .held .long ∙ sym (i .walk .long)) returns-2)
+    (λ c. let i = c .before .loop .inv in i .held .long ∙ sym (i .walk .long))
+    (λ c. let l = c .before .loop in held-done _ _ _ (l .inv .held) (all-above _ _ (l .x) (omega arith))))
