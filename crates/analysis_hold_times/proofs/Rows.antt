@@ -1,5 +1,6 @@
 -- Rows and tables that a loop over the resources makes.
-use Rattle.folds.proofs.Ground.{ℕ, zero, suc, _+_, _*_, _-_, _<_, _≤_, Bool, true, false, cond, _≡_, refl, _∙_, ⊎-elim, List, eqb, length, getD, set, replicate, length-replicate, getD-replicate, getD-set-same, getD-set-other, not-suc-le-zero, eq-or-lt-of-le, le-of-suc-le-suc, arith}
+use Rattle.folds.proofs.Ground.{ℕ, zero, suc, _+_, _*_, _<_, _≤_, Bool, true, false, cond, _≡_, refl, _∙_, ⊎-elim, List, eqb, ltb, length, getD, set, replicate, length-replicate, getD-replicate, getD-set-same, getD-set-other, not-suc-le-zero, eq-or-lt-of-le, le-of-suc-le-suc, arith, ltb-true, lt-ltb}
+use Rattle.folds.proofs.Tests.{same-test}
 use Rattle.folds.specs.Bytes.{placedBelow}
 use Rattle.folds.proofs.Arrays.{by-eq, placed-length, placed-at, placed-step, stampedBelow, stamped-length}
 use Rattle.plan_reading.specs.Plan.{Plan}
@@ -7,19 +8,17 @@ use Rattle.analysis_equations.specs.HoldTimes.{holdAt, budget}
 use Rattle.analysis_figures.specs.Figures.{holdCell, budgetCell, Figures}
 use Rattle.analysis_hold_times.specs.Inner.{cell, ResourceRow, RowSet}
 
+-- the tests of a number below k + 1 and below k agree for all but k
+pub ltb-more : (x k : ℕ) → (x ≡ k → ⊥) → ltb x (k + 1) ≡ ltb x k
+ltb-more x k d =
+    same-test (ltb x (k + 1)) (ltb x k)
+    (λ a. lt-ltb x k (omega (arith, ltb-true x (k + 1) a, d)))
+    (λ a. lt-ltb x (k + 1) (omega (arith, ltb-true x k a)))
+
 -- what a choice is at most
-pick-le : (b : Bool) {x y m : ℕ} → x ≤ m → y ≤ m → cond b x y ≤ m
-pick-le true p q = p
-pick-le false p q = q
-
-pub chosen-le : (b : Bool) {r x y m : ℕ} → r ≡ cond b x y → x ≤ m → y ≤ m → r ≤ m
-chosen-le b e p q = rw e (pick-le b p q)
-
-pub plus-same : (u : ℕ) {x y : ℕ} → x ≡ y → u + x ≡ u + y
-plus-same u e = rw e
-
-pub minus-same : (u : ℕ) {x y : ℕ} → x ≡ y → u - x ≡ u - y
-minus-same u e = rw e
+pub pick-le : (b : Bool) (x y m : ℕ) → x ≤ m → y ≤ m → cond b x y ≤ m
+pick-le true x y m p q = p
+pick-le false x y m p q = q
 
 -- ── a row made cell by cell ──
 

@@ -1,7 +1,7 @@
 -- The table of hold times and budgets, processor by processor.
 use Rattle.folds.proofs.Ground.{ℕ, _+_, _<_, _≤_, Bool, true, false, cond, _&&_, and-false, _≡_, refl, sym, ap, _∙_, List, ltb, length, getD, arith, ltb-true, ltb-false, lt-ltb, le-ltb, eq-eqb, ne-eqb}
 use Rattle.folds.specs.Below.{anyBelow}
-use Rattle.folds.proofs.Tests.{is-not-false, same-test, any-none}
+use Rattle.folds.proofs.Tests.{any-none}
 use Rattle.folds.proofs.Arrays.{by-eq}
 use Rattle.folds.proofs.Ranges.{max-none}
 use Rattle.plan_reading.specs.Plan.{Plan, Valid}
@@ -10,6 +10,7 @@ use Rattle.analysis_equations.specs.HoldTimes.{longestOn, holdAt, budget, userO
 use Rattle.analysis_equations.proofs.Laws.{budget-unused}
 use Rattle.analysis_figures.specs.Figures.{figureCount, Figures}
 use Rattle.analysis_hold_times.specs.Inner.{cell, Sections, Held, RowSet, ResourceRow}
+use Rattle.analysis_hold_times.proofs.Rows.{ltb-more}
 
 module _ (p : Plan) where
   -- task j is one of a processor below k
@@ -77,13 +78,7 @@ module _ (p : Plan) (v : Valid p) where
           r .1 .at j q l lq
           ∙ by-eq (λ (d : Bool). cond d (holdAt p j q) (getD old (cell j q) 0) ≡ cond (ltb (processorOf p j) (k + 1)) (holdAt p j q) (longestOn p j q)) (processorOf p j) k
           (λ e. rw (lt-ltb (processorOf p j) (k + 1) (omega (arith, e))))
-          (λ d. h .at j q (omega (arith, v .tasks)) lq ∙ rw (lt-ltb j (p .tasks) l) (ap (λ (b : Bool). cond b (holdAt p j q) (longestOn p j q)) (same d)))
-        where
-          same : (processorOf p j ≡ k → ⊥) → ltb (processorOf p j) k ≡ ltb (processorOf p j) (k + 1)
-          same d =
-              same-test (ltb (processorOf p j) k) (ltb (processorOf p j) (k + 1))
-              (λ a. lt-ltb (processorOf p j) (k + 1) (omega (arith, ltb-true (processorOf p j) k a)))
-              (λ a. is-not-false _ (λ f. d (omega (arith, ltb-true (processorOf p j) (k + 1) a, ltb-false (processorOf p j) k f))))
+          (λ d. h .at j q (omega (arith, v .tasks)) lq ∙ rw (lt-ltb j (p .tasks) l) (ap (λ (b : Bool). cond b (holdAt p j q) (longestOn p j q)) (sym (ltb-more (processorOf p j) k d))))
 
       go : (j q : ℕ) → j < 64 → q < 16 → (d : Bool) → ltb j (p .tasks) ≡ d → getD next (cell j q) 0 ≡ cond (d && ltb (processorOf p j) (k + 1)) (holdAt p j q) (longestOn p j q)
       go j q lj lq true e = one j q (ltb-true j (p .tasks) e) lq

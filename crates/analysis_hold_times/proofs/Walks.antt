@@ -1,16 +1,16 @@
 -- A walk through a processor's tasks from the highest down: which are passed, and what the rows hold that it makes.
-use Rattle.folds.proofs.Ground.{ℕ, _+_, _-_, _<_, _≤_, max, Bool, true, false, cond, _&&_, and-false, _≡_, refl, sym, ap, ap₂, _∙_, List, eqb, ltb, length, getD, replicate, arith, ltb-true, ltb-false, lt-ltb, le-ltb, eq-eqb}
+use Rattle.folds.proofs.Ground.{ℕ, _+_, _-_, _<_, _≤_, max, Bool, true, false, cond, _&&_, and-false, _≡_, refl, sym, ap, ap₂, _∙_, List, eqb, ltb, length, getD, replicate, arith, lt-ltb, le-ltb, eq-eqb}
 use Rattle.folds.specs.Below.{maxBelow, sumBelow}
-use Rattle.folds.proofs.Tests.{is-not-false, same-test, any-none}
-use Rattle.folds.proofs.Figures.{max-same, sum-same, count-bound}
+use Rattle.folds.proofs.Tests.{any-none}
+use Rattle.folds.proofs.Figures.{max-same, sum-same}
 use Rattle.folds.proofs.Ranges.{max-none, max-insert, sum-none, sum-where-bound, sum-insert}
 use Rattle.folds.proofs.Arrays.{by-eq}
 use Rattle.plan_reading.specs.Plan.{Plan, Valid, planOf, Checked}
 use Rattle.plan_reading.proofs.Laws.{valid-plan}
 use Rattle.analysis_equations.specs.Sharing.{processorOf, priorityOf, higher}
 use Rattle.analysis_hold_times.specs.Inner.{part, ResourceRow, rankOf, Sits, AllAbove, Orders}
-use Rattle.analysis_hold_times.proofs.Rows.{row-zeros, row-same}
-use Rattle.analysis_hold_times.proofs.Ranks.{rank-order, rank-below, rank-distinct}
+use Rattle.analysis_hold_times.proofs.Rows.{ltb-more, row-zeros, row-same}
+use Rattle.analysis_hold_times.proofs.Ranks.{rank-order, rank-tasks, rank-distinct}
 
 -- what stands at x in the order of processor k, for x below the number of tasks
 module _ {f o : List ℕ} (k x : ℕ) (plan : Checked f) (h : Orders (planOf f) o) (lk : k < 8) where
@@ -26,8 +26,7 @@ module _ {f o : List ℕ} (k x : ℕ) (plan : Checked f) (h : Orders (planOf f) 
 
 -- no task has as many above it as there are tasks
 pub all-above : (p : Plan) (k x : ℕ) → p .tasks ≤ x → AllAbove p k x
-all-above p k x ge i l own =
-    omega (arith, rank-below p i l, count-bound (p .tasks) (λ j. eqb (processorOf p j) (processorOf p i)))
+all-above p k x ge i l own = omega (arith, rank-tasks p i l)
 
 module _ (p : Plan) (k : ℕ) where
   -- the tasks of processor k with fewer than x above them
@@ -63,9 +62,7 @@ module _ {p : Plan} {k x i : ℕ} (s : Sits p k x i) where
       by-eq (λ (b : Bool). (b && ltb (rankOf p j) (x + 1)) ≡ (b && ltb (rankOf p j) x)) (processorOf p j) k
       (λ e.
       let new : rankOf p j ≡ x → ⊥ = λ r. d (rank-distinct p v j i l (s .below) (e ∙ sym (s .own)) (r ∙ sym (s .rank))) in
-      same-test (ltb (rankOf p j) (x + 1)) (ltb (rankOf p j) x)
-      (λ a. is-not-false _ (λ b. new (omega (arith, ltb-true (rankOf p j) (x + 1) a, ltb-false (rankOf p j) x b))))
-      (λ a. lt-ltb (rankOf p j) (x + 1) (omega (arith, ltb-true (rankOf p j) x a))))
+      ltb-more (rankOf p j) x new)
       (λ d. refl)
 
 -- ── a figure over the tasks passed ──
