@@ -1,18 +1,16 @@
 -- The tables of longest sections, and which resources the processors use.
-use Rattle.folds.proofs.Ground.{ℕ, _+_, _-_, _/_, _<_, _≤_, max, Bool, true, false, cond, _&&_, and-comm, true≢false, _≡_, refl, sym, ap, _∙_, List, eqb, leb, length, getD, set, replicate, length-replicate, arith, ltb-true, eq-eqb, ne-eqb}
+use Rattle.folds.proofs.Ground.{ℕ, zero, suc, _+_, _-_, _/_, _<_, _≤_, max, Bool, true, false, cond, _&&_, _||_, and-comm, _≡_, refl, sym, ap, _∙_, List, eqb, ltb, leb, length, getD, set, replicate, length-replicate, arith, lt-ltb, eq-eqb, ne-eqb}
 use borrow.Author.Tests as Tests
-use Rattle.folds.specs.Below.{maxBelow, countBelow}
-use Rattle.folds.proofs.Tests.{is-not-true}
-use Rattle.folds.proofs.Figures.{max-same, sum-at, count-step, count-bound}
-use Rattle.folds.proofs.Arrays.{by-eq, maxedBelow, maxed-length, maxed-at, maxed-step, cell-eqb}
-use Rattle.folds.proofs.Ranges.{sum-none}
+use Rattle.folds.specs.Below.{anyBelow, sumBelow, maxBelow, countBelow}
+use Rattle.folds.proofs.Figures.{max-same, count-step, count-bound}
+use Rattle.folds.proofs.Arrays.{maxedBelow, maxed-length, maxed-at, maxed-step, cell-eqb}
 use Rattle.plan_rules.specs.declared.SectionRow.{SectionRow}
 use Rattle.plan_reading.specs.Plan.{Plan, Valid}
 use Rattle.analysis_equations.specs.Sharing.{processorOf, sectionOn, uses, usedOn, global}
 use Rattle.analysis_equations.specs.HoldTimes.{longestOn}
-use Rattle.analysis_equations.proofs.Laws.{used-at, used-out, uses-longest}
+use Rattle.analysis_equations.proofs.Laws.{uses-longest}
 use Rattle.analysis_hold_times.specs.Inner.{cell, column, LongestAt, ResourceRow, usedTime}
-use Rattle.analysis_hold_times.proofs.Rows.{row-zeros, row-same}
+use Rattle.analysis_hold_times.proofs.Rows.{by-lt, row-zeros, row-same}
 
 -- the longer of two, as a sum
 pub longer-sum : (a b : ℕ) {r : ℕ} → r ≡ b - a → a + r ≡ max a b
@@ -90,44 +88,48 @@ module _ (p : Plan) where
   unfolding countBelow
   users-none = row-zeros _ (λ q l. refl)
 
-  pub users-low : (k : ℕ) {users : List ℕ} → UsersBelow k users → k < 8 → (q : ℕ) → q < 16 → getD users q 0 < 8
-  users-low k u l q lq = omega (arith, u .at q lq, count-bound k (λ l. usedOn p l q))
+  pub users-few : (k : ℕ) {users : List ℕ} → UsersBelow k users → (q : ℕ) → q < 16 → getD users q 0 ≤ k
+  users-few k u q l = rw (u .at q l) (count-bound k (λ l. usedOn p l q))
 
   pub users-done : (k : ℕ) {users : List ℕ} → k ≡ p .processors → UsersBelow k users → UsersBelow (p .processors) users
   users-done k e u = rw e at u
 
+-- a sum is not 0 where one of its parts is not
+sum-any : (n : ℕ) (u : ℕ → Bool) (f : ℕ → ℕ) → ((i : ℕ) → i < n → u i ≡ ltb 0 (f i)) → anyBelow n u ≡ ltb 0 (sumBelow n f)
+unfolding anyBelow sumBelow
+sum-any zero u f h = refl
+sum-any (suc n) u f h = rw (sum-any n u f (λ i l. h i (omega arith)), h n (omega arith)) (both (sumBelow n f) (f n))
+  where
+    both : (a b : ℕ) → (ltb 0 a || ltb 0 b) ≡ ltb 0 (a + b)
+    both a b =
+        by-lt (λ (t : Bool). (t || ltb 0 b) ≡ ltb 0 (a + b)) 0 a (λ l. sym (lt-ltb 0 (a + b) (omega arith)))
+        (λ l. let e : b ≡ a + b = omega arith in ap (ltb 0) e)
+
 module _ (p : Plan) (v : Valid p) where
   -- a processor uses q where its time there is not 0
   time-used : (k q : ℕ) → _≡_ {A = ℕ} (cond (eqb (usedTime p k q) 0) 0 1) (cond (usedOn p k q) 1 0)
-  time-used k q = go (usedOn p k q) refl
+  unfolding usedOn
+  time-used k q = rw (sum-any (p .tasks) _ (λ i. cond (eqb (processorOf p i) k) (longestOn p i q) 0) (λ i l. one (eqb (processorOf p i) k) i)) (flag (usedTime p k q))
     where
-      go : (b : Bool) → usedOn p k q ≡ b → _≡_ {A = ℕ} (cond (eqb (usedTime p k q) 0) 0 1) (cond b 1 0)
-      go true u =
-          rw (ne-eqb (usedTime p k q) 0
-          (used-out p k q (usedTime p k q ≡ 0 → ⊥) u
-          (λ i l own s z. omega (arith, z, part i l own, ltb-true 0 (longestOn p i q) (sym (uses-longest p v i q) ∙ s)))))
-        where
-          part : (i : ℕ) → i < p .tasks → processorOf p i ≡ k → longestOn p i q ≤ usedTime p k q
-          part i l own = omega (arith, rw (eq-eqb (processorOf p i) k own) at (sum-at (p .tasks) i (λ j. cond (eqb (processorOf p j) k) (longestOn p j q) 0) l))
-      go false u = rw (eq-eqb (usedTime p k q) 0 (sum-none (p .tasks) _ (λ i l. by-eq (λ (b : Bool). cond b (longestOn p i q) 0 ≡ 0) (processorOf p i) k (λ own. idle i l own) (λ d. refl))))
-        where
-          idle : (i : ℕ) → i < p .tasks → processorOf p i ≡ k → longestOn p i q ≡ 0
-          idle i l own =
-              let low = Tests.ltb-false 0 (longestOn p i q) (sym (uses-longest p v i q) ∙ is-not-true (uses p i q) (λ s. true≢false (sym (rw own at (used-at p i q l s)) ∙ u))) in
-              omega (arith, low)
+      one : (b : Bool) (i : ℕ) → (b && uses p i q) ≡ ltb 0 (cond b (longestOn p i q) 0)
+      one true i = uses-longest p v i q
+      one false i = refl
 
-  -- a count of processors, and the flag that it gives
-  pub users-high : (q : ℕ) {users : List ℕ} → UsersBelow p (p .processors) users → q < 16 → getD users q 0 ≤ 8
-  users-high q u l = omega (arith, u .at q l, v .processors, count-bound (p .processors) (λ l. usedOn p l q))
+      flag : (n : ℕ) → _≡_ {A = ℕ} (cond (eqb n 0) 0 1) (cond (ltb 0 n) 1 0)
+      flag n =
+          by-lt (λ (b : Bool). _≡_ {A = ℕ} (cond (eqb n 0) 0 1) (cond b 1 0)) 0 n (λ l. rw (ne-eqb n 0 (λ z. omega arith))) (λ l. rw (eq-eqb n 0 (omega arith)))
 
-  pub flag-at : (q : ℕ) {users : List ℕ} → UsersBelow p (p .processors) users → q < 16 → (getD users q 0 + 14) / 16 ≡ cond (global p q) 1 0
+  -- the flag that a count of processors gives
+  pub flag-at : {users : List ℕ} → UsersBelow p (p .processors) users → (q : ℕ) → q < 16 → (getD users q 0 + 14) / 16 ≡ cond (global p q) 1 0
   unfolding global
-  flag-at q {users} u l = rw (← u .at q l) (one (getD users q 0) (users-high q u l) (leb 2 (getD users q 0)) refl)
+  flag-at {users} u q l = rw (← u .at q l) (one (getD users q 0) (omega (arith, users-few p (p .processors) u q l, v .processors)) (leb 2 (getD users q 0)) refl)
     where
       one : (n : ℕ) → n ≤ 8 → (b : Bool) → leb 2 n ≡ b → (n + 14) / 16 ≡ cond b 1 0
       one n few true e = omega (arith, Tests.leb-true 2 n e)
       one n few false e = omega (arith, Tests.leb-false 2 n e)
 
-  pub users-step : (k : ℕ) (users row : List ℕ) {next : List ℕ} → UsersBelow p k users → ResourceRow (usedTime p k) row → ResourceRow (λ q. getD users q 0 + cond (eqb (getD row q 0) 0) 0 1) next → UsersBelow p (k + 1) next
+  pub users-step : (k : ℕ) (users row : List ℕ) {next : List ℕ} → UsersBelow p k users → ResourceRow (usedTime p k) row
+      → ResourceRow (λ q. getD users q 0 + cond (eqb (getD row q 0) 0) 0 1) next
+      → UsersBelow p (k + 1) next
   users-step k users row u r n =
       row-same _ _ n (λ q l. count-step k (λ l. usedOn p l q) (u .at q l) (rw (r .at q l) (time-used k q)))

@@ -1,5 +1,5 @@
 -- Rows and tables that a loop over the resources makes.
-use Rattle.folds.proofs.Ground.{ℕ, zero, suc, _+_, _*_, _<_, _≤_, Bool, true, false, cond, _≡_, refl, _∙_, ⊎-elim, List, eqb, ltb, length, getD, set, replicate, length-replicate, getD-replicate, getD-set-same, getD-set-other, not-suc-le-zero, eq-or-lt-of-le, le-of-suc-le-suc, arith, ltb-true, lt-ltb}
+use Rattle.folds.proofs.Ground.{ℕ, zero, suc, _+_, _*_, _<_, _≤_, Bool, true, false, cond, _≡_, refl, _∙_, ⊎-elim, List, eqb, ltb, length, getD, set, replicate, length-replicate, getD-replicate, getD-set-same, getD-set-other, not-suc-le-zero, eq-or-lt-of-le, le-of-suc-le-suc, arith, ltb-true, ltb-false, lt-ltb}
 use Rattle.folds.proofs.Tests.{same-test}
 use Rattle.folds.specs.Bytes.{placedBelow}
 use Rattle.folds.proofs.Arrays.{by-eq, placed-length, placed-at, placed-step, stampedBelow, stamped-length}
@@ -14,6 +14,14 @@ ltb-more x k d =
     same-test (ltb x (k + 1)) (ltb x k)
     (λ a. lt-ltb x k (omega (arith, ltb-true x (k + 1) a, d)))
     (λ a. lt-ltb x (k + 1) (omega (arith, ltb-true x k a)))
+
+-- by whether m is below n
+pub by-lt : (P : Bool → Type 0) (m n : ℕ) → (m < n → P true) → (n ≤ m → P false) → P (ltb m n)
+by-lt P m n f g = go (ltb m n) refl
+  where
+    go : (b : Bool) → ltb m n ≡ b → P b
+    go true e = f (ltb-true m n e)
+    go false e = g (ltb-false m n e)
 
 -- what a choice is at most
 pub pick-le : (b : Bool) (x y m : ℕ) → x ≤ m → y ≤ m → cond b x y ≤ m

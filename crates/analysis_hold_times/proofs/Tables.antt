@@ -1,5 +1,5 @@
 -- The table of hold times and budgets, processor by processor.
-use Rattle.folds.proofs.Ground.{ℕ, _+_, _<_, _≤_, Bool, true, false, cond, _&&_, and-false, _≡_, refl, sym, ap, _∙_, List, ltb, length, getD, arith, ltb-true, ltb-false, lt-ltb, le-ltb, eq-eqb, ne-eqb}
+use Rattle.folds.proofs.Ground.{ℕ, _+_, _<_, _≤_, Bool, true, false, cond, _&&_, and-false, _≡_, refl, sym, ap, _∙_, List, ltb, length, getD, arith, lt-ltb, le-ltb, eq-eqb, ne-eqb}
 use Rattle.folds.specs.Below.{anyBelow}
 use Rattle.folds.proofs.Tests.{any-none}
 use Rattle.folds.proofs.Arrays.{by-eq}
@@ -10,7 +10,7 @@ use Rattle.analysis_equations.specs.HoldTimes.{longestOn, holdAt, budget, userO
 use Rattle.analysis_equations.proofs.Laws.{budget-unused}
 use Rattle.analysis_figures.specs.Figures.{figureCount, Figures}
 use Rattle.analysis_hold_times.specs.Inner.{cell, Sections, Held, RowSet, ResourceRow}
-use Rattle.analysis_hold_times.proofs.Rows.{ltb-more}
+use Rattle.analysis_hold_times.proofs.Rows.{ltb-more, by-lt}
 
 module _ (p : Plan) where
   -- task j is one of a processor below k
@@ -59,7 +59,9 @@ module _ (p : Plan) (v : Valid p) where
   table-step k old {next} {most} {put} h r b =
       record {
         long = b .long ∙ r .1 .long;
-        at = λ j q lj lq. other j q lq (λ e. omega arith) ∙ go j q lj lq (ltb j (p .tasks)) refl;
+        at = λ j q lj lq. other j q lq (λ e. omega arith)
+            ∙ by-lt (λ (d : Bool). getD next (cell j q) 0 ≡ cond (d && ltb (processorOf p j) (k + 1)) (holdAt p j q) (longestOn p j q)) j (p .tasks)
+            (λ l. one j q l lq) (λ ge. r .1 .rest j q ge lq ∙ h .at j q lj lq ∙ rw (le-ltb j (p .tasks) ge));
         shares = λ l q ll lq. by-eq (λ (d : Bool). getD put (cell (64 + l) q) 0 ≡ budget p l q) l k (λ e. own l q lq e) (λ d. behind l q lq d ∙ h .shares l q (omega (arith, d)) lq);
         rest = λ l q ll l8 lq. behind l q lq (λ e. omega arith) ∙ h .rest l q (omega arith) l8 lq;
       }
@@ -80,10 +82,6 @@ module _ (p : Plan) (v : Valid p) where
           (λ e. rw (lt-ltb (processorOf p j) (k + 1) (omega (arith, e))))
           (λ d. h .at j q (omega (arith, v .tasks)) lq ∙ rw (lt-ltb j (p .tasks) l) (ap (λ (b : Bool). cond b (holdAt p j q) (longestOn p j q)) (sym (ltb-more (processorOf p j) k d))))
 
-      go : (j q : ℕ) → j < 64 → q < 16 → (d : Bool) → ltb j (p .tasks) ≡ d → getD next (cell j q) 0 ≡ cond (d && ltb (processorOf p j) (k + 1)) (holdAt p j q) (longestOn p j q)
-      go j q lj lq true e = one j q (ltb-true j (p .tasks) e) lq
-      go j q lj lq false e = r .1 .rest j q (ltb-false j (p .tasks) e) lq ∙ h .at j q lj lq ∙ rw e
-
   -- past the processors nothing is shared
   past-processors : (k q : ℕ) → p .processors ≤ k → 0 ≡ budget p k q
   unfolding usedOn
@@ -94,14 +92,10 @@ module _ (p : Plan) (v : Valid p) where
   table-done k {t} e h =
       record {
         long = h .long;
-        hold = λ j q lj lq. h .at j q lj lq ∙ all j q (ltb j (p .tasks)) refl;
-        budget = λ l q ll lq. ap (λ (x : ℕ). getD t x 0) (omega arith) ∙ each l q ll lq (ltb l k) refl;
+        hold = λ j q lj lq. h .at j q lj lq
+            ∙ by-lt (λ (d : Bool). cond (d && ltb (processorOf p j) k) (holdAt p j q) (longestOn p j q) ≡ holdAt p j q) j (p .tasks)
+            (λ l. rw (lt-ltb (processorOf p j) k (omega (arith, e, v .task-fits j l .processor)))) (λ ge. past-tasks j q ge);
+        budget = λ l q ll lq. ap (λ (x : ℕ). getD t x 0) (omega arith)
+            ∙ by-lt (λ (d : Bool). getD t (cell (64 + l) q) 0 ≡ budget p l q) l k
+            (λ lk. h .shares l q lk lq) (λ ge. h .rest l q ge ll lq ∙ past-processors l q (omega arith));
       }
-    where
-      all : (j q : ℕ) (d : Bool) → ltb j (p .tasks) ≡ d → cond (d && ltb (processorOf p j) k) (holdAt p j q) (longestOn p j q) ≡ holdAt p j q
-      all j q true f = rw (lt-ltb (processorOf p j) k (omega (arith, e, v .task-fits j (ltb-true j (p .tasks) f) .processor)))
-      all j q false f = past-tasks j q (ltb-false j (p .tasks) f)
-
-      each : (l q : ℕ) → l < 8 → q < 16 → (d : Bool) → ltb l k ≡ d → getD t (cell (64 + l) q) 0 ≡ budget p l q
-      each l q ll lq true f = h .shares l q (ltb-true l k f) lq
-      each l q ll lq false f = h .rest l q (ltb-false l k f) ll lq ∙ past-processors l q (omega (arith, e, ltb-false l k f))
