@@ -23,11 +23,6 @@ by-lt P m n f g = go (ltb m n) refl
     go true e = f (ltb-true m n e)
     go false e = g (ltb-false m n e)
 
--- what a choice is at most
-pub pick-le : (b : Bool) (x y m : ℕ) → x ≤ m → y ≤ m → cond b x y ≤ m
-pick-le true x y m p q = p
-pick-le false x y m p q = q
-
 -- ── a row made cell by cell ──
 
 -- the figures f are in place at the resources below q, in what was l

@@ -21,8 +21,7 @@ module _ (p : Plan) where
   pub record TableBelow (k : ℕ) (t : List ℕ) : Type 0 where
     pub long : length t ≡ figureCount
     pub at : (j q : ℕ) → j < 64 → q < 16 → getD t (cell j q) 0 ≡ cond (done k j) (holdAt p j q) (longestOn p j q)
-    pub shares : (l q : ℕ) → l < k → q < 16 → getD t (cell (64 + l) q) 0 ≡ budget p l q
-    pub rest : (l q : ℕ) → k ≤ l → l < 8 → q < 16 → getD t (cell (64 + l) q) 0 ≡ 0
+    pub shares : (l q : ℕ) → l < 8 → q < 16 → getD t (cell (64 + l) q) 0 ≡ cond (ltb l k) (budget p l q) 0
 
 module _ (p : Plan) (v : Valid p) where
   -- past the tasks nothing is used
@@ -42,8 +41,7 @@ module _ (p : Plan) (v : Valid p) where
       record {
         long = c .long;
         at = λ j q lj lq. c .at j q (omega arith) lq ∙ rw (le-ltb (processorOf p j) 0 (omega arith), and-false);
-        shares = λ l q h. let bad : ⊥ = omega arith in absurd bad;
-        rest = λ l q lk l8 lq. c .at (64 + l) q (omega arith) lq ∙ past-longest (64 + l) q (omega (arith, v .tasks));
+        shares = λ l q ll lq. c .at (64 + l) q (omega arith) lq ∙ past-longest (64 + l) q (omega (arith, v .tasks)) ∙ rw (le-ltb l 0 (omega arith));
       }
 
   -- the rows of processor k begin with its longest sections
@@ -62,15 +60,13 @@ module _ (p : Plan) (v : Valid p) where
         at = λ j q lj lq. other j q lq (λ e. omega arith)
             ∙ by-lt (λ (d : Bool). getD next (cell j q) 0 ≡ cond (d && ltb (processorOf p j) (k + 1)) (holdAt p j q) (longestOn p j q)) j (p .tasks)
             (λ l. one j q l lq) (λ ge. r .1 .rest j q ge lq ∙ h .at j q lj lq ∙ rw (le-ltb j (p .tasks) ge));
-        shares = λ l q ll lq. by-eq (λ (d : Bool). getD put (cell (64 + l) q) 0 ≡ budget p l q) l k (λ e. own l q lq e) (λ d. behind l q lq d ∙ h .shares l q (omega (arith, d)) lq);
-        rest = λ l q ll l8 lq. behind l q lq (λ e. omega arith) ∙ h .rest l q (omega arith) l8 lq;
+        shares = λ l q ll lq. by-eq (λ (d : Bool). getD put (cell (64 + l) q) 0 ≡ cond (ltb l (k + 1)) (budget p l q) 0) l k
+            (λ e. rw (e, lt-ltb k (k + 1) (omega arith)) (b .at (64 + k) q lq ∙ rw (eq-eqb (64 + k) (64 + k) refl) (r .0 .at q lq)))
+            (λ d. rw (ltb-more l k d) (behind l q lq d ∙ h .shares l q ll lq));
       }
     where
       other : (j q : ℕ) → q < 16 → (j ≡ 64 + k → ⊥) → getD put (cell j q) 0 ≡ getD next (cell j q) 0
       other j q lq d = b .at j q lq ∙ rw (ne-eqb j (64 + k) d)
-
-      own : (l q : ℕ) → q < 16 → l ≡ k → getD put (cell (64 + l) q) 0 ≡ budget p l q
-      own l q lq e = rw e (b .at (64 + k) q lq ∙ rw (eq-eqb (64 + k) (64 + k) refl) (r .0 .at q lq))
 
       behind : (l q : ℕ) → q < 16 → (l ≡ k → ⊥) → getD put (cell (64 + l) q) 0 ≡ getD old (cell (64 + l) q) 0
       behind l q lq d = other (64 + l) q lq (λ e. d (omega arith)) ∙ r .1 .rest (64 + l) q (omega (arith, v .tasks)) lq
@@ -95,7 +91,6 @@ module _ (p : Plan) (v : Valid p) where
         hold = λ j q lj lq. h .at j q lj lq
             ∙ by-lt (λ (d : Bool). cond (d && ltb (processorOf p j) k) (holdAt p j q) (longestOn p j q) ≡ holdAt p j q) j (p .tasks)
             (λ l. rw (lt-ltb (processorOf p j) k (omega (arith, e, v .task-fits j l .processor)))) (λ ge. past-tasks j q ge);
-        budget = λ l q ll lq. ap (λ (x : ℕ). getD t x 0) (omega arith)
-            ∙ by-lt (λ (d : Bool). getD t (cell (64 + l) q) 0 ≡ budget p l q) l k
-            (λ lk. h .shares l q lk lq) (λ ge. h .rest l q ge ll lq ∙ past-processors l q (omega arith));
+        budget = λ l q ll lq. ap (λ (x : ℕ). getD t x 0) (omega arith) ∙ h .shares l q ll lq
+            ∙ by-lt (λ (d : Bool). cond d (budget p l q) 0 ≡ budget p l q) l k (λ lk. refl) (λ ge. past-processors l q (omega arith));
       }
