@@ -53,7 +53,8 @@ module _ (p : Plan) (v : Valid p) (i q : ℕ) (g : global p q ≡ true) where
       }
 
   -- all tasks
-  pub fellows-all : (n : ℕ) {count sum : ℕ} → n ≡ p .tasks → FellowsBelow p i q n count sum → (count ≡ countBelow (p .tasks) (fellow p i q)) × (sum ≡ fellowHolds p i q)
+  pub fellows-all : (n : ℕ) {count sum : ℕ} → n ≡ p .tasks → FellowsBelow p i q n count sum
+      → (count ≡ countBelow (p .tasks) (fellow p i q)) × (sum ≡ fellowHolds p i q)
   unfolding fellowHolds
   fellows-all n e w = (
     w .counted ∙ ap (λ (m : ℕ). countBelow m (fellow p i q)) e,

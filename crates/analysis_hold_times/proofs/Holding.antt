@@ -32,7 +32,8 @@ module _ (p : Plan) (k : ℕ) (old : List ℕ) where
         rest = λ j q lj lq. refl;
       }
 
-  pub held-done : {x : ℕ} {rows above most : List ℕ} → HeldBelow x rows above most → AllAbove p k x → (ResourceRow (budget p k) most) × Held p k old rows
+  pub held-done : {x : ℕ} {rows above most : List ℕ} → HeldBelow x rows above most → AllAbove p k x
+      → (ResourceRow (budget p k) most) × Held p k old rows
   held-done h all = (
     row-same _ _ (most-done p (holdAt p) k all (h .greatest)) (λ q l. sym (budget-holds p k q)),
     record {
@@ -47,7 +48,8 @@ pub record Next {f old order tops flags : List ℕ} {k : ℕ} (w : Walk f old or
   pub held : HeldBelow (planOf f) k old x rows above most
   pub sits : Sits (planOf f) k x i
 
-module _ {f old order tops flags : List ℕ} {k : ℕ} {w : Walk f old order tops flags k} {x i : ℕ} {rows above most : List ℕ} (n : Next w x i rows above most) where
+module _ {f old order tops flags : List ℕ} {k : ℕ} {w : Walk f old order tops flags k} {x i : ℕ} {rows above most : List ℕ}
+    (n : Next w x i rows above most) where
   abbrev p : Plan
   p = planOf f
 
@@ -101,7 +103,8 @@ module _ {f old order tops flags : List ℕ} {k : ℕ} {w : Walk f old order top
     unfolding holdAt holdTime
     held-at q l = rw (own-at q l, above-own q l) (pick (global p q) (longestOn p i q) refl)
       where
-        pick : (b : Bool) (m : ℕ) → m ≡ longestOn p i q → cond (eqb (cond b m 0) 0) 0 (cond b m 0 + interference p i q) ≡ cond (b && uses p i q) (m + interference p i q) 0
+        pick : (b : Bool) (m : ℕ) → m ≡ longestOn p i q
+            → cond (eqb (cond b m 0) 0) 0 (cond b m 0 + interference p i q) ≡ cond (b && uses p i q) (m + interference p i q) 0
         pick false m e = refl
         pick true m e =
             rw (uses-longest p v i q, ← e)
@@ -118,11 +121,13 @@ module _ {f old order tops flags : List ℕ} {k : ℕ} {w : Walk f old order top
     held-step {put = put} d b a m =
         record {
           long = b .long ∙ n .held .long;
-          added = sums-step p (longestOff p) k v s (n .held .added) (λ q l. omega (arith, own-top q l, own-at q l, top-off p v tops i (w .longest) low q)) a;
+          added = sums-step p (longestOff p) k v s (n .held .added)
+              (λ q l. omega (arith, own-top q l, own-at q l, top-off p v tops i (w .longest) low q)) a;
           greatest = most-step p (holdAt p) k v s (n .held .greatest) own-put m;
           at = λ j q lj lq. by-eq (λ (b : Bool). getD put (cell j q) 0 ≡ cond (passed p k (x + 1) j) (holdAt p j q) (getD old (cell j q) 0)) j i
               (λ e. rw (e, passed-own s) (own-put q lq))
-              (λ d. other j q lq d ∙ n .held .at j q lj lq ∙ ap (λ (b : Bool). cond b (holdAt p j q) (getD old (cell j q) 0)) (sym (passed-other s v j lj d)));
+              (λ d. other j q lq d ∙ n .held .at j q lj lq ∙ ap (λ (b : Bool). cond b (holdAt p j q) (getD old (cell j q) 0))
+              (sym (passed-other s v j lj d)));
           rest = λ j q lj lq. other j q lq (λ e. omega (arith, s .below)) ∙ n .held .rest j q lj lq;
         }
       where

@@ -47,7 +47,8 @@ module _ (p : Plan) (v : Valid p) {place : ℕ → ℕ → ℕ} {rows size : ℕ
   low-resource : (s : ℕ) → s < p .sections → p .section s .resource < 16
   low-resource s l = omega (arith, v .resources, v .section-fits s l .resource)
 
-  longest-at : (n j q : ℕ) → n ≤ p .sections → j < rows → q < 16 → getD (longestBelow p place size n) (place j q) 0 ≡ maxBelow n (λ s. cond (sectionOn p j q s) (p .section s .length) 0)
+  longest-at : (n j q : ℕ) → n ≤ p .sections → j < rows → q < 16
+      → getD (longestBelow p place size n) (place j q) 0 ≡ maxBelow n (λ s. cond (sectionOn p j q s) (p .section s .length) 0)
   longest-at n j q l lj lq =
       maxed-at n size (λ s. place (p .section s .task) (p .section s .resource)) (λ s. p .section s .length) (place j q) (h .fits j q lj lq)
       ∙ max-same n _ _
@@ -60,7 +61,8 @@ module _ (p : Plan) (v : Valid p) {place : ℕ → ℕ → ℕ} {rows size : ℕ
     pub low-place : place (row .task) (row .resource) < length t
     low-place = rw (e, maxed-length, length-replicate, er) (h .fits _ _ (low-task n l) (low-resource n l))
 
-    pub old-at : getD t (place (row .task) (row .resource)) 0 ≡ maxBelow n (λ s. cond (sectionOn p (row .task) (row .resource) s) (p .section s .length) 0)
+    pub old-at : getD t (place (row .task) (row .resource)) 0
+        ≡ maxBelow n (λ s. cond (sectionOn p (row .task) (row .resource) s) (p .section s .length) 0)
     old-at = rw (e, er) (longest-at n _ _ (omega arith) (low-task n l) (low-resource n l))
 
     pub longest-step : {most : ℕ} → most ≡ max (getD t (place (row .task) (row .resource)) 0) (row .length)
@@ -109,7 +111,8 @@ module _ (p : Plan) (v : Valid p) where
   -- a processor uses q where its time there is not 0
   time-used : (k q : ℕ) → _≡_ {A = ℕ} (cond (eqb (usedTime p k q) 0) 0 1) (cond (usedOn p k q) 1 0)
   unfolding usedOn
-  time-used k q = rw (sum-any (p .tasks) _ (λ i. cond (eqb (processorOf p i) k) (longestOn p i q) 0) (λ i l. one (eqb (processorOf p i) k) i)) (flag (usedTime p k q))
+  time-used k q = rw (sum-any (p .tasks) _ (λ i. cond (eqb (processorOf p i) k) (longestOn p i q) 0) (λ i l. one (eqb (processorOf p i) k) i))
+      (flag (usedTime p k q))
     where
       one : (b : Bool) (i : ℕ) → (b && uses p i q) ≡ ltb 0 (cond b (longestOn p i q) 0)
       one true i = uses-longest p v i q
@@ -117,12 +120,14 @@ module _ (p : Plan) (v : Valid p) where
 
       flag : (n : ℕ) → _≡_ {A = ℕ} (cond (eqb n 0) 0 1) (cond (ltb 0 n) 1 0)
       flag n =
-          by-lt (λ (b : Bool). _≡_ {A = ℕ} (cond (eqb n 0) 0 1) (cond b 1 0)) 0 n (λ l. rw (ne-eqb n 0 (λ z. omega arith))) (λ l. rw (eq-eqb n 0 (omega arith)))
+          by-lt (λ (b : Bool). _≡_ {A = ℕ} (cond (eqb n 0) 0 1) (cond b 1 0)) 0 n (λ l. rw (ne-eqb n 0 (λ z. omega arith)))
+          (λ l. rw (eq-eqb n 0 (omega arith)))
 
   -- the flag that a count of processors gives
   pub flag-at : {users : List ℕ} → UsersBelow p (p .processors) users → (q : ℕ) → q < 16 → (getD users q 0 + 14) / 16 ≡ cond (global p q) 1 0
   unfolding global
-  flag-at {users} u q l = rw (← u .at q l) (one (getD users q 0) (omega (arith, users-few p (p .processors) u q l, v .processors)) (leb 2 (getD users q 0)) refl)
+  flag-at {users} u q l = rw (← u .at q l) (one (getD users q 0) (omega (arith, users-few p (p .processors) u q l, v .processors))
+      (leb 2 (getD users q 0)) refl)
     where
       one : (n : ℕ) → n ≤ 8 → (b : Bool) → leb 2 n ≡ b → (n + 14) / 16 ≡ cond b 1 0
       one n few true e = omega (arith, Tests.leb-true 2 n e)

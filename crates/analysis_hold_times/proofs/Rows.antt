@@ -69,7 +69,8 @@ set-other (suc n) row i table j q d ln l =
     getD-set-other (setBelow n row i table) (i * 16 + n) (cell j q) (getD row n 0) 0 (λ e. d (omega arith))
     ∙ set-other n row i table j q d (omega arith) l
 
-pub set-done : (n : ℕ) (row : List ℕ) (i : ℕ) (table : List ℕ) {m : List ℕ} → m ≡ setBelow n row i table → n ≡ 16 → i * 16 + 16 ≤ length table → RowSet row i table m
+pub set-done : (n : ℕ) (row : List ℕ) (i : ℕ) (table : List ℕ) {m : List ℕ} → m ≡ setBelow n row i table → n ≡ 16 → i * 16 + 16 ≤ length table
+    → RowSet row i table m
 set-done n row i table {m} h e s = record { long = rw h (stamped-length n _ _ table); at = λ j q lq. rw h (one j q lq) }
   where
     one : (j q : ℕ) → q < 16 → getD (setBelow n row i table) (cell j q) 0 ≡ cond (eqb j i) (getD row q 0) (getD table (cell j q) 0)

@@ -76,7 +76,8 @@ module _ (p : Plan) (v : Valid p) where
           r .1 .at j q l lq
           ∙ by-eq (λ (d : Bool). cond d (holdAt p j q) (getD old (cell j q) 0) ≡ cond (ltb (processorOf p j) (k + 1)) (holdAt p j q) (longestOn p j q)) (processorOf p j) k
           (λ e. rw (lt-ltb (processorOf p j) (k + 1) (omega (arith, e))))
-          (λ d. h .at j q (omega (arith, v .tasks)) lq ∙ rw (lt-ltb j (p .tasks) l) (ap (λ (b : Bool). cond b (holdAt p j q) (longestOn p j q)) (sym (ltb-more (processorOf p j) k d))))
+          (λ d. h .at j q (omega (arith, v .tasks)) lq ∙ rw (lt-ltb j (p .tasks) l)
+          (ap (λ (b : Bool). cond b (holdAt p j q) (longestOn p j q)) (sym (ltb-more (processorOf p j) k d))))
 
   -- past the processors nothing is shared
   past-processors : (k q : ℕ) → p .processors ≤ k → 0 ≡ budget p k q

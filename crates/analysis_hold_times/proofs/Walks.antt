@@ -77,7 +77,8 @@ module _ (p : Plan) (f : ℕ → ℕ → ℕ) (k : ℕ) where
       row-zeros _
       (λ q l. max-none (p .tasks) (passed p k 0) (λ j. f j q) (any-none (p .tasks) (passed p k 0) (λ j lj. passed-none p k j)))
 
-  pub most-done : {x : ℕ} {row : List ℕ} → AllAbove p k x → MostBelow x row → ResourceRow (λ q. maxBelow (p .tasks) (λ j. cond (eqb (processorOf p j) k) (f j q) 0)) row
+  pub most-done : {x : ℕ} {row : List ℕ} → AllAbove p k x → MostBelow x row
+      → ResourceRow (λ q. maxBelow (p .tasks) (λ j. cond (eqb (processorOf p j) k) (f j q) 0)) row
   most-done h m =
       row-same _ _ m (λ q l. max-same (p .tasks) _ _ (λ j lj. ap (λ (b : Bool). cond b (f j q) 0) (passed-all p k h j lj)))
 
@@ -88,7 +89,8 @@ module _ (p : Plan) (f : ℕ → ℕ → ℕ) (k : ℕ) where
   pub sums-none : SumBelow 0 (replicate 16 0)
   sums-none = row-zeros _ (λ q l. sum-none (p .tasks) _ (λ j lj. rw (passed-none p k j)))
 
-  pub sums-done : {x : ℕ} {row : List ℕ} → AllAbove p k x → SumBelow x row → ResourceRow (λ q. sumBelow (p .tasks) (λ j. cond (eqb (processorOf p j) k) (f j q) 0)) row
+  pub sums-done : {x : ℕ} {row : List ℕ} → AllAbove p k x → SumBelow x row
+      → ResourceRow (λ q. sumBelow (p .tasks) (λ j. cond (eqb (processorOf p j) k) (f j q) 0)) row
   sums-done h m =
       row-same _ _ m (λ q l. sum-same (p .tasks) _ _ (λ j lj. ap (λ (b : Bool). cond b (f j q) 0) (passed-all p k h j lj)))
 

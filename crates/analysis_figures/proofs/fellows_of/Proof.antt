@@ -45,7 +45,8 @@ fellows-of-spec =
     (tie.spec
     Inv-loop μ-loop (λ c κs. c .before .before .pre .known .plan) (λ c κs. tt) (λ c κs. let h = start c .pre in (h .known .plan, h .task))
     (λ c. (omega arith, fellows-none _ _ _)) (λ c κs. let own = c .before .before in (start (own .before) .pre .known .plan, omega arith))
-    (λ c κs. let own = c .before .before .before in let h = start (own .before) .pre in record { long = h .known .figures .long; row = low (c .before); resource = h .resource })
+    (λ c κs. let own = c .before .before .before in let h = start (own .before) .pre in
+    record { long = h .known .figures .long; row = low (c .before); resource = h .resource })
     (λ c κs. tt)
     (λ c. let t = turn (c .before .before) in omega (arith, t .before .loop .inv .1 .few, c .flag .ensures .1, low t))
     (λ c κs. tt) (λ c. search needs)

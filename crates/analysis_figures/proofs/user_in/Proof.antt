@@ -70,5 +70,6 @@ user-in-spec =
     (λ c κs. c .before .before .pre .plan) (λ c κs. c .before .before .before .pre .plan) (λ c κs. search needs) returns
     (λ c. (unknown-resource _ _ _ (omega arith) (omega arith), c .before .before .before .before .task-number .ensures))
     (λ c κs. search needs) hold-at-requires
-    (λ c κs. let there = c .before .before .before in record { plan = start (found there) .pre .plan; task = below there; zero = sym (hold (c .before)) ∙ c .if3 .taken })
+    (λ c κs. let there = c .before .before .before in
+    record { plan = start (found there) .pre .plan; task = below there; zero = sym (hold (c .before)) ∙ c .if3 .taken })
     returns-3 returns-4)

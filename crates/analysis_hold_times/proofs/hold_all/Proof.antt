@@ -63,6 +63,8 @@ hold-all-spec =
     tie.close
     (tie.spec
     Inv-loop μ-loop (λ c κs. search needs) (λ c κs. search needs) (λ c κs. search needs) loop-holds hold-rows-requires (λ c. omega arith)
-    (λ c κs. let long = held c .hold-rows .ensures .1 .long in (omega (arith, long, valid-plan _ (turn (held c) .loop .inv .known .plan) .processors), long))
+    (λ c κs. let long = held c .hold-rows .ensures .1 .long in
+    (omega (arith, long, valid-plan _ (turn (held c) .loop .inv .known .plan) .processors), long))
     (λ c. omega arith) (λ c. omega arith) loop-again (λ c. let i = c .before .loop .inv in i .table .long ∙ sym (i .known .sections .long))
-    (λ c. let l = c .before .loop in let h = l .inv .known .plan in record { plan = h; figures = table-done _ (valid-plan _ h) (l .k) (omega arith) (l .inv .table) }))
+    (λ c. let l = c .before .loop in let h = l .inv .known .plan in
+    record { plan = h; figures = table-done _ (valid-plan _ h) (l .k) (omega arith) (l .inv .table) }))

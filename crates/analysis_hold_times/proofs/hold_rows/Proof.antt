@@ -36,7 +36,8 @@ returns c =
 abbrev turn : tie.Else1 Inv-loop μ-loop → tie.At-loop Inv-loop μ-loop
 turn c = c .before .before .before .before
 
-next : (c : tie.Else1 Inv-loop μ-loop) → let l = turn c .loop in Next (l .inv .walk) (l .x) (c .before .wide2 .result - 1) (l .rows) (l .above) (l .most)
+next : (c : tie.Else1 Inv-loop μ-loop) → let l = turn c .loop in
+    Next (l .inv .walk) (l .x) (c .before .wide2 .result - 1) (l .rows) (l .above) (l .most)
 next c =
     let l = turn c .loop in
     let w = l .inv .walk in
@@ -74,7 +75,8 @@ loop-again c =
     let set = put longer in
     let test = seat longer .before .before .before .loop-test .taken in
     let more = held-step (next (seat longer)) (own set .shared-row .ensures) (set .before .held-row .ensures) (set .set-row .ensures) in
-    record { within = omega (arith, test); walk = turn (seat longer) .loop .inv .walk; held = more (c .above-row .ensures) (longer .longer-row .ensures) }
+    let held = more (c .above-row .ensures) (longer .longer-row .ensures) in
+    record { within = omega (arith, test); walk = turn (seat longer) .loop .inv .walk; held = held }
 
 pub hold-rows-spec : {M : Type 1} → statement M
 hold-rows-spec =

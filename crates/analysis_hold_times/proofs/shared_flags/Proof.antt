@@ -19,7 +19,9 @@ shared-flags-spec =
     tie.close
     (tie.spec
     Inv-loop μ-loop (λ c. row-none _ _) (λ c. omega arith) (λ c. omega arith)
-    (λ c. let l = c .before in let h = l .before .pre in omega (arith, users-few _ _ (h .1) (l .loop .q) (omega arith), valid-plan _ (h .0) .processors))
+    (λ c. let l = c .before in let h = l .before .pre in
+    omega (arith, users-few _ _ (h .1) (l .loop .q) (omega arith), valid-plan _ (h .0) .processors))
     (λ c. omega arith) (λ c. omega arith) (λ c. omega arith) (λ c. omega arith)
-    (λ c. let l = c .before .loop in let h = c .before .before .pre in row-next (l .q) _ _ (l .inv) (omega arith) (flag-at _ (valid-plan _ (h .0)) (h .1) (l .q) (omega arith)))
+    (λ c. let l = c .before .loop in let h = c .before .before .pre in
+    row-next (l .q) _ _ (l .inv) (omega arith) (flag-at _ (valid-plan _ (h .0)) (h .1) (l .q) (omega arith)))
     (λ c. let l = c .before .loop in row-done (l .q) _ _ (l .inv) (omega arith) (length-replicate {A = ℕ} 16 0)))
