@@ -10,15 +10,15 @@ use Rattle.analysis_equations.proofs.Laws.{budget-holds, off-high, uses-longest
 use Rattle.analysis_figures.specs.Figures.{figureCount}
 use Rattle.analysis_hold_times.specs.Inner.{cell, Held, RowSet, ResourceRow, Sits, AllAbove, Walk, sharedOn}
 use Rattle.analysis_hold_times.proofs.Rows.{row-same}
-use Rattle.analysis_hold_times.proofs.Walks.{passed, passed-none, passed-own, passed-new, passed-above, passed-other, passed-all, MostBelow, most-none, most-step, most-done, SumBelow, sums-none, sums-step, sums-high}
+use Rattle.analysis_hold_times.proofs.Walks.{passed, passed-none, passed-own, passed-new, passed-above, passed-other, passed-all, the-greatest, the-sum, FoldBelow, fold-none, fold-step, fold-done, sums-high}
 use Rattle.analysis_hold_times.proofs.Tops.{shared-high, top-high, top-own, top-off}
 
 module _ (p : Plan) (k : ℕ) (old : List ℕ) where
   -- the rows once the tasks with fewer than x above them are passed
   pub record HeldBelow (x : ℕ) (rows above most : List ℕ) : Type 0 where
     pub long : length rows ≡ figureCount
-    pub added : SumBelow p (longestOff p) k x above
-    pub greatest : MostBelow p (holdAt p) k x most
+    pub added : FoldBelow the-sum p (longestOff p) k x above
+    pub greatest : FoldBelow the-greatest p (holdAt p) k x most
     pub at : (j q : ℕ) → j < p .tasks → q < 16 → getD rows (cell j q) 0 ≡ cond (passed p k x j) (holdAt p j q) (getD old (cell j q) 0)
     pub rest : (j q : ℕ) → p .tasks ≤ j → q < 16 → getD rows (cell j q) 0 ≡ getD old (cell j q) 0
 
@@ -26,8 +26,8 @@ module _ (p : Plan) (k : ℕ) (old : List ℕ) where
   held-none e =
       record {
         long = e;
-        added = sums-none p (longestOff p) k;
-        greatest = most-none p (holdAt p) k;
+        added = fold-none the-sum p (longestOff p) k;
+        greatest = fold-none the-greatest p (holdAt p) k;
         at = λ j q lj lq. rw (passed-none p k j);
         rest = λ j q lj lq. refl;
       }
@@ -35,7 +35,7 @@ module _ (p : Plan) (k : ℕ) (old : List ℕ) where
   pub held-done : {x : ℕ} {rows above most : List ℕ} → HeldBelow x rows above most → AllAbove p k x
       → (ResourceRow (budget p k) most) × Held p k old rows
   held-done h all = (
-    row-same _ _ (most-done p (holdAt p) k all (h .greatest)) (λ q l. sym (budget-holds p k q)),
+    row-same _ _ (fold-done the-greatest p (holdAt p) k all (h .greatest)) (λ q l. sym (budget-holds p k q)),
     record {
       long = h .long;
       at = λ j q lj lq. h .at j q lj lq ∙ ap (λ (b : Bool). cond b (holdAt p j q) (getD old (cell j q) 0)) (passed-all p k all j lj);
@@ -121,9 +121,9 @@ module _ {f old order tops flags : List ℕ} {k : ℕ} {w : Walk f old order top
     held-step {put = put} d b a m =
         record {
           long = b .long ∙ n .held .long;
-          added = sums-step p (longestOff p) k v s (n .held .added)
+          added = fold-step the-sum p (longestOff p) k v s (n .held .added)
               (λ q l. omega (arith, own-top q l, own-at q l, top-off p v tops i (w .longest) low q)) a;
-          greatest = most-step p (holdAt p) k v s (n .held .greatest) own-put m;
+          greatest = fold-step the-greatest p (holdAt p) k v s (n .held .greatest) (λ q l. ap (max _) (own-put q l)) m;
           at = λ j q lj lq. by-eq (λ (b : Bool). getD put (cell j q) 0 ≡ cond (passed p k (x + 1) j) (holdAt p j q) (getD old (cell j q) 0)) j i
               (λ e. rw (e, passed-own s) (own-put q lq))
               (λ d. other j q lq d ∙ n .held .at j q lj lq ∙ ap (λ (b : Bool). cond b (holdAt p j q) (getD old (cell j q) 0))

@@ -1,9 +1,8 @@
 -- A walk through a processor's tasks from the highest down: which are passed, and what the rows hold that it makes.
-use Rattle.folds.proofs.Ground.{ℕ, _+_, _-_, _<_, _≤_, max, Bool, true, false, cond, _&&_, and-false, _≡_, refl, sym, ap, ap₂, _∙_, List, eqb, ltb, length, getD, replicate, arith, lt-ltb, le-ltb, eq-eqb}
+use Rattle.folds.proofs.Ground.{ℕ, _+_, _-_, _<_, _≤_, max, Bool, true, false, cond, _&&_, and-false, _≡_, refl, sym, ap, _∙_, List, eqb, ltb, length, getD, replicate, arith, lt-ltb, le-ltb, eq-eqb}
 use Rattle.folds.specs.Below.{maxBelow, sumBelow}
-use Rattle.folds.proofs.Tests.{any-none}
-use Rattle.folds.proofs.Figures.{max-same, sum-same}
-use Rattle.folds.proofs.Ranges.{max-none, max-insert, sum-none, sum-where-bound, sum-insert}
+use Rattle.folds.proofs.Figures.{max-bound, max-same, sum-same}
+use Rattle.folds.proofs.Ranges.{max-insert, sum-none, sum-where-bound, sum-insert}
 use Rattle.folds.proofs.Arrays.{by-eq}
 use Rattle.plan_reading.specs.Plan.{Plan, Valid, planOf, Checked}
 use Rattle.plan_reading.proofs.Laws.{valid-plan}
@@ -67,53 +66,49 @@ module _ {p : Plan} {k x i : ℕ} (s : Sits p k x i) where
 
 -- ── a figure over the tasks passed ──
 
-module _ (p : Plan) (f : ℕ → ℕ → ℕ) (k : ℕ) where
-  -- a row of its greatest
-  abbrev pub MostBelow : ℕ → List ℕ → Type 0
-  MostBelow x = ResourceRow (λ q. maxBelow (p .tasks) (λ j. cond (passed p k x j) (f j q) 0))
+-- its greatest, or its sum
+pub record Fold (total : ℕ → (ℕ → ℕ) → ℕ) (join : ℕ → ℕ → ℕ) : Type 0 where
+  pub none : (n : ℕ) (g : ℕ → ℕ) → ((j : ℕ) → j < n → g j ≡ 0) → total n g ≡ 0
+  pub same : (n : ℕ) (g h : ℕ → ℕ) → ((j : ℕ) → j < n → g j ≡ h j) → total n g ≡ total n h
+  pub insert : (n i : ℕ) (a b : ℕ → Bool) (g : ℕ → ℕ) → i < n → a i ≡ true → b i ≡ false → ((j : ℕ) → j < n → (j ≡ i → ⊥) → a j ≡ b j)
+      → total n (λ j. cond (a j) (g j) 0) ≡ join (total n (λ j. cond (b j) (g j) 0)) (g i)
 
-  pub most-none : MostBelow 0 (replicate 16 0)
-  most-none =
-      row-zeros _
-      (λ q l. max-none (p .tasks) (passed p k 0) (λ j. f j q) (any-none (p .tasks) (passed p k 0) (λ j lj. passed-none p k j)))
+pub the-greatest : Fold maxBelow max
+the-greatest =
+    record {
+      none = λ n g h. omega (arith, max-bound n 0 g (λ j l. omega (arith, h j l)));
+      same = max-same;
+      insert = λ n i a b g l t f h. max-insert n i a b g l t h f;
+    }
 
-  pub most-done : {x : ℕ} {row : List ℕ} → AllAbove p k x → MostBelow x row
-      → ResourceRow (λ q. maxBelow (p .tasks) (λ j. cond (eqb (processorOf p j) k) (f j q) 0)) row
-  most-done h m =
-      row-same _ _ m (λ q l. max-same (p .tasks) _ _ (λ j lj. ap (λ (b : Bool). cond b (f j q) 0) (passed-all p k h j lj)))
+pub the-sum : Fold sumBelow _+_
+the-sum = record { none = sum-none; same = sum-same; insert = sum-insert }
 
-  -- a row of its sum
-  abbrev pub SumBelow : ℕ → List ℕ → Type 0
-  SumBelow x = ResourceRow (λ q. sumBelow (p .tasks) (λ j. cond (passed p k x j) (f j q) 0))
+module _ {total : ℕ → (ℕ → ℕ) → ℕ} {join : ℕ → ℕ → ℕ} (t : Fold total join) (p : Plan) (f : ℕ → ℕ → ℕ) (k : ℕ) where
+  -- a row of it
+  abbrev pub FoldBelow : ℕ → List ℕ → Type 0
+  FoldBelow x = ResourceRow (λ q. total (p .tasks) (λ j. cond (passed p k x j) (f j q) 0))
 
-  pub sums-none : SumBelow 0 (replicate 16 0)
-  sums-none = row-zeros _ (λ q l. sum-none (p .tasks) _ (λ j lj. rw (passed-none p k j)))
+  pub fold-none : FoldBelow 0 (replicate 16 0)
+  fold-none = row-zeros _ (λ q l. t .none (p .tasks) _ (λ j lj. rw (passed-none p k j)))
 
-  pub sums-done : {x : ℕ} {row : List ℕ} → AllAbove p k x → SumBelow x row
-      → ResourceRow (λ q. sumBelow (p .tasks) (λ j. cond (eqb (processorOf p j) k) (f j q) 0)) row
-  sums-done h m =
-      row-same _ _ m (λ q l. sum-same (p .tasks) _ _ (λ j lj. ap (λ (b : Bool). cond b (f j q) 0) (passed-all p k h j lj)))
+  pub fold-step : Valid p → {x i : ℕ} {row next : List ℕ} {g : ℕ → ℕ} → Sits p k x i → FoldBelow x row
+      → ((q : ℕ) → q < 16 → g q ≡ join (getD row q 0) (f i q))
+      → ResourceRow g next
+      → FoldBelow (x + 1) next
+  fold-step v {x} {i} s m e r =
+      row-same _ _ r
+      (λ q l.
+      e q l
+      ∙ ap (λ (y : ℕ). join y (f i q)) (m .at q l)
+      ∙ sym (t .insert (p .tasks) i (passed p k (x + 1)) (passed p k x) (λ j. f j q) (s .below) (passed-own s) (passed-new s) (passed-other s v)))
 
-  module _ (v : Valid p) where
-    pub most-step : {x i : ℕ} {row next : List ℕ} {g : ℕ → ℕ} → Sits p k x i → MostBelow x row → ((q : ℕ) → q < 16 → g q ≡ f i q)
-        → ResourceRow (λ q. max (getD row q 0) (g q)) next
-        → MostBelow (x + 1) next
-    most-step {x} {i} s m e r =
-        row-same _ _ r
-        (λ q l.
-        ap₂ max (m .at q l) (e q l)
-        ∙ sym (max-insert (p .tasks) i (passed p k (x + 1)) (passed p k x) (λ j. f j q) (s .below) (passed-own s) (passed-other s v) (passed-new s)))
+  pub fold-done : {x : ℕ} {row : List ℕ} → AllAbove p k x → FoldBelow x row
+      → ResourceRow (λ q. total (p .tasks) (λ j. cond (eqb (processorOf p j) k) (f j q) 0)) row
+  fold-done h m =
+      row-same _ _ m (λ q l. t .same (p .tasks) _ _ (λ j lj. ap (λ (b : Bool). cond b (f j q) 0) (passed-all p k h j lj)))
 
-    pub sums-step : {x i : ℕ} {row next : List ℕ} {g : ℕ → ℕ} → Sits p k x i → SumBelow x row → ((q : ℕ) → q < 16 → g q ≡ getD row q 0 + f i q)
-        → ResourceRow g next
-        → SumBelow (x + 1) next
-    sums-step {x} {i} s m e r =
-        row-same _ _ r
-        (λ q l.
-        e q l
-        ∙ ap (λ (y : ℕ). y + f i q) (m .at q l)
-        ∙ sym (sum-insert (p .tasks) i (passed p k (x + 1)) (passed p k x) (λ j. f j q) (s .below) (passed-own s) (passed-new s) (passed-other s v)))
-
-    pub sums-high : (x : ℕ) {row : List ℕ} → ((j q : ℕ) → f j q ≤ 1000) → SumBelow x row → (q : ℕ) → q < 16 → getD row q 0 ≤ 64000
-    sums-high x h m q l =
-        omega (arith, m .at q l, v .tasks, sum-where-bound (p .tasks) 1000 (passed p k x) (λ j. f j q) (λ j lj t. h j q))
+pub sums-high : (p : Plan) (f : ℕ → ℕ → ℕ) (k : ℕ) → Valid p → (x : ℕ) {row : List ℕ} → ((j q : ℕ) → f j q ≤ 1000) → FoldBelow the-sum p f k x row
+    → (q : ℕ) → q < 16 → getD row q 0 ≤ 64000
+sums-high p f k v x h m q l =
+    omega (arith, m .at q l, v .tasks, sum-where-bound (p .tasks) 1000 (passed p k x) (λ j. f j q) (λ j lj t. h j q))
