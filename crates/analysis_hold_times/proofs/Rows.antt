@@ -3,9 +3,6 @@ use Rattle.folds.proofs.Ground.{ℕ, zero, suc, _+_, _*_, _<_, _≤_, Bool, tru
 use Rattle.folds.proofs.Tests.{same-test}
 use Rattle.folds.specs.Bytes.{placedBelow}
 use Rattle.folds.proofs.Arrays.{by-eq, placed-length, placed-at, placed-step, stampedBelow, stamped-length}
-use Rattle.plan_reading.specs.Plan.{Plan}
-use Rattle.analysis_equations.specs.HoldTimes.{holdAt, budget}
-use Rattle.analysis_figures.specs.Figures.{holdCell, budgetCell, Figures}
 use Rattle.analysis_hold_times.specs.Inner.{cell, ResourceRow, RowSet}
 
 -- the tests of a number below k + 1 and below k agree for all but k

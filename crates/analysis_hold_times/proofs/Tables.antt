@@ -1,5 +1,5 @@
 -- The table of hold times and budgets, processor by processor.
-use Rattle.folds.proofs.Ground.{ℕ, _+_, _<_, _≤_, Bool, true, false, cond, _&&_, and-false, _≡_, refl, sym, ap, _∙_, List, ltb, length, getD, arith, lt-ltb, le-ltb, eq-eqb, ne-eqb}
+use Rattle.folds.proofs.Ground.{ℕ, _+_, _<_, _≤_, Bool, false, cond, _&&_, and-false, _≡_, refl, sym, ap, _∙_, List, ltb, length, getD, arith, lt-ltb, le-ltb, eq-eqb, ne-eqb}
 use Rattle.folds.specs.Below.{anyBelow}
 use Rattle.folds.proofs.Tests.{any-none}
 use Rattle.folds.proofs.Arrays.{by-eq}
