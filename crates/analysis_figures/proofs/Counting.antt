@@ -3,6 +3,7 @@ use Rattle.folds.proofs.Ground.{ℕ, _+_, _*_, _≤_, Bool, true, false, cond, 
 use Rattle.folds.specs.Below.{countBelow, sumBelow}
 use Rattle.folds.proofs.Figures.{count-step, sum-step}
 use Rattle.folds.proofs.Ranges.{cond-bound}
+use Rattle.plan_rules.specs.declared.TaskRow.{TaskRow}
 use Rattle.plan_reading.specs.Plan.{Plan, Valid}
 use Rattle.analysis_equations.specs.Sharing.{processorOf, uses, global}
 use Rattle.analysis_equations.specs.HoldTimes.{holdTime, holdAt, fellow}
@@ -15,15 +16,15 @@ not-not true = refl
 not-not false = refl
 
 -- the fellows below j, counted and with their hold times added up
-pub record Counted (p : Plan) (i q j count sum : ℕ) : Type 0 where
+pub record FellowsBelow (p : Plan) (i q j count sum : ℕ) : Type 0 where
   pub few : count ≤ j
   pub low : sum ≤ j * mostHold
   pub counted : count ≡ countBelow j (fellow p i q)
   pub added : sum ≡ sumBelow j (λ x. cond (fellow p i q x) (holdTime p x q) 0)
 
-pub counted-none : (p : Plan) (i q : ℕ) → Counted p i q 0 0 0
+pub fellows-none : (p : Plan) (i q : ℕ) → FellowsBelow p i q 0 0 0
 unfolding countBelow sumBelow
-counted-none p i q = record { few = omega arith; low = omega arith; counted = refl; added = refl }
+fellows-none p i q = record { few = omega arith; low = omega arith; counted = refl; added = refl }
 
 module _ (p : Plan) (v : Valid p) (i q : ℕ) (g : global p q ≡ true) where
   -- the test that is made of task j
@@ -34,15 +35,15 @@ module _ (p : Plan) (v : Valid p) (i q : ℕ) (g : global p q ≡ true) where
   unfolding holdAt
   hold-most j = cond-bound (global p q && uses p j q) (holdTime p j q) mostHold (λ _. hold-high p v j q)
 
-  -- one more task, of processor m and with this hold time
-  pub counted-more : {j count sum : ℕ} (hold m k d t : ℕ) → Counted p i q j count sum → hold ≡ holdAt p j q
-      → m ≡ processorOf p j → k ≡ processorOf p i
-      → d ≡ cond ((eqb m k && not (eqb hold 0)) && not (eqb j i)) 1 0
-      → t ≡ cond ((eqb m k && not (eqb hold 0)) && not (eqb j i)) hold 0
-      → Counted p i q (j + 1) (count + d) (sum + t)
-  counted-more {j} {count} {sum} hold m k d t w eh em ek ed et =
-      let on : Bool = (eqb m k && not (eqb hold 0)) && not (eqb j i) in
-      let e : on ≡ fellow p i q j = rw (eh, em, ek) (fellow-test j) in
+  -- one more task
+  pub fellows-more : {j count sum hold d t : ℕ} {row own : TaskRow} → FellowsBelow p i q j count sum → hold ≡ holdAt p j q
+      → row ≡ p .task j → own ≡ p .task i
+      → d ≡ cond ((eqb (row .processor) (own .processor) && not (eqb hold 0)) && not (eqb j i)) 1 0
+      → t ≡ cond ((eqb (row .processor) (own .processor) && not (eqb hold 0)) && not (eqb j i)) hold 0
+      → FellowsBelow p i q (j + 1) (count + d) (sum + t)
+  fellows-more {j} {count} {sum} {hold} {d} {t} {row} {own} w eh er eo ed et =
+      let on : Bool = (eqb (row .processor) (own .processor) && not (eqb hold 0)) && not (eqb j i) in
+      let e : on ≡ fellow p i q j = rw (eh, er, eo) (fellow-test j) in
       let s : t ≡ cond (fellow p i q j) (holdTime p j q) 0 = et ∙ ap (λ (b : Bool). cond b hold 0) e ∙ rw eh (fellow-hold p i q j g) in
       record {
         few = omega (arith, w .few, ed, cond-bound on 1 1 (λ _. omega arith));
@@ -52,9 +53,10 @@ module _ (p : Plan) (v : Valid p) (i q : ℕ) (g : global p q ≡ true) where
       }
 
   -- all tasks
-  pub counted-all : {n count sum : ℕ} → n ≡ p .tasks → Counted p i q n count sum → (count ≡ countBelow (p .tasks) (fellow p i q)) × (sum ≡ fellowHolds p i q)
+  pub fellows-all : (n : ℕ) {count sum : ℕ} → n ≡ p .tasks → FellowsBelow p i q n count sum
+      → (count ≡ countBelow (p .tasks) (fellow p i q)) × (sum ≡ fellowHolds p i q)
   unfolding fellowHolds
-  counted-all e w = (
+  fellows-all n e w = (
     w .counted ∙ ap (λ (m : ℕ). countBelow m (fellow p i q)) e,
     w .added ∙ ap (λ (m : ℕ). sumBelow m (λ x. cond (fellow p i q x) (holdTime p x q) 0)) e,
   )

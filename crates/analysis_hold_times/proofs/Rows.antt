@@ -1,25 +1,24 @@
 -- Rows and tables that a loop over the resources makes.
-use Rattle.folds.proofs.Ground.{ℕ, zero, suc, _+_, _*_, _-_, _<_, _≤_, Bool, true, false, cond, _≡_, refl, _∙_, ⊎-elim, List, eqb, length, getD, set, replicate, length-replicate, getD-replicate, getD-set-same, getD-set-other, not-suc-le-zero, eq-or-lt-of-le, le-of-suc-le-suc, arith}
+use Rattle.folds.proofs.Ground.{ℕ, zero, suc, _+_, _*_, _<_, _≤_, Bool, true, false, cond, _≡_, refl, _∙_, ⊎-elim, List, eqb, ltb, length, getD, set, replicate, length-replicate, getD-replicate, getD-set-same, getD-set-other, not-suc-le-zero, eq-or-lt-of-le, le-of-suc-le-suc, arith, ltb-true, ltb-false, lt-ltb}
+use Rattle.folds.proofs.Tests.{same-test}
 use Rattle.folds.specs.Bytes.{placedBelow}
 use Rattle.folds.proofs.Arrays.{by-eq, placed-length, placed-at, placed-step, stampedBelow, stamped-length}
-use Rattle.plan_reading.specs.Plan.{Plan}
-use Rattle.analysis_equations.specs.HoldTimes.{holdAt, budget}
-use Rattle.analysis_figures.specs.Figures.{holdCell, budgetCell, Figures}
-use Rattle.analysis_hold_times.specs.Inner.{cell, Row, Put}
+use Rattle.analysis_hold_times.specs.Inner.{cell, ResourceRow, RowSet}
 
--- what a choice is at most
-pick-le : (b : Bool) {x y m : ℕ} → x ≤ m → y ≤ m → cond b x y ≤ m
-pick-le true p q = p
-pick-le false p q = q
+-- the tests of a number below k + 1 and below k agree for all but k
+pub ltb-more : (x k : ℕ) → (x ≡ k → ⊥) → ltb x (k + 1) ≡ ltb x k
+ltb-more x k d =
+    same-test (ltb x (k + 1)) (ltb x k)
+    (λ a. lt-ltb x k (omega (arith, ltb-true x (k + 1) a, d)))
+    (λ a. lt-ltb x (k + 1) (omega (arith, ltb-true x k a)))
 
-pub chosen-le : (b : Bool) {r x y m : ℕ} → r ≡ cond b x y → x ≤ m → y ≤ m → r ≤ m
-chosen-le b e p q = rw e (pick-le b p q)
-
-pub plus-same : (u : ℕ) {x y : ℕ} → x ≡ y → u + x ≡ u + y
-plus-same u e = rw e
-
-pub minus-same : (u : ℕ) {x y : ℕ} → x ≡ y → u - x ≡ u - y
-minus-same u e = rw e
+-- by whether m is below n
+pub by-lt : (P : Bool → Type 0) (m n : ℕ) → (m < n → P true) → (n ≤ m → P false) → P (ltb m n)
+by-lt P m n f g = go (ltb m n) refl
+  where
+    go : (b : Bool) → ltb m n ≡ b → P b
+    go true e = f (ltb-true m n e)
+    go false e = g (ltb-false m n e)
 
 -- ── a row made cell by cell ──
 
@@ -35,16 +34,16 @@ row-none f l = record { within = omega arith; made = refl }
 pub row-next : (q : ℕ) (f : ℕ → ℕ) (l : List ℕ) {m : List ℕ} {v : ℕ} → Made f l q m → q < 16 → v ≡ f q → Made f l (q + 1) (set m q v)
 row-next q f l h lq e = record { within = omega arith; made = placed-step q f l (h .made) e }
 
-pub row-done : (q : ℕ) (f : ℕ → ℕ) (l : List ℕ) {m : List ℕ} → Made f l q m → 16 ≤ q → length l ≡ 16 → Row f m
+pub row-done : (q : ℕ) (f : ℕ → ℕ) (l : List ℕ) {m : List ℕ} → Made f l q m → 16 ≤ q → length l ≡ 16 → ResourceRow f m
 row-done q f l h lq s =
     let e : q ≡ 16 = omega (arith, h .within) in
     rw (h .made, e) (record { long = placed-length 16 f l ∙ s; at = λ x lx. placed-at 16 x f l 0 lx (omega (arith, s)) })
 
 -- a row of zeros, and two figures that agree
-pub row-zeros : (f : ℕ → ℕ) → ((q : ℕ) → q < 16 → f q ≡ 0) → Row f (replicate 16 0)
+pub row-zeros : (f : ℕ → ℕ) → ((q : ℕ) → q < 16 → f q ≡ 0) → ResourceRow f (replicate 16 0)
 row-zeros f h = record { long = length-replicate {A = ℕ} 16 0; at = λ q l. rw (h q l) (getD-replicate {A = ℕ} 16 q 0 0 l) }
 
-pub row-same : (f g : ℕ → ℕ) {t : List ℕ} → Row f t → ((q : ℕ) → q < 16 → f q ≡ g q) → Row g t
+pub row-same : (f g : ℕ → ℕ) {t : List ℕ} → ResourceRow f t → ((q : ℕ) → q < 16 → f q ≡ g q) → ResourceRow g t
 row-same f g r h = record { long = r .long; at = λ q l. r .at q l ∙ h q l }
 
 -- the table with the figures below n of a row put down as row i
@@ -67,7 +66,8 @@ set-other (suc n) row i table j q d ln l =
     getD-set-other (setBelow n row i table) (i * 16 + n) (cell j q) (getD row n 0) 0 (λ e. d (omega arith))
     ∙ set-other n row i table j q d (omega arith) l
 
-pub set-done : (n : ℕ) (row : List ℕ) (i : ℕ) (table : List ℕ) {m : List ℕ} → m ≡ setBelow n row i table → n ≡ 16 → i * 16 + 16 ≤ length table → Put row i table m
+pub set-done : (n : ℕ) (row : List ℕ) (i : ℕ) (table : List ℕ) {m : List ℕ} → m ≡ setBelow n row i table → n ≡ 16 → i * 16 + 16 ≤ length table
+    → RowSet row i table m
 set-done n row i table {m} h e s = record { long = rw h (stamped-length n _ _ table); at = λ j q lq. rw h (one j q lq) }
   where
     one : (j q : ℕ) → q < 16 → getD (setBelow n row i table) (cell j q) 0 ≡ cond (eqb j i) (getD row q 0) (getD table (cell j q) 0)

@@ -1,16 +1,27 @@
 -- The table of hold times and budgets, processor by processor.
-use Rattle.folds.proofs.Ground.{ℕ, _+_, _<_, _≤_, Bool, true, false, cond, _&&_, and-false, _≡_, refl, sym, ap, _∙_, List, ltb, length, getD, arith, ltb-true, ltb-false, lt-ltb, le-ltb, eq-eqb, ne-eqb}
+use Rattle.folds.proofs.Ground.{ℕ, _+_, _<_, _≤_, Bool, false, cond, _&&_, and-false, _≡_, refl, sym, ap, _∙_, List, ltb, length, getD, arith, lt-ltb, le-ltb, eq-eqb, ne-eqb}
 use Rattle.folds.specs.Below.{anyBelow}
-use Rattle.folds.proofs.Tests.{is-not-false, same-test, any-none}
+use Rattle.folds.proofs.Tests.{any-none}
 use Rattle.folds.proofs.Arrays.{by-eq}
 use Rattle.folds.proofs.Ranges.{max-none}
 use Rattle.plan_reading.specs.Plan.{Plan, Valid}
 use Rattle.analysis_equations.specs.Sharing.{processorOf, sectionOn, uses, usedOn}
 use Rattle.analysis_equations.specs.HoldTimes.{longestOn, holdAt, budget, userOn}
 use Rattle.analysis_equations.proofs.Laws.{budget-unused}
-use Rattle.analysis_figures.specs.Figures.{Figures}
-use Rattle.analysis_hold_times.specs.Inner.{cell, Sections, Held, Put, Row}
-use Rattle.analysis_hold_times.proofs.Holding.{Begun}
+use Rattle.analysis_figures.specs.Figures.{figureCount, Figures}
+use Rattle.analysis_hold_times.specs.Inner.{cell, Sections, Held, RowSet, ResourceRow}
+use Rattle.analysis_hold_times.proofs.Rows.{ltb-more, by-lt}
+
+module _ (p : Plan) where
+  -- task j is one of a processor below k
+  abbrev done : ℕ → ℕ → Bool
+  done k j = ltb j (p .tasks) && ltb (processorOf p j) k
+
+  -- the table once the processors below k are passed
+  pub record TableBelow (k : ℕ) (t : List ℕ) : Type 0 where
+    pub long : length t ≡ figureCount
+    pub at : (j q : ℕ) → j < 64 → q < 16 → getD t (cell j q) 0 ≡ cond (done k j) (holdAt p j q) (longestOn p j q)
+    pub shares : (l q : ℕ) → l < 8 → q < 16 → getD t (cell (64 + l) q) 0 ≡ cond (ltb l k) (budget p l q) 0
 
 module _ (p : Plan) (v : Valid p) where
   -- past the tasks nothing is used
@@ -25,48 +36,37 @@ module _ (p : Plan) (v : Valid p) where
   unfolding holdAt uses
   past-tasks j q l = past-longest j q l ∙ sym (rw (past-idle j q l, and-false))
 
-  -- task j is one of a processor below k
-  abbrev done : ℕ → ℕ → Bool
-  done k j = ltb j (p .tasks) && ltb (processorOf p j) k
-
-  -- the table once the processors below k are passed
-  pub record TableBelow (k : ℕ) (t : List ℕ) : Type 0 where
-    pub long : length t ≡ 1152
-    pub at : (j q : ℕ) → j < 64 → q < 16 → getD t (cell j q) 0 ≡ cond (done k j) (holdAt p j q) (longestOn p j q)
-    pub shares : (l q : ℕ) → l < k → q < 16 → getD t (cell (64 + l) q) 0 ≡ budget p l q
-    pub rest : (l q : ℕ) → k ≤ l → l < 8 → q < 16 → getD t (cell (64 + l) q) 0 ≡ 0
-
-  pub table-none : {t : List ℕ} → Sections p t → TableBelow 0 t
+  pub table-none : {t : List ℕ} → Sections p t → TableBelow p 0 t
   table-none c =
       record {
         long = c .long;
         at = λ j q lj lq. c .at j q (omega arith) lq ∙ rw (le-ltb (processorOf p j) 0 (omega arith), and-false);
-        shares = λ l q h. let bad : ⊥ = omega arith in absurd bad;
-        rest = λ l q lk l8 lq. c .at (64 + l) q (omega arith) lq ∙ past-longest (64 + l) q (omega (arith, v .tasks));
+        shares = λ l q ll lq. c .at (64 + l) q (omega arith) lq ∙ past-longest (64 + l) q (omega (arith, v .tasks)) ∙ rw (le-ltb l 0 (omega arith));
       }
 
   -- the rows of processor k begin with its longest sections
-  pub table-begun : (k : ℕ) {t : List ℕ} → TableBelow k t → Begun p v k t
+  pub table-begun : (k : ℕ) {t : List ℕ} → TableBelow p k t
+      → (j q : ℕ) → j < p .tasks → q < 16 → processorOf p j ≡ k → getD t (cell j q) 0 ≡ longestOn p j q
   table-begun k h j q lj lq e =
       h .at j q (omega (arith, v .tasks)) lq ∙ rw (le-ltb (processorOf p j) k (omega (arith, e)), and-false)
 
-  pub table-step : (k : ℕ) (old : List ℕ) {next most put : List ℕ} → k < p .processors → TableBelow k old
-      → (Row (budget p k) most) × Held p k old next
-      → Put most (64 + k) next put
-      → TableBelow (k + 1) put
-  table-step k old {next} {most} {put} lk h r b =
+  pub table-step : (k : ℕ) (old : List ℕ) {next most put : List ℕ} → TableBelow p k old
+      → (ResourceRow (budget p k) most) × Held p k old next
+      → RowSet most (64 + k) next put
+      → TableBelow p (k + 1) put
+  table-step k old {next} {most} {put} h r b =
       record {
         long = b .long ∙ r .1 .long;
-        at = λ j q lj lq. other j q lq (λ e. omega arith) ∙ go j q lj lq (ltb j (p .tasks)) refl;
-        shares = λ l q ll lq. by-eq (λ (d : Bool). getD put (cell (64 + l) q) 0 ≡ budget p l q) l k (λ e. own l q lq e) (λ d. behind l q lq d ∙ h .shares l q (omega (arith, d)) lq);
-        rest = λ l q ll l8 lq. behind l q lq (λ e. omega arith) ∙ h .rest l q (omega arith) l8 lq;
+        at = λ j q lj lq. other j q lq (λ e. omega arith)
+            ∙ by-lt (λ (d : Bool). getD next (cell j q) 0 ≡ cond (d && ltb (processorOf p j) (k + 1)) (holdAt p j q) (longestOn p j q)) j (p .tasks)
+            (λ l. one j q l lq) (λ ge. r .1 .rest j q ge lq ∙ h .at j q lj lq ∙ rw (le-ltb j (p .tasks) ge));
+        shares = λ l q ll lq. by-eq (λ (d : Bool). getD put (cell (64 + l) q) 0 ≡ cond (ltb l (k + 1)) (budget p l q) 0) l k
+            (λ e. rw (e, lt-ltb k (k + 1) (omega arith)) (b .at (64 + k) q lq ∙ rw (eq-eqb (64 + k) (64 + k) refl) (r .0 .at q lq)))
+            (λ d. rw (ltb-more l k d) (behind l q lq d ∙ h .shares l q ll lq));
       }
     where
       other : (j q : ℕ) → q < 16 → (j ≡ 64 + k → ⊥) → getD put (cell j q) 0 ≡ getD next (cell j q) 0
       other j q lq d = b .at j q lq ∙ rw (ne-eqb j (64 + k) d)
-
-      own : (l q : ℕ) → q < 16 → l ≡ k → getD put (cell (64 + l) q) 0 ≡ budget p l q
-      own l q lq e = rw e (b .at (64 + k) q lq ∙ rw (eq-eqb (64 + k) (64 + k) refl) (r .0 .at q lq))
 
       behind : (l q : ℕ) → q < 16 → (l ≡ k → ⊥) → getD put (cell (64 + l) q) 0 ≡ getD old (cell (64 + l) q) 0
       behind l q lq d = other (64 + l) q lq (λ e. d (omega arith)) ∙ r .1 .rest (64 + l) q (omega (arith, v .tasks)) lq
@@ -76,17 +76,8 @@ module _ (p : Plan) (v : Valid p) where
           r .1 .at j q l lq
           ∙ by-eq (λ (d : Bool). cond d (holdAt p j q) (getD old (cell j q) 0) ≡ cond (ltb (processorOf p j) (k + 1)) (holdAt p j q) (longestOn p j q)) (processorOf p j) k
           (λ e. rw (lt-ltb (processorOf p j) (k + 1) (omega (arith, e))))
-          (λ d. h .at j q (omega (arith, v .tasks)) lq ∙ rw (lt-ltb j (p .tasks) l) (ap (λ (b : Bool). cond b (holdAt p j q) (longestOn p j q)) (same d)))
-        where
-          same : (processorOf p j ≡ k → ⊥) → ltb (processorOf p j) k ≡ ltb (processorOf p j) (k + 1)
-          same d =
-              same-test (ltb (processorOf p j) k) (ltb (processorOf p j) (k + 1))
-              (λ a. lt-ltb (processorOf p j) (k + 1) (omega (arith, ltb-true (processorOf p j) k a)))
-              (λ a. is-not-false _ (λ f. d (omega (arith, ltb-true (processorOf p j) (k + 1) a, ltb-false (processorOf p j) k f))))
-
-      go : (j q : ℕ) → j < 64 → q < 16 → (d : Bool) → ltb j (p .tasks) ≡ d → getD next (cell j q) 0 ≡ cond (d && ltb (processorOf p j) (k + 1)) (holdAt p j q) (longestOn p j q)
-      go j q lj lq true e = one j q (ltb-true j (p .tasks) e) lq
-      go j q lj lq false e = r .1 .rest j q (ltb-false j (p .tasks) e) lq ∙ h .at j q lj lq ∙ rw e
+          (λ d. h .at j q (omega (arith, v .tasks)) lq ∙ rw (lt-ltb j (p .tasks) l)
+          (ap (λ (b : Bool). cond b (holdAt p j q) (longestOn p j q)) (sym (ltb-more (processorOf p j) k d))))
 
   -- past the processors nothing is shared
   past-processors : (k q : ℕ) → p .processors ≤ k → 0 ≡ budget p k q
@@ -94,18 +85,13 @@ module _ (p : Plan) (v : Valid p) where
   past-processors k q l =
       sym (budget-unused p k q (any-none (p .tasks) (userOn p k q) (λ i li. rw (ne-eqb (processorOf p i) k (λ e. omega (arith, v .task-fits i li .processor))))))
 
-  pub table-done : (k : ℕ) {t : List ℕ} → k ≡ p .processors → TableBelow k t → Figures p t
+  pub table-done : (k : ℕ) {t : List ℕ} → k ≡ p .processors → TableBelow p k t → Figures p t
   table-done k {t} e h =
       record {
         long = h .long;
-        hold = λ j q lj lq. h .at j q lj lq ∙ all j q (ltb j (p .tasks)) refl;
-        budget = λ l q ll lq. ap (λ (x : ℕ). getD t x 0) (omega arith) ∙ each l q ll lq (ltb l k) refl;
+        hold = λ j q lj lq. h .at j q lj lq
+            ∙ by-lt (λ (d : Bool). cond (d && ltb (processorOf p j) k) (holdAt p j q) (longestOn p j q) ≡ holdAt p j q) j (p .tasks)
+            (λ l. rw (lt-ltb (processorOf p j) k (omega (arith, e, v .task-fits j l .processor)))) (λ ge. past-tasks j q ge);
+        budget = λ l q ll lq. ap (λ (x : ℕ). getD t x 0) (omega arith) ∙ h .shares l q ll lq
+            ∙ by-lt (λ (d : Bool). cond d (budget p l q) 0 ≡ budget p l q) l k (λ lk. refl) (λ ge. past-processors l q (omega arith));
       }
-    where
-      all : (j q : ℕ) (d : Bool) → ltb j (p .tasks) ≡ d → cond (d && ltb (processorOf p j) k) (holdAt p j q) (longestOn p j q) ≡ holdAt p j q
-      all j q true f = rw (lt-ltb (processorOf p j) k (omega (arith, e, v .task-fits j (ltb-true j (p .tasks) f) .processor)))
-      all j q false f = past-tasks j q (ltb-false j (p .tasks) f)
-
-      each : (l q : ℕ) → l < 8 → q < 16 → (d : Bool) → ltb l k ≡ d → getD t (cell (64 + l) q) 0 ≡ budget p l q
-      each l q ll lq true f = h .shares l q (ltb-true l k f) lq
-      each l q ll lq false f = h .rest l q (ltb-false l k f) ll lq ∙ past-processors l q (omega (arith, e, ltb-false l k f))

@@ -1,5 +1,5 @@
 -- The invariant: no task passed has a hold time of the resource.
-use Rattle.folds.proofs.Ground.{_≤_, _-_, true, _≡_, refl, sym, _∙_, eqb, arith, eqb-true, eq-eqb, needs}
+use Rattle.folds.proofs.Ground.{_<_, _≤_, _-_, true, _≡_, refl, sym, _∙_, eqb, arith, eqb-true, eq-eqb, needs}
 use Rattle.folds.specs.Below.{allBelow}
 use Rattle.folds.proofs.Tests.{all-more, all-at}
 use Rattle.plan_reading.specs.Plan.{planOf}
@@ -10,42 +10,44 @@ use Rattle.analysis_figures.proofs.is_global.Statement.{statement}
 use Rattle.analysis_figures.proofs.is_global.Tie as tie
 
 abbrev Inv-loop : tie.InvT-loop
-Inv-loop file figures q n i₀ i =
-    (i ≤ n) × (n ≡ planOf file .tasks) × (n ≤ 64) × (allBelow i (λ j. eqb (holdAt (planOf file) j q) 0) ≡ true)
+Inv-loop file figures q n i₀ i = (i ≤ n) × (allBelow i (λ j. eqb (holdAt (planOf file) j q) 0) ≡ true)
 
 abbrev μ-loop : tie.MeasureT-loop
 μ-loop file figures q n i₀ i = n - i
 
+abbrev start : tie.After-wide Inv-loop μ-loop → tie.Start Inv-loop μ-loop
+start c = c .before .before .before .before
+
 loop-holds : tie.Need-loop-holds Inv-loop μ-loop
 unfolding allBelow
-loop-holds c =
-    let e = c .wide .ensures .same ∙ c .before .counts .ensures .tasks in
-    (omega arith, e, omega (arith, e, valid-plan _ (c .before .before .before .before .pre .0 .plan) .tasks), refl)
+loop-holds c = (omega arith, refl)
 
-hold-at-requires : tie.Need-hold-at-requires Inv-loop μ-loop
-hold-at-requires c κs = let h = c .before .before .before .before .before .before .pre in record { long = h .0 .figures .long; row = omega arith; resource = h .1 }
+low : (c : tie.In-loop Inv-loop μ-loop) → c .before .loop .i < 64
+low c = omega (arith, valid-plan _ (start (c .before .before) .pre .0 .plan) .tasks)
+
+-- the table's figure is the plan's
+hold : (c : tie.After-hold-at Inv-loop μ-loop)
+    → let a = start (c .before .before .before) .args in c .hold-at .result ≡ holdAt (planOf (a .file .now)) (c .before .before .loop .i) (a .q)
+hold c =
+    let h = start (c .before .before .before) .pre in
+    c .hold-at .ensures ∙ h .0 .figures .hold (c .before .before .loop .i) _ (low (c .before)) (h .1)
 
 returns : tie.Need-returns Inv-loop μ-loop
 returns c =
-    let h = c .before .before .before .before .before .before .before .before .pre in
-    let l = c .before .before .before .loop in
-    sym (global-at _ (valid-plan _ (h .0 .plan)) (l .i) _ (λ z. c .if1 .taken (c .before .hold-at .ensures ∙ h .0 .figures .hold (l .i) _ (omega arith) (h .1) ∙ z)))
-
-loop-again : tie.Need-loop-again Inv-loop μ-loop
-loop-again c =
-    let h = c .before .before .before .before .before .before .before .before .pre in
-    let l = c .before .before .before .loop in
-    let none = sym (h .0 .figures .hold (l .i) _ (omega arith) (h .1)) ∙ sym (c .before .hold-at .ensures) ∙ c .if1 .left in
-    (omega arith, l .inv .1, l .inv .2, all-more _ _ (l .inv .3) (eq-eqb _ _ none))
+    let turn = c .before .before .before in
+    sym (global-at _ (valid-plan _ (start (turn .before) .pre .0 .plan)) (turn .loop .i) _ (λ z. c .if1 .taken (hold (c .before) ∙ z)))
 
 returns-2 : tie.Need-returns-2 Inv-loop μ-loop
 returns-2 c =
-    let h = c .before .before .before .before .before .before .pre in
-    let l = c .before .loop in
-    sym (global-not _ (valid-plan _ (h .0 .plan)) _ (λ j lj. eqb-true _ _ (all-at (l .i) j _ (l .inv .3) (omega (arith, l .inv .1)))))
+    let turn = c .before in
+    let h = start (turn .before) .pre .0 .plan in
+    sym (global-not _ (valid-plan _ h) _ (λ j lj. eqb-true _ _ (all-at (turn .loop .i) j _ (turn .loop .inv .1) (omega arith))))
 
 pub is-global-spec : {M : Type 1} → statement M
 is-global-spec =
     tie.close
     (tie.spec
-    Inv-loop μ-loop (λ c κs. c .before .before .pre .0 .plan) (λ c κs. search needs) loop-holds hold-at-requires returns (λ c. omega arith) (λ c. omega arith) loop-again returns-2)
+    Inv-loop μ-loop (λ c κs. c .before .before .pre .0 .plan) (λ c κs. search needs) loop-holds
+    (λ c κs. let h = start (c .before .before) .pre in record { long = h .0 .figures .long; row = low c; resource = h .1 })
+    returns (λ c. omega arith) (λ c. omega arith)
+    (λ c. (omega arith, all-more _ _ (c .before .before .before .loop .inv .1) (eq-eqb _ _ (sym (hold (c .before)) ∙ c .if1 .left)))) returns-2)

@@ -1,63 +1,70 @@
 -- The invariant: the processors passed have their hold times and budgets in the tables.
-use Rattle.folds.proofs.Ground.{_-_, _≤_, _≡_, sym, _∙_, arith, needs}
-use Rattle.plan_reading.specs.Plan.{planOf, Checked}
+use Rattle.folds.proofs.Ground.{ℕ, _-_, _≤_, sym, _∙_, List, arith, needs}
+use Rattle.plan_reading.specs.Plan.{planOf}
 use Rattle.plan_reading.proofs.Laws.{valid-plan}
-use Rattle.analysis_hold_times.specs.Inner.{Orders, Tops, Flags}
+use Rattle.analysis_hold_times.specs.Inner.{Ordered, Tops, Flags}
 use Rattle.analysis_hold_times.proofs.Tables.{TableBelow, table-none, table-begun, table-step, table-done}
 use Rattle.analysis_hold_times.proofs.hold_all.Statement.{statement}
 use Rattle.analysis_hold_times.proofs.hold_all.Tie as tie
 
+record Passed (f old order tops flags : List ℕ) (m k : ℕ) (figures : List ℕ) : Type 0 where
+  within : k ≤ m
+  known : Ordered f old order
+  longest : Tops (planOf f) 64 tops
+  shared : Flags (planOf f) flags
+  table : TableBelow (planOf f) k figures
+
 abbrev Inv-loop : tie.InvT-loop
-Inv-loop file figures₀ order tops m flags k₀ figures k =
-    (k ≤ m) × (m ≡ planOf file .processors) × (h : Checked file) × Orders (planOf file) order × Tops (planOf file) 64 tops × Flags (planOf file) flags × TableBelow (planOf file) (valid-plan file h) k figures
+Inv-loop file figures₀ order tops m flags k₀ figures k = Passed file figures₀ order tops flags m k figures
 
 abbrev μ-loop : tie.MeasureT-loop
 μ-loop file figures₀ order tops m flags k₀ figures k = m - k
 
 loop-holds : tie.Need-loop-holds Inv-loop μ-loop
 loop-holds c =
-    let h = c .before .before .before .before .before .before .before .pre in
-    (omega arith, c .before .wide .ensures .same ∙ c .before .before .counts .ensures .processors, h .known .plan, h .known .tasks, h .longest, c .shared-flags .ensures, table-none _ _ (h .known .sections))
+    let read = c .before .before .before in
+    let h = read .before .before .before .before .pre in
+    let none = table-none _ (valid-plan _ (h .known .plan)) (h .known .sections) in
+    record { within = omega arith; known = h .known; longest = h .longest; shared = c .shared-flags .ensures; table = none }
+
+-- ── a turn: the hold times of a processor, and then its budgets ──
+abbrev turn : tie.After-hold-rows Inv-loop μ-loop → tie.At-loop Inv-loop μ-loop
+turn c = c .before .before .before
+
+abbrev held : tie.After-set-row-arg Inv-loop μ-loop → tie.After-hold-rows Inv-loop μ-loop
+held c = c .before .before .before
 
 hold-rows-requires : tie.Need-hold-rows-requires Inv-loop μ-loop
 hold-rows-requires c κs =
     let l = c .before .before .loop in
     let i = l .inv in
-    let v = valid-plan _ (i .2) in
+    let v = valid-plan _ (i .known .plan) in
     record {
-      plan = i .2;
-      tasks = i .3;
-      longest = i .4;
-      shared = i .5;
-      processor = omega (arith, v .processors, i .1);
-      long = i .6 .long;
-      begun = table-begun _ v (l .k) (i .6);
+      plan = i .known .plan;
+      tasks = i .known .tasks;
+      longest = i .longest;
+      shared = i .shared;
+      processor = omega (arith, v .processors);
+      long = i .table .long;
+      begun = table-begun _ v (l .k) (i .table);
     }
-
-set-row-requires : tie.Need-set-row-requires Inv-loop μ-loop
-set-row-requires c κs =
-    let i = c .before .before .before .before .before .before .loop .inv in
-    let long = c .before .before .before .hold-rows .ensures .1 .long in
-    (omega (arith, long, valid-plan _ (i .2) .processors, i .1), long)
 
 loop-again : tie.Need-loop-again Inv-loop μ-loop
 loop-again c =
-    let l = c .before .before .before .before .before .before .before .before .before .loop in
+    let set = c .before .before in
+    let h = held (set .before) in
+    let l = turn h .loop in
     let i = l .inv in
-    let v = valid-plan _ (i .2) in
-    (omega arith, i .1, i .2, i .3, i .4, i .5, table-step _ v (l .k) _ (omega (arith, i .1)) (i .6) (c .before .before .before .before .before .before .hold-rows .ensures) (c .before .before .set-row .ensures))
-
-returns : tie.Need-returns Inv-loop μ-loop
-returns c =
-    let l = c .before .loop in
-    let i = l .inv in
-    record { plan = i .2; figures = table-done _ _ (l .k) (omega (arith, i .1)) (i .6) }
+    let more = table-step _ (valid-plan _ (i .known .plan)) (l .k) _ (i .table) (h .hold-rows .ensures) (set .set-row .ensures) in
+    record { within = omega arith; known = i .known; longest = i .longest; shared = i .shared; table = more }
 
 pub hold-all-spec : {M : Type 1} → statement M
 hold-all-spec =
     tie.close
     (tie.spec
-    Inv-loop μ-loop (λ c κs. search needs) (λ c κs. search needs) (λ c κs. search needs) loop-holds hold-rows-requires
-    (λ c. omega arith) set-row-requires (λ c. omega arith) (λ c. omega arith) loop-again
-    (λ c. c .before .loop .inv .6 .long ∙ sym (c .before .before .before .before .before .before .before .before .before .pre .known .sections .long))
-    returns)
+    Inv-loop μ-loop (λ c κs. search needs) (λ c κs. search needs) (λ c κs. search needs) loop-holds hold-rows-requires (λ c. omega arith)
+    (λ c κs. let long = held c .hold-rows .ensures .1 .long in
+    (omega (arith, long, valid-plan _ (turn (held c) .loop .inv .known .plan) .processors), long))
+    (λ c. omega arith) (λ c. omega arith) loop-again (λ c. let i = c .before .loop .inv in i .table .long ∙ sym (i .known .sections .long))
+    (λ c. let l = c .before .loop in let h = l .inv .known .plan in
+    record { plan = h; figures = table-done _ (valid-plan _ h) (l .k) (omega arith) (l .inv .table) }))

@@ -3,7 +3,7 @@ use Rattle.folds.proofs.Ground.{ℕ, _-_, cond, replicate, length-replicate, ar
 use Rattle.plan_reading.specs.Plan.{planOf}
 use Rattle.plan_reading.proofs.Laws.{valid-plan}
 use Rattle.analysis_equations.specs.Sharing.{global}
-use Rattle.analysis_hold_times.proofs.Longest.{users-high, flag-at}
+use Rattle.analysis_hold_times.proofs.Longest.{users-few, flag-at}
 use Rattle.analysis_hold_times.proofs.Rows.{Made, row-none, row-next, row-done}
 use Rattle.analysis_hold_times.proofs.shared_flags.Statement.{statement}
 use Rattle.analysis_hold_times.proofs.shared_flags.Tie as tie
@@ -18,6 +18,10 @@ pub shared-flags-spec : {M : Type 1} → statement M
 shared-flags-spec =
     tie.close
     (tie.spec
-    Inv-loop μ-loop (λ c. row-none _ _) (λ c. omega arith) (λ c. omega arith) (λ c. let h = c .before .before .pre in omega (arith, users-high _ (valid-plan _ (h .0)) (c .before .loop .q) (h .1) (omega arith))) (λ c. omega arith) (λ c. omega arith) (λ c. omega arith) (λ c. omega arith)
-    (λ c. let l = c .before .loop in let h = c .before .before .pre in row-next (l .q) _ _ (l .inv) (omega arith) (flag-at _ (valid-plan _ (h .0)) (l .q) (h .1) (omega arith)))
+    Inv-loop μ-loop (λ c. row-none _ _) (λ c. omega arith) (λ c. omega arith)
+    (λ c. let l = c .before in let h = l .before .pre in
+    omega (arith, users-few _ _ (h .1) (l .loop .q) (omega arith), valid-plan _ (h .0) .processors))
+    (λ c. omega arith) (λ c. omega arith) (λ c. omega arith) (λ c. omega arith)
+    (λ c. let l = c .before .loop in let h = c .before .before .pre in
+    row-next (l .q) _ _ (l .inv) (omega arith) (flag-at _ (valid-plan _ (h .0)) (h .1) (l .q) (omega arith)))
     (λ c. let l = c .before .loop in row-done (l .q) _ _ (l .inv) (omega arith) (length-replicate {A = ℕ} 16 0)))
