@@ -6,30 +6,38 @@ use Rattle.analysis_figures.proofs.Cells.{budget-of}
 use Rattle.analysis.proofs.shares_of.Statement.{statement}
 use Rattle.analysis.proofs.shares_of.Tie as tie
 
+-- where the table is filled, from where the processor is widened
+abbrev filled : tie.After-wide2 → tie.After-fill-figures
+filled c = c .before .before .before .before
+
+abbrev start : tie.After-fill-figures → tie.Start
+start c = c .before .before .before
+
 budget-at-requires : tie.Need-budget-at-requires
 budget-at-requires c κs =
-    let h = c .before .before .before .before .before .before .before .pre in
+    let h = start (filled c) .pre in
     let v = valid-plan _ (h .plan) in
-    record {
-      long = c .before .before .before .before .fill-figures .ensures .figures .long;
-      row = omega (arith, v .processors, h .processor, c .wide2 .ensures .same);
-      resource = omega (arith, v .resources, h .resource, c .before .before .wide .ensures .same);
-    }
+    record { long = filled c .fill-figures .ensures .figures .long; row = omega arith; resource = omega arith }
 
 wait-in-requires : tie.Need-wait-in-requires
 wait-in-requires c κs =
-    let h = c .before .before .before .before .before .before .before .before .before .pre in
-    (c .before .before .before .before .before .before .fill-figures .ensures, omega (arith, valid-plan _ (h .plan) .resources, h .resource, c .before .before .before .before .wide .ensures .same))
+    let t = filled (c .before .before) in
+    let h = start t .pre in
+    let v = valid-plan _ (h .plan) in
+    (t .fill-figures .ensures, omega arith)
 
 returns : tie.Need-returns
 returns c =
-    let h = c .before .before .before .before .before .before .before .before .before .before .pre in
+    let w = c .before .before .before in
+    let t = filled w in
+    let h = start t .pre in
     let v = valid-plan _ (h .plan) in
-    let e = c .before .before .before .before .before .wide .ensures .same in (
-      c .before .before .budget-at .ensures
-          ∙ budget-of _ _ (c .before .before .before .before .before .before .before .fill-figures .ensures .figures) (c .before .before .before .wide2 .ensures .same) e (omega (arith, v .processors, h .processor)) (omega (arith, v .resources, h .resource)),
-      c .wait-in .ensures .0 ∙ ap (waitTime _ _) e,
-    )
+    let e = w .before .before .wide .ensures .same in
+    record {
+      budget = c .before .before .budget-at .ensures
+          ∙ budget-of _ _ (t .fill-figures .ensures .figures) (w .wide2 .ensures .same) e (omega arith) (omega arith);
+      wait = c .wait-in .ensures .0 ∙ ap (waitTime _ _) e;
+    }
 
 pub shares-of-spec : {M : Type 1} → statement M
 shares-of-spec =
