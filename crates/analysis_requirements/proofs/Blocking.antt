@@ -1,16 +1,11 @@
 -- Equations 4 and 5 over the table of terms.
-use Rattle.folds.proofs.Ground.{ℕ, _+_, _*_, _<_, _≤_, min, Bool, true, false, cond, not, _≡_, refl, _∙_, List, eqb, length, getD, mul-le-mul, arith}
-use Rattle.folds.specs.Below.{maxBelow}
+use Rattle.analysis_requirements.proofs.Ground.{ℕ, _+_, _*_, _<_, _≤_, min, Bool, true, false, cond, not, _≡_, refl, _∙_, List, eqb, length}
+use Rattle.analysis_requirements.proofs.Ground.{getD, mul-le-mul, arith, maxBelow, mostTasks, mostResources, mostSections, mostSectionTicks}
+use Rattle.analysis_requirements.proofs.Ground.{Plan, planOf, Valid, valid-plan, global, lower, globalCount, blocks, longestLocal, blocking1}
+use Rattle.analysis_requirements.proofs.Ground.{longestGlobal, mostBlocking1, longestCell, precedenceCell, countCell, sharedCell, termCount}
+use Rattle.analysis_requirements.proofs.Ground.{under, TaskTerms}
 use Rattle.folds.proofs.Ranges.{cond-bound}
-use Rattle.sizes.specs.Sizes.{mostTasks, mostResources, mostSections, mostSectionTicks}
-use Rattle.plan_reading.specs.Plan.{Plan, planOf, Valid}
-use Rattle.plan_reading.proofs.Laws.{valid-plan}
-use Rattle.analysis_equations.specs.Sharing.{global, lower}
-use Rattle.analysis_equations.specs.Blocking.{globalCount, blocks, longestLocal, blocking1, longestGlobal}
-use Rattle.analysis_equations.specs.Bounds.{mostBlocking1}
 use Rattle.analysis_equations.proofs.Laws.{count-high, global-high}
-use Rattle.analysis_requirements.specs.Terms.{longestCell, precedenceCell, countCell, sharedCell, termCount}
-use Rattle.analysis_requirements.specs.Inner.{under, TaskTerms}
 use Rattle.analysis_requirements.proofs.Precedences.{table-under}
 use Rattle.analysis_requirements.proofs.Terms.{flag-clear}
 
@@ -33,6 +28,13 @@ pub record TaskCells (t : List ℕ) (i : ℕ) : Type 0 where
   pub task : i < mostTasks
   pub count : getD t (countCell i) 0 ≤ mostSections
 
+-- for task i, a loop over the n tasks or sections of the plan, which has m of them and can have `most`: what holds all along
+pub record Over (f t : List ℕ) (i n m most : ℕ) : Type 0 where
+  pub asked : TaskTerms f t i
+  pub all : n ≡ m
+  pub few : n ≤ most
+  pub long : length t ≡ termCount
+
 module _ {f t : List ℕ} {i : ℕ} (h : TaskTerms f t i) where
   abbrev plan : Plan
   plan = planOf f
@@ -44,6 +46,9 @@ module _ {f t : List ℕ} {i : ℕ} (h : TaskTerms f t i) where
   task-cells =
       let low : i < mostTasks = omega (arith, h .task, valid .tasks) in
       record { long = h .terms .long; task = low; count = rw (h .terms .count i low) (count-high plan valid i) }
+
+  pub over : {n m most : ℕ} → n ≡ m → m ≤ most → Over f t i n m most
+  over e l = record { asked = h; all = e; few = omega arith; long = h .terms .long }
 
   -- whether a resource is local
   pub local-read : (q : ℕ) → q < mostResources → eqb (getD t (sharedCell q) 0) 0 ≡ not (global plan q)

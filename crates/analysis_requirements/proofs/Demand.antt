@@ -1,21 +1,14 @@
 -- Laws of the demand of the tasks above a task.
-use Rattle.folds.proofs.Ground.{ℕ, _+_, _*_, _-_, _<_, _≤_, true, false, _≡_, refl, ap, _∙_, List, getD, set, replicate, mul-le-mul, arith}
+use Rattle.analysis_requirements.proofs.Ground.{ℕ, _+_, _*_, _-_, _<_, _≤_, true, false, _≡_, refl, ap, _∙_, List, getD, set, replicate}
+use Rattle.analysis_requirements.proofs.Ground.{mul-le-mul, arith, countBelow, sum-bound, mostTasks, TaskRow, Plan, Valid, higher, ceilDiv}
+use Rattle.analysis_requirements.proofs.Ground.{demand, left, tolerance, mostPeriod, mostDemandOfOne, mostDemand, HigherTasks, Timed}
+use Rattle.analysis_requirements.proofs.Ground.{TimedTo, Scanned, demandOf}
 use lib.IntN.{ℤ, pos, _-ℤ_}
-use Rattle.folds.specs.Below.{countBelow}
 use Rattle.folds.specs.Packed.{packedBelow}
 use Rattle.folds.specs.Signed.{maxZ, greatestTo}
-use Rattle.folds.proofs.Figures.{sum-bound}
 use Rattle.folds.proofs.PackedLaws.{packed-length, packed-all, packed-sum, packed-step, packed-skip, count-taken, count-skipped}
 use Rattle.folds.proofs.SignedLaws.{greatest-step, greatest-same}
-use Rattle.sizes.specs.Sizes.{mostTasks}
-use Rattle.plan_rules.specs.declared.TaskRow.{TaskRow}
-use Rattle.plan_reading.specs.Plan.{Plan, Valid}
-use Rattle.analysis_equations.specs.Sharing.{higher}
-use Rattle.analysis_equations.specs.Blocking.{ceilDiv}
-use Rattle.analysis_equations.specs.Requirement.{demand, left, tolerance}
 use Rattle.analysis_equations.proofs.Laws.{ceil-bound}
-use Rattle.analysis_equations.specs.Bounds.{mostPeriod, mostDemandOfOne, mostDemand}
-use Rattle.analysis_requirements.specs.Inner.{HigherTasks, Timed, TimedTo, Scanned, demandOf}
 
 -- the demand up to t of one task of period v and execution time u: v is not 0, and all fits
 pub record DemandOfOne (t v u : ℕ) : Type 0 where

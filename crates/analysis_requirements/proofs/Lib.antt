@@ -1,3 +1,4 @@
+pub mod Ground
 pub mod Precedences
 pub mod Rows
 pub mod Terms

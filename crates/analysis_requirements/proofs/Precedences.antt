@@ -1,11 +1,9 @@
 -- What a task's precedence tells of its processor and its priority.
-use Rattle.folds.proofs.Ground.{ℕ, _+_, _*_, _/_, _%_, _<_, Bool, _&&_, _≡_, refl, List, ltb, getD, arith, ltb-true, lt-ltb}
+use Rattle.analysis_requirements.proofs.Ground.{ℕ, _+_, _*_, _/_, _%_, _<_, Bool, _&&_, _≡_, refl, List, ltb, getD, arith, ltb-true, lt-ltb}
+use Rattle.analysis_requirements.proofs.Ground.{Plan, Valid, processorOf, priorityOf, higher, lower, precedenceCell, precedenceOf, Terms}
+use Rattle.analysis_requirements.proofs.Ground.{above, under}
 use Rattle.folds.proofs.Tests.{same-test}
 use Rattle.folds.proofs.Arrays.{by-eq}
-use Rattle.plan_reading.specs.Plan.{Plan, Valid}
-use Rattle.analysis_equations.specs.Sharing.{processorOf, priorityOf, higher, lower}
-use Rattle.analysis_requirements.specs.Terms.{precedenceCell, precedenceOf, Terms}
-use Rattle.analysis_requirements.specs.Inner.{above, under}
 
 -- two precedences of one processor are ordered as their priorities
 order : (k a b : ℕ) → ltb (k * 256 + a) (k * 256 + b) ≡ ltb a b

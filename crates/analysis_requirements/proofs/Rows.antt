@@ -1,16 +1,10 @@
 -- What a section that was read names, and a table of how many sections there are by resource.
-use Rattle.folds.proofs.Ground.{ℕ, _+_, _<_, _≤_, Bool, cond, _&&_, and-comm, _≡_, sym, _∙_, List, eqb, getD, replicate, length-replicate, arith}
-use Rattle.folds.specs.Below.{countBelow}
+use Rattle.analysis_requirements.proofs.Ground.{ℕ, _+_, _<_, _≤_, Bool, cond, _&&_, and-comm, _≡_, sym, _∙_, List, eqb, getD, replicate}
+use Rattle.analysis_requirements.proofs.Ground.{length-replicate, arith, countBelow, sum-same, sum-count, count-bound, count-same, mostTasks}
+use Rattle.analysis_requirements.proofs.Ground.{mostResources, SectionRow, Plan, Valid, sectionBy, countOn, PerResource}
 use Rattle.folds.proofs.Tests.{cond-both}
-use Rattle.folds.proofs.Figures.{sum-same, sum-count, count-bound, count-same}
 use Rattle.folds.proofs.Arrays.{gatheredBelow, gathered-length, gathered-at}
 use Rattle.folds.proofs.Ranges.{cond-bound}
-use Rattle.sizes.specs.Sizes.{mostTasks, mostResources}
-use Rattle.plan_rules.specs.declared.SectionRow.{SectionRow}
-use Rattle.plan_reading.specs.Plan.{Plan, Valid}
-use Rattle.analysis_equations.specs.Sharing.{sectionBy}
-use Rattle.analysis_equations.specs.Blocking.{countOn}
-use Rattle.analysis_requirements.specs.Inner.{PerResource}
 
 -- section s of the plan, as it was read: of task j, on resource q
 pub record SectionRead (p : Plan) (s j q : ℕ) (row : SectionRow) : Type 0 where

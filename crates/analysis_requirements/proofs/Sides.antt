@@ -1,21 +1,16 @@
 -- What the tables tell of Equations 6 and 7 and of the requirement, and the bounds that the code's steps need.
-use Rattle.folds.proofs.Ground.{ℕ, _+_, _*_, _-_, _<_, _≤_, Bool, true, false, cond, _&&_, _≡_, refl, _∙_, List, getD, mul-le-mul, arith, lt-ltb, le-ltb}
+use Rattle.analysis_requirements.proofs.Ground.{ℕ, _+_, _*_, _-_, _<_, _≤_, Bool, true, false, cond, _&&_, _≡_, refl, _∙_, List, getD}
+use Rattle.analysis_requirements.proofs.Ground.{mul-le-mul, arith, lt-ltb, le-ltb, mostProcessors, mostSections, TaskRow, Plan, planOf}
+use Rattle.analysis_requirements.proofs.Ground.{Valid, valid-plan, processorOf, uses, global, ceilDiv, countOn, blocking1, blocking2}
+use Rattle.analysis_requirements.proofs.Ground.{fellowHolds, waitingOn, waitingSide, tolerance, slack, met, mostBudget, mostFellowHolds}
+use Rattle.analysis_requirements.proofs.Ground.{mostTurns, mostWaiting, Waiter, waitingAt, WaitingTold, comparison}
 use lib.IntN.{ℤ, pos, _-ℤ_}
 use lib.Signed.{leZ}
-use Rattle.sizes.specs.Sizes.{mostProcessors, mostSections}
-use Rattle.plan_rules.specs.declared.TaskRow.{TaskRow}
-use Rattle.plan_reading.specs.Plan.{Plan, planOf, Valid}
-use Rattle.plan_reading.proofs.Laws.{valid-plan}
-use Rattle.analysis_equations.specs.Sharing.{processorOf, uses, global}
 use Rattle.analysis_equations.specs.HoldTimes.{budget, waitTime}
-use Rattle.analysis_equations.specs.Blocking.{ceilDiv, countOn, blocking1, blocking2, fellowHolds, waitingOn, waitingSide}
-use Rattle.analysis_equations.specs.Requirement.{tolerance, slack, met}
-use Rattle.analysis_equations.specs.Bounds.{mostBudget, mostFellowHolds, mostTurns, mostWaiting}
 use Rattle.analysis_equations.proofs.Laws.{ceil-bound, used-at, budget-low, budget-high, count-on-high, fellow-high, uses-count, waiting-high}
 use Rattle.analysis_figures.specs.Figures.{budgetCell}
 use Rattle.analysis_requirements.specs.declared.Requirement.{Requirement}
 use Rattle.analysis_requirements.specs.Figures.{requirementOf}
-use Rattle.analysis_requirements.specs.Inner.{Waiter, waitingAt, WaitingTold, comparison}
 
 -- ── where there is nothing to wait for, and where there is ──
 module _ (p : Plan) (i q : ℕ) where

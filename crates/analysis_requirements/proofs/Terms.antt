@@ -1,18 +1,14 @@
 -- The table of terms as it is filled: a turn of each of the three loops, and what stands there in the end.
-use Rattle.folds.proofs.Ground.{ℕ, _+_, _%_, _<_, _≤_, max, Bool, true, false, cond, not, _≡_, refl, sym, ap, _∙_, List, eqb, length, getD, set}
-use Rattle.folds.proofs.Ground.{replicate, length-set, length-replicate, getD-replicate, getD-set-same, getD-set-other, arith, eq-eqb, ne-eqb, not-true, not-false}
-use Rattle.folds.specs.Below.{maxBelow, countBelow}
-use Rattle.folds.proofs.Figures.{max-step, count-step, count-bound}
+use Rattle.analysis_requirements.proofs.Ground.{ℕ, _+_, _%_, _<_, _≤_, max, Bool, true, false, cond, not, _≡_, refl, sym, ap, _∙_, List, eqb}
+use Rattle.analysis_requirements.proofs.Ground.{length, getD, set, replicate, length-set, length-replicate, getD-replicate, getD-set-same}
+use Rattle.analysis_requirements.proofs.Ground.{getD-set-other, arith, eq-eqb, ne-eqb, not-true, not-false, maxBelow, countBelow, max-step}
+use Rattle.analysis_requirements.proofs.Ground.{count-step, count-bound, mostTasks, mostResources, mostSections, SectionRow, Plan, Valid}
+use Rattle.analysis_requirements.proofs.Ground.{priorityOf, globalBy, global, globalCount, longestGlobal, longestCell, precedenceCell}
+use Rattle.analysis_requirements.proofs.Ground.{countCell, ceilingCell, sharedCell, termCount, precedenceOf, Terms, longestBelow}
+use Rattle.analysis_requirements.proofs.Ground.{ceilingBelow, TermsBelow}
 use Rattle.folds.proofs.Searches.{on-eq}
 use Rattle.folds.proofs.Ranges.{cond-bound}
-use Rattle.sizes.specs.Sizes.{mostTasks, mostResources, mostSections}
-use Rattle.plan_rules.specs.declared.SectionRow.{SectionRow}
-use Rattle.plan_reading.specs.Plan.{Plan, Valid}
-use Rattle.analysis_equations.specs.Sharing.{priorityOf, globalBy, global}
-use Rattle.analysis_equations.specs.Blocking.{globalCount, longestGlobal}
 use Rattle.analysis_equations.proofs.Laws.{ceiling-section}
-use Rattle.analysis_requirements.specs.Terms.{longestCell, precedenceCell, countCell, ceilingCell, sharedCell, termCount, precedenceOf, Terms}
-use Rattle.analysis_requirements.specs.Inner.{longestBelow, ceilingBelow, TermsBelow}
 use Rattle.analysis_requirements.proofs.Precedences.{precedence-priority}
 use Rattle.analysis_requirements.proofs.Rows.{SectionRead, names}
 
@@ -80,17 +76,21 @@ module _ (p : Plan) where
         ceiling = λ q lq. stored t (precedenceCell n) (ceilingCell q) fits (λ s. omega arith) (λ d. h .ceiling q lq);
       }
 
--- task j and resource q are the plan's
-record Cells (p : Plan) (j q : ℕ) : Type 0 where
-  task : j < p .tasks
-  low : j < mostTasks
-  resource : q < mostResources
+-- the cells of task j and resource q are there
+pub record Cells (p : Plan) (t : List ℕ) (j q : ℕ) : Type 0 where
+  pub long : length t ≡ termCount
+  pub task : j < p .tasks
+  pub low : j < mostTasks
+  pub resource : q < mostResources
 
 -- a turn of the loop over the sections: section s is of task j, on q
 module _ (p : Plan) (v : Valid p) {s j q : ℕ} {row : SectionRow} (x : SectionRead p s j q row) (t : List ℕ)
     (h : TermsBelow p mostResources (p .tasks) s t) where
-  cells : Cells p j q
-  cells = let n = names v refl (x .below) (x .told) in record { task = omega (arith, x .task); low = omega (arith, x .task); resource = omega (arith, x .resource) }
+  pub cells : Cells p t j q
+  cells =
+      let n = names v refl (x .below) (x .told) in
+      let row = x in
+      record { long = h .long; task = omega arith; low = omega arith; resource = omega arith }
 
   task-is : p .section s .task ≡ j
   task-is = sym (x .task ∙ rw (x .told))
@@ -116,7 +116,6 @@ module _ (p : Plan) (v : Valid p) {s j q : ℕ} {row : SectionRow} (x : SectionR
         → ((z ≡ longestCell j → ⊥) → (z ≡ countCell j → ⊥) → (z ≡ ceilingCell q → ⊥) → getD t z 0 ≡ w) → getD next z 0 ≡ w
     after z first second third other =
         let there = cells in
-        let long = h .long in
         stored (set (set t (longestCell j) a) (countCell j) b) (ceilingCell q) z (rw (length-set, length-set) (omega arith)) third
         (λ f. stored (set t (longestCell j) a) (countCell j) z (rw length-set (omega arith)) second
         (λ e. stored t (longestCell j) z (omega arith) first (λ d. other d e f)))

@@ -1,8 +1,5 @@
 -- The count comes from the table, the longest section from the call.
-use Rattle.folds.proofs.Ground.{_+_, _*_, _≡_, arith, needs}
-use Rattle.plan_reading.specs.Plan.{planOf}
-use Rattle.plan_reading.proofs.Laws.{valid-plan}
-use Rattle.analysis_equations.specs.Blocking.{blocking1}
+use Rattle.analysis_requirements.proofs.Ground.{_+_, _*_, _≡_, arith, needs, planOf, valid-plan, blocking1}
 use Rattle.analysis_equations.proofs.Laws.{blocking1-high}
 use Rattle.analysis_requirements.proofs.Blocking.{task-cells, blocking1-read}
 use Rattle.analysis_requirements.proofs.blocking1_of.Statement.{statement}

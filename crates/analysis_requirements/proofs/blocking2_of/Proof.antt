@@ -1,24 +1,14 @@
 -- The invariant: the sum over the tasks below `j`, each term in its range.
-use Rattle.folds.proofs.Ground.{ℕ, _+_, _*_, _≤_, _-_, _≡_, refl, _∙_, List, length, arith, needs}
-use Rattle.folds.specs.Below.{sumBelow}
-use Rattle.folds.proofs.Figures.{sum-step, sum-done}
-use Rattle.sizes.specs.Sizes.{mostTasks}
-use Rattle.plan_reading.specs.Plan.{planOf}
-use Rattle.plan_reading.proofs.Laws.{valid-plan}
-use Rattle.analysis_equations.specs.Blocking.{blocking2}
-use Rattle.analysis_equations.specs.Bounds.{mostBlocking1}
-use Rattle.analysis_requirements.specs.Terms.{termCount, countCell}
-use Rattle.analysis_requirements.specs.Inner.{TaskTerms}
-use Rattle.analysis_requirements.proofs.Blocking.{term, Term, task-cells, term-is}
+use Rattle.analysis_requirements.proofs.Ground.{ℕ, _+_, _*_, _≤_, _-_, _≡_, refl, _∙_, List, length, arith, needs, sumBelow, sum-step}
+use Rattle.analysis_requirements.proofs.Ground.{sum-done, mostTasks, planOf, valid-plan, blocking2, mostBlocking1, termCount, countCell}
+use Rattle.analysis_requirements.proofs.Ground.{TaskTerms}
+use Rattle.analysis_requirements.proofs.Blocking.{term, Term, Over, over, task-cells, term-is}
 use Rattle.analysis_requirements.proofs.blocking2_of.Statement.{statement}
 use Rattle.analysis_requirements.proofs.blocking2_of.Tie as tie
 
 record Turn (f t : List ℕ) (i n j sum : ℕ) : Type 0 where
   within : j ≤ n
-  all : n ≡ planOf f .tasks
-  few : n ≤ mostTasks
-  long : length t ≡ termCount
-  asked : TaskTerms f t i
+  over : Over f t i n (planOf f .tasks) mostTasks
   low : sum ≤ j * mostBlocking1
   told : sum ≡ sumBelow j (term (planOf f) i)
 
@@ -37,15 +27,7 @@ loop-holds c =
     let w = c .before .before in
     let h = start w .pre in
     let e = w .wide .ensures .same ∙ w .before .counts .ensures .tasks in
-    record {
-      within = omega arith;
-      all = e;
-      few = omega (arith, e, valid-plan _ (h .plan) .tasks);
-      long = h .terms .long;
-      asked = h;
-      low = omega arith;
-      told = refl;
-    }
+    record { within = omega arith; over = over h e (valid-plan _ (h .plan) .tasks); low = omega arith; told = refl }
 
 -- ── a term, and that it is small ──
 abbrev Here : Type 0
@@ -64,25 +46,17 @@ a-term : (c : Here)
     → Term (planOf (begun c .args .file .now)) (begun c .args .i) (turn c .loop .j) (c .smaller .result * chosen c .chosen .result)
 a-term c =
     let l = turn c .loop in
-    term-is (l .inv .asked) (l .j) (omega (arith, l .inv .all)) (c .smaller .ensures) (chosen c .chosen .ensures)
+    term-is (l .inv .over .asked) (l .j) (omega (arith, l .inv .over .all)) (c .smaller .ensures) (chosen c .chosen .ensures)
 
 loop-again : tie.Need-loop-again Inv-loop μ-loop
 loop-again c =
     let i = turn c .loop .inv in
     let x = a-term c in
-    record {
-      within = omega arith;
-      all = i .all;
-      few = i .few;
-      long = i .long;
-      asked = i .asked;
-      low = omega (arith, x .high);
-      told = sum-step _ _ (i .told) (x .told);
-    }
+    record { within = omega arith; over = i .over; low = omega (arith, x .high); told = sum-step _ _ (i .told) (x .told) }
 
 returns : tie.Need-returns Inv-loop μ-loop
 unfolding blocking2
-returns c = let l = c .before .loop in sum-done _ (l .j) _ (omega (arith, l .inv .all)) (l .inv .told)
+returns c = let l = c .before .loop in sum-done _ (l .j) _ (omega (arith, l .inv .over .all)) (l .inv .told)
 
 pub blocking2-of-spec : {M : Type 1} → statement M
 blocking2-of-spec =

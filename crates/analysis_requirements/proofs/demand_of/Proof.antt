@@ -1,8 +1,5 @@
 -- The invariant: `sum` is the demand of the first k tasks. Each adds less than 2^32.
-use Rattle.folds.proofs.Ground.{_≤_, _-_, _≡_, refl, getD, arith}
-use Rattle.folds.specs.Below.{sumBelow}
-use Rattle.folds.proofs.Figures.{sum-step, sum-done}
-use Rattle.analysis_requirements.specs.Inner.{demandOf}
+use Rattle.analysis_requirements.proofs.Ground.{_≤_, _-_, _≡_, refl, getD, arith, sumBelow, sum-step, sum-done, demandOf}
 use Rattle.analysis_requirements.proofs.Demand.{DemandOfOne, demand-one, demand-high}
 use Rattle.analysis_requirements.proofs.demand_of.Statement.{statement}
 use Rattle.analysis_requirements.proofs.demand_of.Tie as tie

@@ -1,5 +1,5 @@
 -- One pass after the other.
-use Rattle.folds.proofs.Ground.{needs}
+use Rattle.analysis_requirements.proofs.Ground.{needs}
 use Rattle.analysis_requirements.proofs.fill_terms.Statement.{statement}
 use Rattle.analysis_requirements.proofs.fill_terms.Tie as tie
 

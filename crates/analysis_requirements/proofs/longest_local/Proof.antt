@@ -1,24 +1,15 @@
 -- The invariant: `best` is the longest blocking section below `s`.
-use Rattle.folds.proofs.Ground.{ℕ, _<_, _≤_, _-_, _≡_, refl, List, length, arith, needs}
-use Rattle.folds.specs.Below.{maxBelow}
-use Rattle.folds.proofs.Figures.{max-step, max-done}
-use Rattle.sizes.specs.Sizes.{mostResources, mostSections}
-use Rattle.plan_reading.specs.Plan.{planOf}
-use Rattle.plan_reading.proofs.Laws.{valid-plan}
-use Rattle.analysis_equations.specs.Blocking.{longestLocal}
-use Rattle.analysis_requirements.specs.Terms.{termCount}
-use Rattle.analysis_requirements.specs.Inner.{TaskTerms}
+use Rattle.analysis_requirements.proofs.Ground.{ℕ, _<_, _≤_, _-_, _≡_, refl, List, length, arith, needs, maxBelow, max-step, max-done}
+use Rattle.analysis_requirements.proofs.Ground.{mostResources, mostSections, planOf, valid-plan, longestLocal, termCount, TaskTerms}
 use Rattle.analysis_requirements.proofs.Rows.{Names, names}
-use Rattle.analysis_requirements.proofs.Blocking.{local-read, localBelow}
+use Rattle.analysis_requirements.proofs.Blocking.{localBelow, Over, over, local-read}
 use Rattle.analysis_requirements.proofs.longest_local.Statement.{statement}
 use Rattle.analysis_requirements.proofs.longest_local.Tie as tie
 
 record Turn (f t : List ℕ) (i n s best : ℕ) : Type 0 where
   within : s ≤ n
-  all : n ≡ planOf f .sections
   few : n ≤ mostSections
-  long : length t ≡ termCount
-  asked : TaskTerms f t i
+  over : Over f t i n (planOf f .sections) mostSections
   told : best ≡ localBelow (planOf f) i s
 
 abbrev Inv-loop : tie.InvT-loop
@@ -34,8 +25,8 @@ loop-holds : tie.Need-loop-holds Inv-loop μ-loop
 unfolding maxBelow
 loop-holds c =
     let h = start (c .before) .pre in
-    let e = c .before .before .counts .ensures .sections in
-    record { within = omega arith; all = e; few = omega (arith, valid-plan _ (h .plan) .sections); long = h .terms .long; asked = h; told = refl }
+    let all = over h (c .before .before .counts .ensures .sections) (valid-plan _ (h .plan) .sections) in
+    record { within = omega arith; few = all .few; over = all; told = refl }
 
 -- ── where the section is read, and its resource ──
 abbrev Row : Type 0
@@ -45,7 +36,7 @@ abbrev turn : Row → tie.At-loop Inv-loop μ-loop
 turn r = r .before .before
 
 named : (r : Row) → Names (planOf (start (turn r .before .before) .args .file .now)) (r .section .result)
-named r = let i = turn r .loop .inv in names (valid-plan _ (i .asked .plan)) (i .all) (r .before .loop-test .taken) (r .section .ensures)
+named r = let i = turn r .loop .inv .over in names (valid-plan _ (i .asked .plan)) (i .all) (r .before .loop-test .taken) (r .section .ensures)
 
 abbrev Read : Type 0
 Read = tie.After-wide2 Inv-loop μ-loop
@@ -66,27 +57,25 @@ loop-again c =
     let i = l .loop .inv in
     record {
       within = omega arith;
-      all = i .all;
       few = i .few;
-      long = i .long;
-      asked = i .asked;
+      over = i .over;
       told = max-step _ _ (i .told)
-          (rw (c .before .chosen .ensures, local-read (i .asked) _ (low-resource r), i .asked .terms .ceiling _ (low-resource r), h .half .ensures .same,
+          (rw (c .before .chosen .ensures, local-read (i .over .asked) _ (low-resource r), i .over .asked .terms .ceiling _ (low-resource r), h .half .ensures .same,
           r .wide2 .ensures .same, r .before .task2 .ensures, l .before .task .ensures, r .before .before .wide .ensures .same, s .section .ensures))
           (c .longer .ensures);
     }
 
 returns : tie.Need-returns Inv-loop μ-loop
 unfolding longestLocal
-returns c = let l = c .before .loop in max-done _ (l .s) _ (omega (arith, l .inv .all)) (l .inv .told)
+returns c = let l = c .before .loop in max-done _ (l .s) _ (omega (arith, l .inv .over .all)) (l .inv .told)
 
 pub longest-local-spec : {M : Type 1} → statement M
 longest-local-spec =
     tie.close
     (tie.spec
     Inv-loop μ-loop (λ c κs. search needs) (λ c. omega arith) (λ c κs. search needs) loop-holds
-    (λ c κs. let i = c .before .loop .inv in (i .asked .plan, omega (arith, i .all))) (λ c κs. search needs)
-    (λ c κs. let n = named (c .before) in (turn (c .before) .loop .inv .asked .plan, omega arith))
+    (λ c κs. let i = c .before .loop .inv .over in (i .asked .plan, omega (arith, i .all))) (λ c κs. search needs)
+    (λ c κs. let n = named (c .before) in (turn (c .before) .loop .inv .over .asked .plan, omega arith))
     (λ c κs. search needs) (λ c. omega arith) (λ c. omega arith) (λ c. omega (arith, low-resource (c .before)))
     (λ c κs. search needs) (λ c. omega arith) (λ c. omega arith) (λ c. omega (arith, low-resource (c .before .before .before)))
     (λ c κs. search needs) (λ c κs. search needs) (λ c. omega arith) (λ c. omega arith) loop-again returns)

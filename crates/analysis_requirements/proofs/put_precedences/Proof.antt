@@ -1,9 +1,6 @@
 -- The invariant: the precedences of the tasks below `j` are there.
-use Rattle.folds.proofs.Ground.{ℕ, _≤_, _-_, _≡_, sym, _∙_, List, arith, needs}
-use Rattle.sizes.specs.Sizes.{mostTasks, mostResources}
-use Rattle.plan_reading.specs.Plan.{planOf}
-use Rattle.plan_reading.proofs.Laws.{valid-plan}
-use Rattle.analysis_requirements.specs.Inner.{Filling}
+use Rattle.analysis_requirements.proofs.Ground.{ℕ, _≤_, _-_, _≡_, sym, _∙_, List, arith, needs, mostTasks, mostResources, planOf, valid-plan}
+use Rattle.analysis_requirements.proofs.Ground.{Filling}
 use Rattle.analysis_requirements.proofs.Terms.{terms-precedence}
 use Rattle.analysis_requirements.proofs.put_precedences.Statement.{statement}
 use Rattle.analysis_requirements.proofs.put_precedences.Tie as tie

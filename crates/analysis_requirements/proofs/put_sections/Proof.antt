@@ -1,12 +1,8 @@
 -- The invariant: the table tells of the sections below `s`.
-use Rattle.folds.proofs.Ground.{ℕ, _<_, _≤_, _-_, _≡_, refl, sym, _∙_, List, length, length-set, arith, needs}
-use Rattle.sizes.specs.Sizes.{mostTasks, mostResources}
-use Rattle.plan_reading.specs.Plan.{planOf}
-use Rattle.plan_reading.proofs.Laws.{valid-plan}
-use Rattle.analysis_requirements.specs.Terms.{termCount}
-use Rattle.analysis_requirements.specs.Inner.{Filling}
-use Rattle.analysis_requirements.proofs.Rows.{SectionRead, names}
-use Rattle.analysis_requirements.proofs.Terms.{count-low, terms-section, terms-done}
+use Rattle.analysis_requirements.proofs.Ground.{ℕ, _<_, _≤_, _-_, _≡_, refl, sym, _∙_, List, length, length-set, arith, needs, mostTasks}
+use Rattle.analysis_requirements.proofs.Ground.{mostResources, planOf, valid-plan, termCount, Filling}
+use Rattle.analysis_requirements.proofs.Rows.{SectionRead}
+use Rattle.analysis_requirements.proofs.Terms.{Cells, cells, count-low, terms-section, terms-done}
 use Rattle.analysis_requirements.proofs.put_sections.Statement.{statement}
 use Rattle.analysis_requirements.proofs.put_sections.Tie as tie
 
@@ -43,18 +39,8 @@ read r =
       resource = r .wide2 .ensures .same;
     }
 
--- the cells that the section names are there
-record There (t : List ℕ) (j q : ℕ) : Type 0 where
-  long : length t ≡ termCount
-  task : j < mostTasks
-  resource : q < mostResources
-
-there : (r : Read) → There (turn r .loop .terms) (r .before .wide .result) (r .wide2 .result)
-there r =
-    let i = turn r .loop .inv in
-    let row = r .before .before in
-    let n = names (valid-plan _ (i .table .plan)) (i .all) (row .before .loop-test .taken) (row .section .ensures) in
-    record { long = i .table .terms .long; task = omega arith; resource = omega arith }
+there : (r : Read) → Cells (planOf (file r)) (turn r .loop .terms) (r .before .wide .result) (r .wide2 .result)
+there r = let t = turn r .loop .inv .table in cells _ (valid-plan _ (t .plan)) (read r) _ (t .terms)
 
 -- ── once the longest is known, and once all is ──
 abbrev longest : tie.After-longer Inv-loop μ-loop → Read

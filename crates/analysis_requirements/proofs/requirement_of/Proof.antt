@@ -1,7 +1,6 @@
 -- Each figure comes from its call; the tolerance is read back from its bits.
-use Rattle.folds.proofs.Ground.{_∙_, arith, needs}
+use Rattle.analysis_requirements.proofs.Ground.{_∙_, arith, needs, valid-plan}
 use Rattle.folds.proofs.SignedLaws.{back}
-use Rattle.plan_reading.proofs.Laws.{valid-plan}
 use Rattle.analysis_equations.proofs.Laws.{tolerance-mag}
 use Rattle.analysis_requirements.proofs.Sides.{requirement-told}
 use Rattle.analysis_requirements.proofs.requirement_of.Statement.{statement}

@@ -1,6 +1,5 @@
 -- The calls give the numbers of Equation 6, a budget of at least a tick among them.
-use Rattle.folds.proofs.Ground.{arith, needs}
-use Rattle.plan_reading.specs.Plan.{planOf}
+use Rattle.analysis_requirements.proofs.Ground.{arith, needs, planOf}
 use Rattle.analysis_requirements.proofs.Sides.{Waits, processor-low, waits}
 use Rattle.analysis_requirements.proofs.waiting_on.Statement.{statement}
 use Rattle.analysis_requirements.proofs.waiting_on.Tie as tie

@@ -1,13 +1,6 @@
 -- The invariant: the sum over the resources below `q`, each wait in its range.
-use Rattle.folds.proofs.Ground.{ℕ, _*_, _<_, _≤_, _-_, _≡_, refl, _∙_, List, arith, needs}
-use Rattle.folds.specs.Below.{sumBelow}
-use Rattle.folds.proofs.Figures.{sum-step, sum-done}
-use Rattle.sizes.specs.Sizes.{mostResources}
-use Rattle.plan_reading.specs.Plan.{planOf}
-use Rattle.plan_reading.proofs.Laws.{valid-plan}
-use Rattle.analysis_equations.specs.Blocking.{waitingSide}
-use Rattle.analysis_equations.specs.Bounds.{mostWaiting}
-use Rattle.analysis_requirements.specs.Inner.{TaskTables, waitingAt}
+use Rattle.analysis_requirements.proofs.Ground.{ℕ, _*_, _<_, _≤_, _-_, _≡_, refl, _∙_, List, arith, needs, sumBelow, sum-step, sum-done}
+use Rattle.analysis_requirements.proofs.Ground.{mostResources, planOf, valid-plan, waitingSide, mostWaiting, TaskTables, waitingAt}
 use Rattle.analysis_requirements.proofs.waiting_side.Statement.{statement}
 use Rattle.analysis_requirements.proofs.waiting_side.Tie as tie
 
