@@ -5,7 +5,7 @@ use Rattle.folds.specs.Bytes.{placedBelow}
 use Rattle.folds.proofs.Tests.{code-zero, code-next}
 use Rattle.folds.proofs.Arrays.{by-eq, placed-same}
 use Rattle.sizes.specs.Sizes.{mostTasks, mostResources}
-use Rattle.refusals.specs.Outcomes.{outcome}
+use Rattle.refusals.specs.Outcomes.{Outcome, outcome}
 use Rattle.plan_reading.specs.Plan.{Plan, planOf, Checked}
 use Rattle.plan_reading.proofs.Laws.{valid-plan}
 use Rattle.plan.specs.Acceptance.{refusal}
@@ -50,9 +50,9 @@ module _ (f : List ℕ) (n : ℕ) where
       by-eq (λ (b : Bool). cond b n (refusal f) ≡ 0 → (refusal f ≡ 0) × (n ≡ 0)) (refusal f) 0 (λ q h. (q, h)) (λ d h. absurd (d h))
 
 -- what an answer tells, by what it tells where something is given and where it is refused
-answer-told : {A B : Type 0} (tell : A → B) (says : Bool → B) (k : ℕ) {given refused : A}
-    → (k ≡ 0 → tell given ≡ says true) → tell refused ≡ says false → tell (cond (eqb k 0) given refused) ≡ says (eqb k 0)
-answer-told tell says k {given} {refused} g r = by-eq (λ (b : Bool). tell (cond b given refused) ≡ says b) k 0 g (λ d. r)
+answer-told : {A B : Type 0} (tell : A → B) (says : Bool → B) (k : ℕ) {a given refused : A} → a ≡ cond (eqb k 0) given refused
+    → (k ≡ 0 → tell given ≡ says true) → tell refused ≡ says false → tell a ≡ says (eqb k 0)
+answer-told tell says k {given = given} {refused = refused} e g r = ap tell e ∙ by-eq (λ (b : Bool). tell (cond b given refused) ≡ says b) k 0 g (λ d. r)
 
 -- a figure given, and one refused: both things that a contract says of the answer
 abbrev FigureTold : ℕ → ℕ → Figure → Type 0
@@ -60,8 +60,7 @@ FigureTold n v r = (r ≡ figure n v) × (figureOutcome r ≡ outcome n (v ∷ [
 
 figure-told : (n v : ℕ) {r : Figure} → r ≡ figure n v → FigureTold n v r
 unfolding figure
-figure-told n v e =
-    (e, ap figureOutcome e ∙ answer-told figureOutcome (λ (b : Bool). record { number = n; values = cond b (v ∷ []) [] }) n (λ q. rw q) refl)
+figure-told n v e = (e, answer-told figureOutcome (λ (b : Bool). record { number = n; values = cond b (v ∷ []) [] }) n e (λ q. rw q) refl)
 
 pub figure-given : {k n v w : ℕ} → k ≡ n → k ≡ 0 → w ≡ v → FigureTold n v (Given w)
 unfolding figure
@@ -98,7 +97,9 @@ unfolding shareRefusal
 share-clear f k q e z b =
     let r = reading-clear f (processorCode (planOf f) k q) (sym e ∙ z) in
     let there = processor-clear (planOf f) k q (r .1) in
-    record { plan = checked-file refl (r .0) b; processor = there .0; resource = there .1 }
+    let plan = checked-file refl (r .0) b in
+    let v = valid-plan f plan in
+    record { plan = plan; processor = omega (arith, there .0); resource = omega (arith, there .1) }
 
 -- the hold times of a table of figures: x stands in the row of x / mostResources at x % mostResources
 holds-list : (p : Plan) (t : List ℕ) → Figures p t
@@ -138,8 +139,7 @@ pub requirement-told : (k : ℕ) (r : Requirement) {a : RequirementAnswer} → a
     → (a ≡ requirementGiven k r) × (requirementOutcome a ≡ signedAnswered k (requirementValues r))
 unfolding requirementGiven
 requirement-told k r e =
-    (e, ap requirementOutcome e
-    ∙ answer-told requirementOutcome (λ (b : Bool). record { number = k; values = cond b (requirementValues r) [] }) k (λ q. rw q) refl)
+    (e, answer-told requirementOutcome (λ (b : Bool). record { number = k; values = cond b (requirementValues r) [] }) k e (λ q. rw q) refl)
 
 -- how many global sections a task has, by the table
 module _ {f figures t : List ℕ} (h : Prepared f figures t) {i : ℕ} (l : i < planOf f .tasks) where
@@ -179,9 +179,8 @@ module _ (f : List ℕ) where
   admission-told : {a : AdmissionAnswer} → a ≡ admissionAnswer f → AdmissionTold a
   unfolding admissionAnswer
   admission-told e =
-      (e, ap admissionOutcome e
-      ∙ answer-told admissionOutcome (λ (b : Bool). record { number = refusal f; values = cond b (cond (admitted (planOf f)) 1 0 ∷ []) [] }) (refusal f)
-      (λ q. rw q) refl)
+      let says : Bool → Outcome = λ (b : Bool). record { number = refusal f; values = cond b (cond (admitted (planOf f)) 1 0 ∷ []) [] } in
+      (e, answer-told admissionOutcome says (refusal f) e (λ q. rw q) refl)
 
   pub admission-refused : {k : ℕ} → k ≡ refusal f → (k ≡ 0 → ⊥) → AdmissionTold (admissions.Refused k)
   unfolding admissionAnswer

@@ -1,7 +1,6 @@
 -- A task and a resource that are asked about: what is refused, and what is known where nothing is.
 use Rattle.folds.proofs.Ground.{ℕ, _<_, _≡_, sym, _∙_, List, getD, arith}
-use Rattle.sizes.specs.Sizes.{mostTasks, mostResources}
-use Rattle.plan_reading.specs.Plan.{Plan, planOf}
+use Rattle.plan_reading.specs.Plan.{planOf}
 use Rattle.plan.specs.Acceptance.{refusal}
 use Rattle.plan_reading.proofs.Laws.{valid-plan}
 use Rattle.analysis_equations.specs.HoldTimes.{holdTime}
@@ -29,19 +28,10 @@ user-read f tag q {figures = figures} {r = r} en z k u =
       code = u .0 ∙ sym (reading-holds f (useCode (planOf f) tag q) en z);
       user = λ e.
           let h : Sharing (planOf f) (r .task) q = rw (u .1) (use-clear (planOf f) tag q (sym (u .0) ∙ e)) in
-          record { known = k; task = u .1; below = h .task; resource = h .resource; used = h .used; shared = h .shared };
+          let v = valid-plan f (k .plan) in
+          record { known = k; task = u .1; below = h .task; low = omega arith; resource = omega arith; used = h .used; shared = h .shared };
     }
 
--- what is known of a user: its place in the tables is there, and holds its hold time
-module _ {f figures : List ℕ} {tag q i : ℕ} (u : Uses f tag q figures i) where
-  abbrev plan : Plan
-  plan = planOf f
-
-  pub user-task : i < mostTasks
-  user-task = omega (arith, u .below, valid-plan f (u .known .plan) .tasks)
-
-  pub user-resource : q < mostResources
-  user-resource = omega (arith, u .resource, valid-plan f (u .known .plan) .resources)
-
-  pub user-hold : getD figures (holdCell i q) 0 ≡ holdTime plan (taskNumber plan tag) q
-  user-hold = u .known .figures .hold i q user-task user-resource ∙ hold-shared plan i q (u .shared) (u .used) ∙ rw (u .task)
+-- its place in the table of figures holds its hold time
+pub user-hold : {f figures : List ℕ} {tag q i : ℕ} → Uses f tag q figures i → getD figures (holdCell i q) 0 ≡ holdTime (planOf f) (taskNumber (planOf f) tag) q
+user-hold {f} {q = q} {i = i} u = u .known .figures .hold i q (u .low) (u .resource) ∙ hold-shared (planOf f) i q (u .shared) (u .used) ∙ rw (u .task)

@@ -25,8 +25,8 @@ module _ {periods times : List ℕ} {m t : ℕ} (h : TimedTo periods times m t) 
   pub demand-high : (k : ℕ) → k ≤ m → demandOf periods times k t ≤ mostDemand
   unfolding demandOf
   demand-high k l =
-      omega (arith, h .tasks .few,
-      sum-bound k mostDemandOfOne (λ j. ceilDiv t (getD periods j 0) * getD times j 0) (λ j lt. demand-one j (omega arith) .high))
+      let sum = sum-bound k mostDemandOfOne (λ j. ceilDiv t (getD periods j 0) * getD times j 0) (λ j lt. demand-one j (omega arith) .high) in
+      omega (arith, h .tasks .few)
 
 -- what `own` and that demand leave of a time t + 1
 abbrev pub leftOf : List ℕ → List ℕ → ℕ → ℕ → ℕ → ℤ

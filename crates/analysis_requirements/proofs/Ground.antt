@@ -1,5 +1,5 @@
 -- The names that the proofs of this crate share, by one module.
-pub use Rattle.folds.proofs.Ground.{Bool, List, _%_, _&&_, _*_, _+_, _-_, _/_, _<_, _∙_, _≡_, _≤_, and-comm, ap, arith, cond, eq-eqb, eqb, false}
+pub use Rattle.folds.proofs.Ground.{Bool, List, _%_, _&&_, _*_, _+_, _-_, _/_, _<_, _∙_, _≡_, _≤_, and-comm, and-false, ap, arith, cond, eq-eqb, eqb, false}
 pub use Rattle.folds.proofs.Ground.{getD, getD-replicate, getD-set-other, getD-set-same, le-ltb, length, length-replicate, length-set, lt-ltb, ltb}
 pub use Rattle.folds.proofs.Ground.{ltb-true, max, min, mul-le-mul, ne-eqb, needs, not, not-false, not-true, refl, replicate, set, sym, true, ℕ}
 pub use Rattle.folds.proofs.Ground.{⊎-elim}

@@ -1,5 +1,5 @@
 -- What the tables tell of Equations 6 and 7 and of the requirement, and the bounds that the code's steps need.
-use Rattle.analysis_requirements.proofs.Ground.{ℕ, _+_, _*_, _-_, _<_, _≤_, Bool, true, false, cond, _&&_, _≡_, refl, _∙_, List, getD}
+use Rattle.analysis_requirements.proofs.Ground.{ℕ, _+_, _*_, _-_, _<_, _≤_, Bool, true, false, cond, and-false, _&&_, _≡_, refl, _∙_, List, getD}
 use Rattle.analysis_requirements.proofs.Ground.{mul-le-mul, arith, lt-ltb, le-ltb, mostProcessors, mostSections, TaskRow, Plan, planOf}
 use Rattle.analysis_requirements.proofs.Ground.{Valid, valid-plan, processorOf, uses, global, ceilDiv, countOn, blocking1, blocking2}
 use Rattle.analysis_requirements.proofs.Ground.{fellowHolds, waitingOn, waitingSide, tolerance, slack, met, mostBudget, mostFellowHolds}
@@ -18,11 +18,7 @@ module _ (p : Plan) (i q : ℕ) where
   waiting-local g = record { told = rw g; high = omega arith }
 
   pub waiting-unused : {n : ℕ} → n ≡ countOn p i q → n ≡ 0 → WaitingTold p i q 0
-  waiting-unused e z = record { told = rw (uses-count p i q, le-ltb 0 (countOn p i q) (omega arith)) (go (global p q)); high = omega arith }
-    where
-      go : (g : Bool) → 0 ≡ cond (g && false) (waitingOn p i q) 0
-      go true = refl
-      go false = refl
+  waiting-unused e z = record { told = rw (uses-count p i q, le-ltb 0 (countOn p i q) (omega arith), and-false); high = omega arith }
 
   pub waiting-used : {n : ℕ} → n ≡ countOn p i q → (n ≡ 0 → ⊥) → uses p i q ≡ true
   waiting-used {n} e z = rw (uses-count p i q) (lt-ltb 0 (countOn p i q) (omega arith))

@@ -129,7 +129,7 @@ module _ (p : Plan) (v : Valid p) {s j q : ℕ} {row : SectionRow} (x : SectionR
         let there = cells in
         let ticks : y ≡ cond (globalBy p j s) (p .section s .length) 0 = ey ∙ rw (flag, flag-set, x .told, eq-eqb (p .section s .task) j task-is) in
         let priority : getD t (precedenceCell j) 0 % 256 ≡ priorityOf p (p .section s .task)
-            = ap (λ (z : ℕ). z % 256) (h .precedence j (there .task) (there .low)) ∙ precedence-priority p v j (there .task) ∙ rw task-is in
+        = ap (λ (z : ℕ). z % 256) (h .precedence j (there .task) (there .low)) ∙ precedence-priority p v j (there .task) ∙ rw task-is in
         record {
           long = rw (length-set, length-set, length-set) (h .long);
           shared = λ z m lz. after (sharedCell z) (λ e. omega arith) (λ e. omega arith) (λ e. omega arith) (λ d e f. h .shared z m lz);

@@ -1,7 +1,7 @@
 -- The figure stands in the table, at the place of the task and the resource.
 use Rattle.folds.proofs.Ground.{_∙_, arith, needs}
 use Rattle.analysis.proofs.Told.{figure-given, figure-refused}
-use Rattle.analysis.proofs.Users.{user-task, user-resource, user-hold}
+use Rattle.analysis.proofs.Users.{user-hold}
 use Rattle.analysis.proofs.hold_time.Statement.{statement}
 use Rattle.analysis.proofs.hold_time.Tie as tie
 
@@ -13,7 +13,7 @@ hold-at-requires : tie.Need-hold-at-requires
 hold-at-requires c κs =
     let e = c .before .before in
     let u = found e .user-of .ensures .user (e .if1 .left) in
-    record { long = u .known .figures .long; row = user-task u; resource = rw (c .wide .ensures .same) (user-resource u) }
+    record { long = u .known .figures .long; row = u .low; resource = omega arith }
 
 returns-2 : tie.Need-returns-2
 returns-2 c =

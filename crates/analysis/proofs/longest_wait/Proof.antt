@@ -1,7 +1,6 @@
 -- The formula's figure, of the task and the resource that were asked about.
 use Rattle.folds.proofs.Ground.{_∙_, needs}
 use Rattle.analysis.proofs.Told.{figure-given, figure-refused}
-use Rattle.analysis.proofs.Users.{user-resource}
 use Rattle.analysis.proofs.longest_wait.Statement.{statement}
 use Rattle.analysis.proofs.longest_wait.Tie as tie
 
@@ -13,7 +12,7 @@ longest-of-requires : tie.Need-longest-of-requires
 longest-of-requires c κs =
     let e = c .before .before in
     let u = found e .user-of .ensures .user (e .if1 .left) in
-    rw (c .wide .ensures .same) (record { known = u .known; task = u .below; resource = user-resource u; shared = u .shared })
+    rw (c .wide .ensures .same) (record { known = u .known; task = u .below; resource = u .resource; shared = u .shared })
 
 returns-2 : tie.Need-returns-2
 returns-2 c =

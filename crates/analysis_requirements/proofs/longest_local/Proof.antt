@@ -60,8 +60,9 @@ loop-again c =
       few = i .few;
       over = i .over;
       told = max-step _ _ (i .told)
-          (rw (c .before .chosen .ensures, local-read (i .over .asked) _ (low-resource r), i .over .asked .terms .ceiling _ (low-resource r), h .half .ensures .same,
-          r .wide2 .ensures .same, r .before .task2 .ensures, l .before .task .ensures, r .before .before .wide .ensures .same, s .section .ensures))
+          (rw (c .before .chosen .ensures, local-read (i .over .asked) _ (low-resource r), i .over .asked .terms .ceiling _ (low-resource r))
+          (rw (h .half .ensures .same, r .wide2 .ensures .same, r .before .task2 .ensures, l .before .task .ensures)
+          (rw (r .before .before .wide .ensures .same, s .section .ensures))))
           (c .longer .ensures);
     }
 
