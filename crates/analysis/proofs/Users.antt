@@ -1,5 +1,5 @@
 -- A task and a resource that are asked about: what is refused, and what is known where nothing is.
-use Rattle.folds.proofs.Ground.{ℕ, _<_, _≡_, sym, _∙_, List, getD, arith}
+use Rattle.folds.proofs.Ground.{ℕ, _≡_, sym, _∙_, List, getD, arith}
 use Rattle.plan_reading.specs.Plan.{planOf}
 use Rattle.plan.specs.Acceptance.{refusal}
 use Rattle.plan_reading.proofs.Laws.{valid-plan}

@@ -3,7 +3,7 @@ use Rattle.analysis_requirements.proofs.Ground.{ℕ, _+_, _*_, _<_, _�
 use Rattle.analysis_requirements.proofs.Ground.{getD, mul-le-mul, arith, maxBelow, mostTasks, mostResources, mostSections, mostSectionTicks}
 use Rattle.analysis_requirements.proofs.Ground.{Plan, planOf, Valid, valid-plan, global, lower, globalCount, blocks, longestLocal, blocking1}
 use Rattle.analysis_requirements.proofs.Ground.{longestGlobal, mostBlocking1, longestCell, precedenceCell, countCell, sharedCell, termCount}
-use Rattle.analysis_requirements.proofs.Ground.{under, TaskTerms}
+use Rattle.analysis_requirements.proofs.Ground.{Prepared, under, TaskTerms}
 use Rattle.folds.proofs.Ranges.{cond-bound}
 use Rattle.analysis_equations.proofs.Laws.{count-high, global-high}
 use Rattle.analysis_requirements.proofs.Precedences.{table-under}
@@ -22,12 +22,6 @@ pub record Term (p : Plan) (i j x : ℕ) : Type 0 where
   pub told : x ≡ term p i j
   pub high : x ≤ mostBlocking1
 
--- where task i stands in the table, and what its count is at most
-pub record TaskCells (t : List ℕ) (i : ℕ) : Type 0 where
-  pub long : length t ≡ termCount
-  pub task : i < mostTasks
-  pub count : getD t (countCell i) 0 ≤ mostSections
-
 -- for task i, a loop over the n tasks or sections of the plan, which has m of them and can have `most`: what holds all along
 pub record Over (f t : List ℕ) (i n m most : ℕ) : Type 0 where
   pub asked : TaskTerms f t i
@@ -35,17 +29,18 @@ pub record Over (f t : List ℕ) (i n m most : ℕ) : Type 0 where
   pub few : n ≤ most
   pub long : length t ≡ termCount
 
+pub task-terms : {f figures t : List ℕ} {i : ℕ} → Prepared f figures t × (i < planOf f .tasks) → TaskTerms f t i
+task-terms {f} {i = i} h =
+    let v = valid-plan f (h .0 .known .plan) in
+    let low : i < mostTasks = omega (arith, h .1) in
+    record { plan = h .0 .known .plan; terms = h .0 .terms; task = h .1; low = low; few = rw (h .0 .terms .count i low) (count-high (planOf f) v i) }
+
 module _ {f t : List ℕ} {i : ℕ} (h : TaskTerms f t i) where
   abbrev plan : Plan
   plan = planOf f
 
   valid : Valid plan
   valid = valid-plan f (h .plan)
-
-  pub task-cells : TaskCells t i
-  task-cells =
-      let low : i < mostTasks = omega (arith, h .task, valid .tasks) in
-      record { long = h .terms .long; task = low; count = rw (h .terms .count i low) (count-high plan valid i) }
 
   pub over : {n m most : ℕ} → n ≡ m → m ≤ most → Over f t i n m most
   over e l = record { asked = h; all = e; few = omega arith; long = h .terms .long }
@@ -57,7 +52,7 @@ module _ {f t : List ℕ} {i : ℕ} (h : TaskTerms f t i) where
   -- Equation 4
   pub blocking1-read : {n x : ℕ} → n ≡ getD t (countCell i) 0 → x ≡ longestLocal plan i → (n + 1) * x ≡ blocking1 plan i
   unfolding blocking1
-  blocking1-read e g = rw (e, h .terms .count i (task-cells .task), g)
+  blocking1-read e g = rw (e, h .terms .count i (h .low), g)
 
   module _ (j : ℕ) (lj : j < plan .tasks) {s y : ℕ} (es : s ≡ min (getD t (countCell i) 0 + 1) (getD t (countCell j) 0))
       (ey : y ≡ cond (under (getD t (precedenceCell i) 0) (getD t (precedenceCell j) 0)) (getD t (longestCell j) 0) 0) where
@@ -65,7 +60,7 @@ module _ {f t : List ℕ} {i : ℕ} (h : TaskTerms f t i) where
     low = omega (arith, valid .tasks)
 
     shorter : s ≡ min (globalCount plan i + 1) (globalCount plan j)
-    shorter = es ∙ rw (h .terms .count i (task-cells .task), h .terms .count j low)
+    shorter = es ∙ rw (h .terms .count i (h .low), h .terms .count j low)
 
     longest : y ≡ cond (lower plan i j) (longestGlobal plan j) 0
     longest = ey ∙ rw (table-under plan valid t (h .terms) i j (h .task) lj, h .terms .longest j low)

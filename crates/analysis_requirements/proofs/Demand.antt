@@ -1,8 +1,8 @@
 -- Laws of the demand of the tasks above a task.
 use Rattle.analysis_requirements.proofs.Ground.{ℕ, _+_, _*_, _-_, _<_, _≤_, true, false, _≡_, refl, ap, _∙_, List, getD, set, replicate}
 use Rattle.analysis_requirements.proofs.Ground.{mul-le-mul, arith, countBelow, sum-bound, mostTasks, TaskRow, Plan, Valid, higher, ceilDiv}
-use Rattle.analysis_requirements.proofs.Ground.{demand, left, tolerance, mostPeriod, mostDemandOfOne, mostDemand, HigherTasks, Timed}
-use Rattle.analysis_requirements.proofs.Ground.{TimedTo, Scanned, demandOf}
+use Rattle.analysis_requirements.proofs.Ground.{demand, left, tolerance, mostPeriod, mostDemandOfOne, mostDemand, HigherTasks, Timed, TimedTo}
+use Rattle.analysis_requirements.proofs.Ground.{Scanned, demandOf}
 use lib.IntN.{ℤ, pos, _-ℤ_}
 use Rattle.folds.specs.Packed.{packedBelow}
 use Rattle.folds.specs.Signed.{maxZ, greatestTo}

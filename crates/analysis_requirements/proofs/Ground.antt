@@ -1,7 +1,7 @@
 -- The names that the proofs of this crate share, by one module.
-pub use Rattle.folds.proofs.Ground.{Bool, List, _%_, _&&_, _*_, _+_, _-_, _/_, _<_, _∙_, _≡_, _≤_, and-comm, and-false, ap, arith, cond, eq-eqb, eqb, false}
-pub use Rattle.folds.proofs.Ground.{getD, getD-replicate, getD-set-other, getD-set-same, le-ltb, length, length-replicate, length-set, lt-ltb, ltb}
-pub use Rattle.folds.proofs.Ground.{ltb-true, max, min, mul-le-mul, ne-eqb, needs, not, not-false, not-true, refl, replicate, set, sym, true, ℕ}
+pub use Rattle.folds.proofs.Ground.{Bool, List, _%_, _&&_, _*_, _+_, _-_, _/_, _<_, _∙_, _≡_, _≤_, and-comm, and-false, ap, arith, cond, eq-eqb, eqb}
+pub use Rattle.folds.proofs.Ground.{false, getD, getD-replicate, getD-set-other, getD-set-same, le-ltb, length, length-replicate, length-set, lt-ltb}
+pub use Rattle.folds.proofs.Ground.{ltb, ltb-true, max, min, mul-le-mul, ne-eqb, needs, not, not-false, not-true, refl, replicate, set, sym, true, ℕ}
 pub use Rattle.folds.proofs.Ground.{⊎-elim}
 unfoldable pub use Rattle.folds.specs.Below.{countBelow, maxBelow, sumBelow}
 pub use Rattle.folds.proofs.Figures.{count-bound, count-same, count-step, max-done, max-step, sum-bound, sum-count, sum-done, sum-same, sum-step}
@@ -17,9 +17,8 @@ unfoldable pub use Rattle.analysis_equations.specs.Blocking.{waitingOn, waiting
 unfoldable pub use Rattle.analysis_equations.specs.Requirement.{demand, left, met, slack, tolerance}
 pub use Rattle.analysis_equations.specs.Bounds.{mostBlocking1, mostBudget, mostDemand, mostDemandOfOne, mostFellowHolds, mostPeriod, mostTurns}
 pub use Rattle.analysis_equations.specs.Bounds.{mostWaiting}
-pub use Rattle.analysis_requirements.specs.Terms.{Terms, ceilingCell, countCell, longestCell, precedenceCell, precedenceOf, sharedCell}
-pub use Rattle.analysis_requirements.specs.Terms.{termCount}
-pub use Rattle.analysis_requirements.specs.Inner.{Filling, HigherTasks, PerResource, Scanned, TaskTables, TaskTerms, TermsBelow, Timed}
-pub use Rattle.analysis_requirements.specs.Inner.{TimedTo, Waiter, WaitingTold, above, ceilingBelow, comparison, longestBelow}
-pub use Rattle.analysis_requirements.specs.Inner.{under, waitingAt}
+pub use Rattle.analysis_requirements.specs.Terms.{Prepared, Terms, ceilingCell, countCell, longestCell, precedenceCell, precedenceOf}
+pub use Rattle.analysis_requirements.specs.Terms.{sharedCell, termCount}
+pub use Rattle.analysis_requirements.specs.Inner.{Filling, HigherTasks, PerResource, Scanned, TaskTables, TaskTerms, TermsBelow, Timed, TimedTo}
+pub use Rattle.analysis_requirements.specs.Inner.{Waiter, WaitingTold, above, comparison, under, waitingAt}
 unfoldable pub use Rattle.analysis_requirements.specs.Inner.{demandOf}

@@ -1,9 +1,9 @@
 -- What the tables tell of Equations 6 and 7 and of the requirement, and the bounds that the code's steps need.
-use Rattle.analysis_requirements.proofs.Ground.{ℕ, _+_, _*_, _-_, _<_, _≤_, Bool, true, false, cond, and-false, _&&_, _≡_, refl, _∙_, List, getD}
-use Rattle.analysis_requirements.proofs.Ground.{mul-le-mul, arith, lt-ltb, le-ltb, mostProcessors, mostSections, TaskRow, Plan, planOf}
-use Rattle.analysis_requirements.proofs.Ground.{Valid, valid-plan, processorOf, uses, global, ceilDiv, countOn, blocking1, blocking2}
-use Rattle.analysis_requirements.proofs.Ground.{fellowHolds, waitingOn, waitingSide, tolerance, slack, met, mostBudget, mostFellowHolds}
-use Rattle.analysis_requirements.proofs.Ground.{mostTurns, mostWaiting, Waiter, waitingAt, WaitingTold, comparison}
+use Rattle.analysis_requirements.proofs.Ground.{ℕ, _+_, _*_, _-_, _<_, _≤_, Bool, true, false, and-false, _≡_, _∙_, List, getD, mul-le-mul}
+use Rattle.analysis_requirements.proofs.Ground.{arith, lt-ltb, le-ltb, mostProcessors, mostSections, TaskRow, Plan, planOf, Valid, valid-plan}
+use Rattle.analysis_requirements.proofs.Ground.{processorOf, uses, global, ceilDiv, countOn, blocking1, blocking2, fellowHolds, waitingOn}
+use Rattle.analysis_requirements.proofs.Ground.{waitingSide, tolerance, slack, met, mostBudget, mostFellowHolds, mostTurns, mostWaiting}
+use Rattle.analysis_requirements.proofs.Ground.{Waiter, WaitingTold, comparison}
 use lib.IntN.{ℤ, pos, _-ℤ_}
 use lib.Signed.{leZ}
 use Rattle.analysis_equations.specs.HoldTimes.{budget, waitTime}

@@ -4,8 +4,7 @@ use Rattle.analysis_requirements.proofs.Ground.{length, getD, set, repl
 use Rattle.analysis_requirements.proofs.Ground.{getD-set-other, arith, eq-eqb, ne-eqb, not-true, not-false, maxBelow, countBelow, max-step}
 use Rattle.analysis_requirements.proofs.Ground.{count-step, count-bound, mostTasks, mostResources, mostSections, SectionRow, Plan, Valid}
 use Rattle.analysis_requirements.proofs.Ground.{priorityOf, globalBy, global, globalCount, longestGlobal, longestCell, precedenceCell}
-use Rattle.analysis_requirements.proofs.Ground.{countCell, ceilingCell, sharedCell, termCount, precedenceOf, Terms, longestBelow}
-use Rattle.analysis_requirements.proofs.Ground.{ceilingBelow, TermsBelow}
+use Rattle.analysis_requirements.proofs.Ground.{countCell, ceilingCell, sharedCell, termCount, precedenceOf, Terms, TermsBelow}
 use Rattle.folds.proofs.Searches.{on-eq}
 use Rattle.folds.proofs.Ranges.{cond-bound}
 use Rattle.analysis_equations.proofs.Laws.{ceiling-section}

@@ -7,7 +7,7 @@ use lib.Dec.{eqb, ltb}
 use lib.IntN.{ℤ, pos, _-ℤ_}
 use lib.ListN.{length, getD, replicate}
 use lib.Signed.{leZ}
-use Rattle.sizes.specs.Sizes.{mostTasks, mostResources}
+use Rattle.sizes.specs.Sizes.{mostTasks, mostResources, mostSections}
 use Rattle.folds.specs.Below.{sumBelow, maxBelow, countBelow}
 use Rattle.folds.specs.Packed.{packedBelow}
 use Rattle.plan_reading.specs.Plan.{Plan, planOf, Checked}
@@ -52,11 +52,13 @@ under a b = eqb (b / 256) (a / 256) && ltb b a
 
 -- ── what is asked ──
 
--- task i of the plan, by its terms
+-- task i of the plan, by its terms; its cells are there, and its count is that of sections
 pub record TaskTerms (f t : List ℕ) (i : ℕ) : Type 0 where
   pub plan : Checked f
   pub terms : Terms (planOf f) t
   pub task : i < planOf f .tasks
+  pub low : i < mostTasks
+  pub few : getD t (countCell i) 0 ≤ mostSections
 
 -- and by both its tables
 pub record TaskTables (f figures t : List ℕ) (i : ℕ) : Type 0 where

@@ -1,7 +1,7 @@
 -- The count comes from the table, the longest section from the call.
 use Rattle.analysis_requirements.proofs.Ground.{_+_, _*_, _≡_, arith, needs, planOf, valid-plan, blocking1}
 use Rattle.analysis_equations.proofs.Laws.{blocking1-high}
-use Rattle.analysis_requirements.proofs.Blocking.{task-cells, blocking1-read}
+use Rattle.analysis_requirements.proofs.Blocking.{blocking1-read}
 use Rattle.analysis_requirements.proofs.blocking1_of.Statement.{statement}
 use Rattle.analysis_requirements.proofs.blocking1_of.Tie as tie
 
@@ -16,5 +16,5 @@ pub blocking1-of-spec : {M : Type 1} → statement M
 blocking1-of-spec =
     tie.close
     (tie.spec
-    (λ c κs. let h = task-cells (c .before .before .pre) in (h .long, h .task)) (λ c. omega arith) (λ c κs. search needs) (λ c. omega arith)
+    (λ c κs. search needs) (λ c. omega arith) (λ c κs. search needs) (λ c. omega arith)
     (λ c. omega arith) (λ c. omega (arith, told c, blocking1-high _ (valid-plan _ (start c .pre .plan)) (start c .args .i))) told)

@@ -1,8 +1,7 @@
 -- The invariant: the sum over the tasks below `j`, each term in its range.
-use Rattle.analysis_requirements.proofs.Ground.{ℕ, _+_, _*_, _≤_, _-_, _≡_, refl, _∙_, List, length, arith, needs, sumBelow, sum-step}
-use Rattle.analysis_requirements.proofs.Ground.{sum-done, mostTasks, planOf, valid-plan, blocking2, mostBlocking1, termCount, countCell}
-use Rattle.analysis_requirements.proofs.Ground.{TaskTerms}
-use Rattle.analysis_requirements.proofs.Blocking.{term, Term, Over, over, task-cells, term-is}
+use Rattle.analysis_requirements.proofs.Ground.{ℕ, _*_, _≤_, _-_, _≡_, refl, _∙_, List, arith, needs, sumBelow, sum-step, sum-done, mostTasks}
+use Rattle.analysis_requirements.proofs.Ground.{planOf, valid-plan, blocking2, mostBlocking1, countCell}
+use Rattle.analysis_requirements.proofs.Blocking.{term, Term, Over, over, term-is}
 use Rattle.analysis_requirements.proofs.blocking2_of.Statement.{statement}
 use Rattle.analysis_requirements.proofs.blocking2_of.Tie as tie
 
@@ -63,11 +62,7 @@ blocking2-of-spec =
     tie.close
     (tie.spec
     Inv-loop μ-loop (λ c κs. search needs) (λ c κs. search needs)
-    (λ c. let h = task-cells (start c .pre) in omega arith) (λ c. let h = task-cells (start c .pre) in omega arith)
-    (λ c. let h = task-cells (start (c .before) .pre) in omega arith) (λ c. let h = task-cells (start (c .before) .pre) in omega arith)
-    (λ c. let h = task-cells (start (c .before) .pre) in omega arith) (λ c. let h = task-cells (start (c .before .before) .pre) in omega arith)
-    (λ c. let h = task-cells (start (c .before .before) .pre) in omega arith)
-    (λ c. let h = task-cells (start (c .before .before) .pre) in omega arith) loop-holds
+    (λ c. omega arith) (λ c. omega arith) (λ c. omega arith) (λ c. omega arith) (λ c. omega arith) (λ c. omega arith) (λ c. omega arith) (λ c. omega arith) loop-holds
     (λ c. omega arith) (λ c. omega arith) (λ c. omega arith) (λ c. omega arith) (λ c. omega arith) (λ c κs. search needs)
     (λ c. omega arith) (λ c. omega arith) (λ c. omega arith)
     (λ c. let l = c .before .before .before .before in omega (arith, c .shared-slice-known7 .given (countCell (l .before .loop .j)) .fits))

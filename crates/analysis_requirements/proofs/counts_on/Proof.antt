@@ -66,7 +66,7 @@ counts-on-spec =
     tie.close
     (tie.spec
     Inv-loop μ-loop (λ c κs. search needs) (λ c. omega arith) loop-holds
-    (λ c κs. let i = c .before .loop .inv in (i .plan, omega (arith, i .all)))
+    (λ c κs. search needs)
     (λ c κs. search needs) (λ c κs. search needs) (λ c κs. search needs) (λ c. omega arith) low add-table
     low (λ c. omega arith) (λ c. omega arith) loop-again
     (λ c. let i = c .before .loop .inv in on-table _ _ (omega (arith, i .all)) (i .told)))

@@ -1,8 +1,8 @@
 -- The invariant: the tasks below j that are above task i are counted and packed.
-use Rattle.analysis_requirements.proofs.Ground.{ℕ, _≤_, _-_, _≡_, sym, ap, _∙_, List, length, ⊎-elim, arith, needs, mostTasks, TaskRow}
-use Rattle.analysis_requirements.proofs.Ground.{planOf, valid-plan, termCount, TaskTerms, HigherTasks}
+use Rattle.analysis_requirements.proofs.Ground.{ℕ, _≤_, _-_, sym, ap, _∙_, List, ⊎-elim, arith, needs, mostTasks, TaskRow, planOf, valid-plan}
+use Rattle.analysis_requirements.proofs.Ground.{HigherTasks}
 use Rattle.analysis_requirements.proofs.Precedences.{table-above}
-use Rattle.analysis_requirements.proofs.Blocking.{Over, over, task-cells}
+use Rattle.analysis_requirements.proofs.Blocking.{Over, over}
 use Rattle.analysis_requirements.proofs.Demand.{higher-none, higher-taken, higher-skipped, higher-done}
 use Rattle.analysis_requirements.proofs.higher_tasks.Statement.{statement}
 use Rattle.analysis_requirements.proofs.higher_tasks.Tie as tie
@@ -49,10 +49,10 @@ pub higher-tasks-spec : {M : Type 1} → statement M
 higher-tasks-spec =
     tie.close
     (tie.spec
-    Inv-loop μ-loop (λ c κs. search needs) (λ c κs. tt) (λ c. let h = task-cells (start c .pre) in omega arith)
-    (λ c. let h = task-cells (start c .pre) in omega arith) (λ c. let h = task-cells (start (c .before) .pre) in omega arith) loop-holds
+    Inv-loop μ-loop (λ c κs. search needs) (λ c κs. tt) (λ c. omega arith)
+    (λ c. omega arith) (λ c. omega arith) loop-holds
     (λ c. omega arith) (λ c. omega arith) (λ c. omega arith)
-    (λ c κs. let i = c .before .before .before .loop .inv in (i .over .asked .plan, omega (arith, i .over .all)))
+    (λ c κs. search needs)
     (λ c. omega arith) (λ c. omega arith) (λ c. omega arith) (λ c. omega arith) (λ c. omega arith) (λ c. omega arith) (λ c. omega arith)
     (λ c. omega arith) (λ c. omega arith) loop-again
     (λ c. let i = c .before .loop .inv in higher-done (i .packed) (omega (arith, i .over .all))))

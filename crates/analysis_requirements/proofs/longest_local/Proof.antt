@@ -1,6 +1,6 @@
 -- The invariant: `best` is the longest blocking section below `s`.
-use Rattle.analysis_requirements.proofs.Ground.{ℕ, _<_, _≤_, _-_, _≡_, refl, List, length, arith, needs, maxBelow, max-step, max-done}
-use Rattle.analysis_requirements.proofs.Ground.{mostResources, mostSections, planOf, valid-plan, longestLocal, termCount, TaskTerms}
+use Rattle.analysis_requirements.proofs.Ground.{ℕ, _<_, _≤_, _-_, _≡_, refl, List, arith, needs, maxBelow, max-step, max-done, mostResources}
+use Rattle.analysis_requirements.proofs.Ground.{mostSections, planOf, valid-plan, longestLocal}
 use Rattle.analysis_requirements.proofs.Rows.{Names, names}
 use Rattle.analysis_requirements.proofs.Blocking.{localBelow, Over, over, local-read}
 use Rattle.analysis_requirements.proofs.longest_local.Statement.{statement}
@@ -75,7 +75,7 @@ longest-local-spec =
     tie.close
     (tie.spec
     Inv-loop μ-loop (λ c κs. search needs) (λ c. omega arith) (λ c κs. search needs) loop-holds
-    (λ c κs. let i = c .before .loop .inv .over in (i .asked .plan, omega (arith, i .all))) (λ c κs. search needs)
+    (λ c κs. search needs) (λ c κs. search needs)
     (λ c κs. let n = named (c .before) in (turn (c .before) .loop .inv .over .asked .plan, omega arith))
     (λ c κs. search needs) (λ c. omega arith) (λ c. omega arith) (λ c. omega (arith, low-resource (c .before)))
     (λ c κs. search needs) (λ c. omega arith) (λ c. omega arith) (λ c. omega (arith, low-resource (c .before .before .before)))

@@ -52,7 +52,7 @@ put-precedences-spec =
     tie.close
     (tie.spec
     Inv-loop μ-loop (λ c κs. search needs) (λ c κs. search needs) loop-holds
-    (λ c κs. (c .before .loop .inv .table .plan, omega arith)) (λ c κs. search needs) (λ c. omega arith) (λ c κs. search needs)
+    (λ c κs. search needs) (λ c κs. search needs) (λ c. omega arith) (λ c κs. search needs)
     (λ c. omega arith) (λ c. omega arith) (λ c. omega arith)
     (λ c. omega (arith, c .before .before .before .before .loop .inv .table .terms .long)) (λ c. omega arith) (λ c. omega arith)
     loop-again (λ c. c .before .loop .inv .table .terms .long ∙ sym (start (c .before .before) .pre .terms .long)) returns)

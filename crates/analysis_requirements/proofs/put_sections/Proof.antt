@@ -1,6 +1,6 @@
 -- The invariant: the table tells of the sections below `s`.
-use Rattle.analysis_requirements.proofs.Ground.{ℕ, _<_, _≤_, _-_, _≡_, refl, sym, _∙_, List, length, length-set, arith, needs, mostTasks}
-use Rattle.analysis_requirements.proofs.Ground.{mostResources, planOf, valid-plan, termCount, Filling}
+use Rattle.analysis_requirements.proofs.Ground.{ℕ, _≤_, _-_, _≡_, refl, sym, _∙_, List, length-set, arith, needs, mostResources, planOf}
+use Rattle.analysis_requirements.proofs.Ground.{valid-plan, Filling}
 use Rattle.analysis_requirements.proofs.Rows.{SectionRead}
 use Rattle.analysis_requirements.proofs.Terms.{Cells, cells, count-low, terms-section, terms-done}
 use Rattle.analysis_requirements.proofs.put_sections.Statement.{statement}
@@ -82,7 +82,7 @@ put-sections-spec =
     (tie.spec
     Inv-loop μ-loop (λ c κs. search needs) (λ c. omega arith)
     (λ c. record { within = omega arith; all = c .before .counts .ensures .sections; table = c .before .before .before .before .pre })
-    (λ c κs. let i = c .before .loop .inv in (i .table .plan, omega (arith, i .all))) (λ c κs. search needs) (λ c κs. search needs)
+    (λ c κs. search needs) (λ c κs. search needs) (λ c κs. search needs)
     (λ c. omega arith) (λ c. omega arith) (λ c. let h = there (c .before) in omega arith) (λ c. omega arith)
     (λ c. let h = there (c .before .before) in omega arith)
     (λ c κs. search needs) (λ c κs. search needs) (λ c. omega arith) (λ c. omega arith)

@@ -34,6 +34,6 @@ put-shared-spec =
     (tie.spec
     Inv-loop μ-loop
     (λ c. let h = c .before .before .before .pre in record { within = omega arith; known = h .0; terms = terms-none _ (h .1) })
-    (λ c κs. (c .before .loop .inv .known, omega arith)) (λ c κs. search needs) (λ c. omega arith) (λ c. omega arith)
+    (λ c κs. search needs) (λ c κs. search needs) (λ c. omega arith) (λ c. omega arith)
     (λ c. omega (arith, c .before .before .before .loop .inv .terms .long)) (λ c. omega arith) (λ c. omega arith) loop-again same-length
     (λ c. let l = c .before .loop in let e : l .q ≡ mostResources = omega arith in rw e at (l .inv .terms)))

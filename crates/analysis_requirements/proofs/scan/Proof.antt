@@ -45,7 +45,7 @@ pub scan-spec : {M : Type 1} → statement M
 scan-spec =
     tie.close
     (tie.spec
-    Inv-loop μ-loop (λ c κs. record { tasks = c .before .before .pre .above; time = omega arith }) (λ c. omega arith) (λ c κs. omega arith)
-    loop-holds (λ c. omega arith) (λ c κs. let i = c .before .loop .inv in record { tasks = i .asked .above; time = omega (arith, i .asked .high) })
+    Inv-loop μ-loop (λ c κs. search needs) (λ c. omega arith) (λ c κs. omega arith)
+    loop-holds (λ c. omega arith) (λ c κs. search needs)
     (λ c. omega arith) (λ c. omega arith) (λ c κs. omega arith) (λ c κs. tt) (λ c. omega arith) loop-again
     (λ c. let l = c .before .loop in left-done _ _ _ _ _ (l .t) (omega arith) (l .inv .told)))

@@ -1,5 +1,5 @@
 -- A local resource and one that the task does not use ask for no wait.
-use Rattle.analysis_requirements.proofs.Ground.{sym, _∙_, arith, planOf, Waiter}
+use Rattle.analysis_requirements.proofs.Ground.{sym, _∙_, arith, Waiter}
 use Rattle.analysis_requirements.proofs.Terms.{flag-off, flag-on}
 use Rattle.analysis_requirements.proofs.Sides.{waiting-local, waiting-unused, waiting-used, waiting-there}
 use Rattle.analysis_requirements.proofs.waiting_at.Statement.{statement}
