@@ -29,11 +29,11 @@ pub record Over (f t : List ℕ) (i n m most : ℕ) : Type 0 where
   pub few : n ≤ most
   pub long : length t ≡ termCount
 
-pub task-terms : {f figures t : List ℕ} {i : ℕ} → Prepared f figures t × (i < planOf f .tasks) → TaskTerms f t i
-task-terms {f} {i = i} h =
-    let v = valid-plan f (h .0 .known .plan) in
-    let low : i < mostTasks = omega (arith, h .1) in
-    record { plan = h .0 .known .plan; terms = h .0 .terms; task = h .1; low = low; few = rw (h .0 .terms .count i low) (count-high (planOf f) v i) }
+pub task-terms : {f figures t : List ℕ} {i : ℕ} → Prepared f figures t → i < planOf f .tasks → TaskTerms f t i
+task-terms {f} {i = i} h l =
+    let v = valid-plan f (h .known .plan) in
+    let low : i < mostTasks = omega arith in
+    record { plan = h .known .plan; terms = h .terms; task = l; low = low; few = rw (h .terms .count i low) (count-high (planOf f) v i) }
 
 module _ {f t : List ℕ} {i : ℕ} (h : TaskTerms f t i) where
   abbrev plan : Plan

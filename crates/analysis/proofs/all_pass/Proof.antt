@@ -23,8 +23,8 @@ abbrev μ-loop : tie.MeasureT-loop
 loop-holds : tie.Need-loop-holds Inv-loop μ-loop
 unfolding allBelow
 loop-holds c =
-    let n = c .before in
-    record { within = omega arith; all = c .wide .ensures .same ∙ n .counts .ensures .tasks; prepared = n .before .before .before .before .pre; told = refl }
+    let all = c .wide .ensures .same ∙ c .before .counts .ensures .tasks in
+    search needs
 
 returns : tie.Need-returns Inv-loop μ-loop
 unfolding admitted
@@ -34,8 +34,8 @@ returns c =
 
 loop-again : tie.Need-loop-again Inv-loop μ-loop
 loop-again c =
-    let i = c .before .before .before .loop .inv in
-    record { within = omega arith; all = i .all; prepared = i .prepared; told = all-more _ _ (i .told) (held (c .before .passes .ensures) (c .if1 .left)) }
+    let told = all-more _ _ (c .before .before .before .loop .inv .told) (held (c .before .passes .ensures) (c .if1 .left)) in
+    search needs
 
 returns-2 : tie.Need-returns-2 Inv-loop μ-loop
 unfolding admitted
@@ -46,5 +46,4 @@ all-pass-spec =
     tie.close
     (tie.spec
     Inv-loop μ-loop (λ c κs. search needs) (λ c κs. search needs) loop-holds
-    (λ c κs. let i = c .before .loop .inv in record { prepared = i .prepared; task = omega (arith, i .all) })
-    returns (λ c. omega arith) (λ c. omega arith) loop-again returns-2)
+    (λ c κs. search needs) returns (λ c. omega arith) (λ c. omega arith) loop-again returns-2)

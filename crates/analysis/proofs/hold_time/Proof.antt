@@ -13,7 +13,7 @@ hold-at-requires : tie.Need-hold-at-requires
 hold-at-requires c κs =
     let e = c .before .before in
     let u = found e .user-of .ensures .user (e .if1 .left) in
-    record { long = u .known .figures .long; row = u .low; resource = omega arith }
+    search needs
 
 returns-2 : tie.Need-returns-2
 returns-2 c =

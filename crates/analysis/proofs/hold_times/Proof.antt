@@ -20,4 +20,4 @@ hold-times-spec =
     tie.close
     (tie.spec
     (λ c κs. search needs) (λ c. times-refused _ (c .before .check .ensures) (c .if1 .taken)) (λ c. search needs) fill-figures-requires
-    (λ c. search needs) (λ c κs. c .before .before .fill-figures .ensures .figures .long) returns-2)
+    (λ c. search needs) (λ c κs. search needs) returns-2)

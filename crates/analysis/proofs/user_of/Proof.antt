@@ -22,4 +22,4 @@ user-of-spec =
     tie.close
     (tie.spec
     (λ c κs. search needs) (λ c. user-unread _ _ _ (c .before .check .ensures) (c .if1 .taken)) fill-figures-requires
-    (λ c κs. c .before .before .before .fill-figures .ensures) (λ c. search needs) returns-2)
+    (λ c κs. search needs) (λ c. search needs) returns-2)

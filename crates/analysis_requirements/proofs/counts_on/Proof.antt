@@ -22,9 +22,8 @@ abbrev μ-loop : tie.MeasureT-loop
 loop-holds : tie.Need-loop-holds Inv-loop μ-loop
 unfolding gatheredBelow
 loop-holds c =
-    let h = c .before .before .before .pre in
-    let e = c .before .counts .ensures .sections in
-    record { within = omega arith; all = e; few = omega (arith, valid-plan _ h .sections); plan = h; told = refl }
+    let v = valid-plan _ (c .before .before .before .pre) in
+    search needs
 
 -- ── where the section's resource is read ──
 abbrev Read : Type 0

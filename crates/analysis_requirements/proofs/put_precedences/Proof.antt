@@ -22,9 +22,8 @@ start c = c .before .before .before .before
 
 loop-holds : tie.Need-loop-holds Inv-loop μ-loop
 loop-holds c =
-    let h = start c .pre in
-    let e = c .wide .ensures .same ∙ c .before .counts .ensures .tasks in
-    record { within = omega arith; all = e; few = omega (arith, e, valid-plan _ (h .plan) .tasks); table = h }
+    let v = valid-plan _ (start c .pre .plan) in
+    search needs
 
 loop-again : tie.Need-loop-again Inv-loop μ-loop
 loop-again c =

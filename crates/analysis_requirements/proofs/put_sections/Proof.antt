@@ -31,13 +31,7 @@ abbrev file : Read → List ℕ
 file r = counted r .before .before .before .args .file .now
 
 read : (r : Read) → SectionRead (planOf (file r)) (turn r .loop .s) (r .before .wide .result) (r .wide2 .result) (r .before .before .section .result)
-read r =
-    record {
-      below = omega (arith, turn r .loop .inv .all);
-      told = r .before .before .section .ensures;
-      task = r .before .wide .ensures .same;
-      resource = r .wide2 .ensures .same;
-    }
+read r = search needs
 
 there : (r : Read) → Cells (planOf (file r)) (turn r .loop .terms) (r .before .wide .result) (r .wide2 .result)
 there r = let t = turn r .loop .inv .table in cells _ (valid-plan _ (t .plan)) (read r) _ (t .terms)
@@ -58,17 +52,10 @@ add-count c =
 loop-again : tie.Need-loop-again Inv-loop μ-loop
 loop-again c =
     let r = longest (known c) in
-    let i = turn r .loop .inv in
-    let t = i .table in
-    record {
-      within = omega arith;
-      all = i .all;
-      table = record {
-        plan = t .plan;
-        terms = terms-section _ (valid-plan _ (t .plan)) (read r) _ (t .terms)
-            (known c .before .chosen .ensures) (known c .longer .ensures) refl (c .longer2 .ensures);
-      };
-    }
+    let t = turn r .loop .inv .table in
+    let terms = terms-section _ (valid-plan _ (t .plan)) (read r) _ (t .terms)
+        (known c .before .chosen .ensures) (known c .longer .ensures) refl (c .longer2 .ensures) in
+    search needs
 
 returns : tie.Need-returns Inv-loop μ-loop
 returns c =
@@ -81,8 +68,7 @@ put-sections-spec =
     tie.close
     (tie.spec
     Inv-loop μ-loop (λ c κs. search needs) (λ c. omega arith)
-    (λ c. record { within = omega arith; all = c .before .counts .ensures .sections; table = c .before .before .before .before .pre })
-    (λ c κs. search needs) (λ c κs. search needs) (λ c κs. search needs)
+    (λ c. search needs) (λ c κs. search needs) (λ c κs. search needs) (λ c κs. search needs)
     (λ c. omega arith) (λ c. omega arith) (λ c. let h = there (c .before) in omega arith) (λ c. omega arith)
     (λ c. let h = there (c .before .before) in omega arith)
     (λ c κs. search needs) (λ c κs. search needs) (λ c. omega arith) (λ c. omega arith)

@@ -21,7 +21,8 @@ loop-again : tie.Need-loop-again Inv-loop μ-loop
 loop-again c =
     let l = c .before .before .before .loop in
     let e = c .chosen .ensures ∙ ap (λ (b : Bool). cond b 1 0) (c .before .is-global .ensures) in
-    record { within = omega arith; known = l .inv .known; terms = terms-shared _ (l .q) (l .terms) (l .inv .terms) (omega arith) e }
+    let terms = terms-shared _ (l .q) (l .terms) (l .inv .terms) (omega arith) e in
+    search needs
 
 same-length : tie.Need-same-length Inv-loop μ-loop
 same-length c =

@@ -1,5 +1,5 @@
 -- Each figure comes from its call; the tolerance is read back from its bits.
-use Rattle.analysis_requirements.proofs.Ground.{_∙_, arith, needs, valid-plan}
+use Rattle.analysis_requirements.proofs.Ground.{_∙_, arith, needs, valid-plan, TaskTerms}
 use Rattle.folds.proofs.SignedLaws.{back}
 use Rattle.analysis_equations.proofs.Laws.{tolerance-mag}
 use Rattle.analysis_requirements.proofs.Blocking.{task-terms}
@@ -7,14 +7,17 @@ use Rattle.analysis_requirements.proofs.Sides.{requirement-told}
 use Rattle.analysis_requirements.proofs.requirement_of.Statement.{statement}
 use Rattle.analysis_requirements.proofs.requirement_of.Tie as tie
 
+asked : (s : tie.Start) → TaskTerms (s .args .file .now) (s .args .terms .now) (s .args .i)
+asked s = task-terms (s .pre .0) (s .pre .1)
+
 abbrev start : tie.After-blocking1-of → tie.Start
 start c = c .before .before .before .before
 
 compared-requires : tie.Need-compared-requires
 compared-requires c κs =
     let z = c .before .tolerance-of in
-    let h = start (c .before .before .before) .pre in
-    rw (back _ (z .ok) ∙ z .ensures) (omega (arith, tolerance-mag _ (valid-plan _ (h .0 .known .plan)) _ (h .1)))
+    let h = asked (start (c .before .before .before)) in
+    rw (back _ (z .ok) ∙ z .ensures) (omega (arith, tolerance-mag _ (valid-plan _ (h .plan)) _ (h .task)))
 
 returns : tie.Need-returns
 returns c =
@@ -28,5 +31,5 @@ pub requirement-of-spec : {M : Type 1} → statement M
 requirement-of-spec =
     tie.close
     (tie.spec
-    (λ c κs. task-terms (c .before .before .before .pre)) (λ c κs. task-terms (start c .pre)) (λ c κs. task-terms (start (c .before) .pre))
-    (λ c κs. search needs) compared-requires returns)
+    (λ c κs. asked (c .before .before .before)) (λ c κs. asked (start c)) (λ c κs. asked (start (c .before))) (λ c κs. search needs)
+    compared-requires returns)

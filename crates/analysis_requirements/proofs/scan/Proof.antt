@@ -22,24 +22,17 @@ abbrev μ-loop : tie.MeasureT-loop
 
 loop-holds : tie.Need-loop-holds Inv-loop μ-loop
 loop-holds c =
-    record {
-      low = omega arith;
-      within = omega arith;
-      asked = c .before .before .before .before .pre;
-      told = back _ (c .difference .ok) ∙ left-first _ _ _ _ (c .before .demand-of .ensures .told) (c .difference .ensures);
-    }
+    let told = back _ (c .difference .ok) ∙ left-first _ _ _ _ (c .before .demand-of .ensures .told) (c .difference .ensures) in
+    search needs
 
 loop-again : tie.Need-loop-again Inv-loop μ-loop
 loop-again c =
     let l = c .before .before .before .before .loop in
     let i = l .inv in
     let x = back _ (c .before .difference2 .ok) ∙ c .before .difference2 .ensures in
-    record {
-      low = omega arith;
-      within = omega arith;
-      asked = i .asked;
-      told = back _ (c .greater .ok) ∙ left-step _ _ _ _ (l .t) (i .low) (i .told) (c .before .before .demand-of2 .ensures .told) x (c .greater .ensures);
-    }
+    let told = back _ (c .greater .ok)
+        ∙ left-step _ _ _ _ (l .t) (i .low) (i .told) (c .before .before .demand-of2 .ensures .told) x (c .greater .ensures) in
+    search needs
 
 pub scan-spec : {M : Type 1} → statement M
 scan-spec =

@@ -12,14 +12,9 @@ start c = c .before .before .before .before
 waiter : (c : tie.Else2) → let a = start (c .before .before) .args in Waiter (a .file .now) (a .figures .now) (a .i) (a .q) (a .count)
 waiter c =
     let h = start (c .before .before) .pre in
+    let shared = flag-on _ (λ z. c .before .if1 .left (h .prepared .terms .shared _ (h .resource) ∙ z)) in
     record {
-      sharer =
-          record {
-            known = h .prepared .known;
-            task = h .task;
-            resource = h .resource;
-            shared = flag-on _ (λ z. c .before .if1 .left (h .prepared .terms .shared _ (h .resource) ∙ z));
-          };
+      sharer = record { known = h .prepared .known; task = h .task; resource = h .resource; shared = shared };
       used = waiting-used _ _ _ (h .count) (c .if2 .left);
       count = h .count;
     }

@@ -9,9 +9,8 @@ start c = c .before .before .before .before
 
 budget-at-requires : tie.Need-budget-at-requires
 budget-at-requires c κs =
-    let h = start c .pre in
-    let s = h .sharer in
-    record { long = s .known .figures .long; row = processor-low h (c .before .task .ensures) (c .wide .ensures .same); resource = s .resource }
+    let row = processor-low (start c .pre) (c .before .task .ensures) (c .wide .ensures .same) in
+    search needs
 
 -- ── once the fellows' hold times are there ──
 abbrev Here : Type 0

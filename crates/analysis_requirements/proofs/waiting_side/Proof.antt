@@ -23,35 +23,19 @@ unfolding sumBelow
 loop-holds c =
     let n = c .before .before in
     let h = n .before .before .before .before .pre in
-    let e = c .before .wide .ensures .same ∙ n .counts .ensures .resources in
-    record {
-      within = omega arith;
-      all = e;
-      few = omega (arith, e, valid-plan _ (h .prepared .known .plan) .resources);
-      asked = h;
-      low = omega arith;
-      told = refl;
-    }
+    let v = valid-plan _ (h .prepared .known .plan) in
+    search needs
 
 waiting-at-requires : tie.Need-waiting-at-requires Inv-loop μ-loop
 waiting-at-requires c κs =
-    let l = c .before .loop in
-    let h = l .inv .asked in
-    let low : l .q < mostResources = omega arith in
-    record { prepared = h .prepared; task = h .task; resource = low; count = c .before .before .counts-on .ensures .at _ low }
+    let low : c .before .loop .q < mostResources = omega arith in
+    let count = c .before .before .counts-on .ensures .at _ low in
+    search needs
 
 loop-again : tie.Need-loop-again Inv-loop μ-loop
 loop-again c =
-    let i = c .before .before .loop .inv in
-    let w = c .waiting-at .ensures in
-    record {
-      within = omega arith;
-      all = i .all;
-      few = i .few;
-      asked = i .asked;
-      low = omega (arith, w .high);
-      told = sum-step _ _ (i .told) (w .told);
-    }
+    let told = sum-step _ _ (c .before .before .loop .inv .told) (c .waiting-at .ensures .told) in
+    search needs
 
 returns : tie.Need-returns Inv-loop μ-loop
 unfolding waitingSide
