@@ -52,7 +52,7 @@ module _ (f : List ℕ) (n : ℕ) where
 -- what an answer tells, by what it tells where something is given and where it is refused
 answer-told : {A B : Type 0} (tell : A → B) (says : Bool → B) (k : ℕ) {a given refused : A} → a ≡ cond (eqb k 0) given refused
     → (k ≡ 0 → tell given ≡ says true) → tell refused ≡ says false → tell a ≡ says (eqb k 0)
-answer-told tell says k {given = given} {refused = refused} e g r = ap tell e ∙ by-eq (λ (b : Bool). tell (cond b given refused) ≡ says b) k 0 g (λ d. r)
+answer-told tell says k {given = x} {refused = y} e g r = ap tell e ∙ by-eq (λ (b : Bool). tell (cond b x y) ≡ says b) k 0 g (λ d. r)
 
 -- a figure given, and one refused: both things that a contract says of the answer
 abbrev FigureTold : ℕ → ℕ → Figure → Type 0
@@ -107,7 +107,8 @@ holds-list : (p : Plan) (t : List ℕ) → Figures p t
     ≡ placedBelow holdCount (λ x. holdAt p (x / mostResources) (x % mostResources)) (replicate holdCount 0)
 holds-list p t c =
     placed-same holdCount _ _ (replicate holdCount 0)
-    (λ x l. ap (λ (y : ℕ). getD t y 0) (sym (div-add-mod' x mostResources)) ∙ c .hold (x / mostResources) (x % mostResources) (omega arith) (omega arith))
+    (λ x l. ap (λ (y : ℕ). getD t y 0) (sym (div-add-mod' x mostResources))
+    ∙ c .hold (x / mostResources) (x % mostResources) (omega arith) (omega arith))
 
 -- all hold times, refused and given
 module _ (f : List ℕ) where
@@ -163,11 +164,9 @@ module _ (p : Plan) where
   unfolding requirementCode
   task-asked tag {i} t l e d = rw (← t, lt-ltb i (p .tasks) l, asks-some p i e d)
 
-  -- a task that does not ask passes; one that asks where its requirement is met
-  pub passes-idle : (i : ℕ) {n : ℕ} → n ≡ globalCount p i → n ≡ 0 → true ≡ (not (asks p i) || met p i)
-  passes-idle i e z = rw (asks-not p i e z)
-
-  pub passes-met : (i : ℕ) {n : ℕ} {r : Requirement} → n ≡ globalCount p i → (n ≡ 0 → ⊥) → r ≡ requirementOf p i → r .met ≡ (not (asks p i) || met p i)
+  -- a task that asks passes where its requirement is met
+  pub passes-met : (i : ℕ) {n : ℕ} {r : Requirement} → n ≡ globalCount p i → (n ≡ 0 → ⊥) → r ≡ requirementOf p i
+      → r .met ≡ (not (asks p i) || met p i)
   unfolding requirementOf
   passes-met i e d h = rw (asks-some p i e d, h)
 

@@ -33,5 +33,6 @@ user-read f tag q {figures = figures} {r = r} en z k u =
     }
 
 -- its place in the table of figures holds its hold time
-pub user-hold : {f figures : List ℕ} {tag q i : ℕ} → Uses f tag q figures i → getD figures (holdCell i q) 0 ≡ holdTime (planOf f) (taskNumber (planOf f) tag) q
+pub user-hold : {f figures : List ℕ} {tag q i : ℕ} → Uses f tag q figures i
+    → getD figures (holdCell i q) 0 ≡ holdTime (planOf f) (taskNumber (planOf f) tag) q
 user-hold {f} {q = q} {i = i} u = u .known .figures .hold i q (u .low) (u .resource) ∙ hold-shared (planOf f) i q (u .shared) (u .used) ∙ rw (u .task)

@@ -48,7 +48,8 @@ module _ (periods times : List ℕ) (m own : ℕ) where
       (e ∙ ap (λ (k : ℕ). pos (t + 1) -ℤ pos (own + k)) q ∙ ap (leftOf periods times m own) same)
       r)
 
-  pub left-done : (n t : ℕ) {z : ℤ} → t ≡ n → z ≡ greatestTo (t - 1) (leftOf periods times m own) → z ≡ greatestTo (n - 1) (leftOf periods times m own)
+  pub left-done : (n t : ℕ) {z : ℤ} → t ≡ n → z ≡ greatestTo (t - 1) (leftOf periods times m own)
+      → z ≡ greatestTo (n - 1) (leftOf periods times m own)
   left-done n t e p = rw (← e, p)
 
 pub higher-none : (p : Plan) (i : ℕ) → HigherTasks p i 0 0 (replicate mostTasks 0) (replicate mostTasks 0)

@@ -49,7 +49,8 @@ module _ {f figures : List ℕ} {i q n : ℕ} (a : Waiter f figures i q n) where
     pub processor-low : k < mostProcessors
     processor-low = rw (ek, er) (omega (arith, valid .task-fits i (a .sharer .task) .processor, valid .processors))
 
-    pub waits : {b w h : ℕ} → b ≡ getD figures (budgetCell k q) 0 → w ≡ waitTime plan (row .processor) q → h ≡ fellowHolds plan i q → Waits plan i q b w h n
+    pub waits : {b w h : ℕ} → b ≡ getD figures (budgetCell k q) 0 → w ≡ waitTime plan (row .processor) q → h ≡ fellowHolds plan i q
+        → Waits plan i q b w h n
     unfolding waitingOn
     waits {b} {w} {h} br ew eh =
         let s = a .sharer in

@@ -133,8 +133,8 @@ module _ (p : Plan) (v : Valid p) {s j q : ℕ} {row : SectionRow} (x : SectionR
           long = rw (length-set, length-set, length-set) (h .long);
           shared = λ z m lz. after (sharedCell z) (λ e. omega arith) (λ e. omega arith) (λ e. omega arith) (λ d e f. h .shared z m lz);
           precedence = λ z m lz. after (precedenceCell z) (λ e. omega arith) (λ e. omega arith) (λ e. omega arith) (λ d e f. h .precedence z m lz);
-          longest = λ z lz. after (longestCell z) (λ e. rw e (max-step s _ (h .longest j (there .low)) ticks ea)) (λ e. omega arith) (λ e. omega arith)
-              (λ d e f. max-step s _ {t = 0} (h .longest z lz) (sym (rw (other-task z d))) (omega arith));
+          longest = λ z lz. after (longestCell z) (λ e. rw e (max-step s _ (h .longest j (there .low)) ticks ea)) (λ e. omega arith)
+              (λ e. omega arith) (λ d e f. max-step s _ {t = 0} (h .longest z lz) (sym (rw (other-task z d))) (omega arith));
           count = λ z lz. after (countCell z) (λ e. omega arith)
               (λ e. let same : z ≡ j = omega arith in
               rw same (eb ∙ count-step s (globalBy p j) (h .count j (there .low)) (flag ∙ rw (eq-eqb (p .section s .task) j task-is))))

@@ -16,7 +16,8 @@ use Rattle.analysis_equations.specs.Blocking.{ceilDiv, countOn, waitingOn}
 use Rattle.analysis_equations.specs.Bounds.{mostPeriod, mostDemand, mostWaiting}
 use Rattle.analysis_figures.specs.Figures.{Sharer}
 use Rattle.analysis_requirements.specs.declared.Requirement.{Requirement}
-use Rattle.analysis_requirements.specs.Terms.{longestCell, precedenceCell, countCell, ceilingCell, sharedCell, termCount, precedenceOf, Terms, Prepared}
+use Rattle.analysis_requirements.specs.Terms.{longestCell, precedenceCell, countCell, ceilingCell, sharedCell, termCount}
+use Rattle.analysis_requirements.specs.Terms.{precedenceOf, Terms, Prepared}
 
 -- ── the table of terms as it is filled: r resources, n tasks and s sections are passed ──
 

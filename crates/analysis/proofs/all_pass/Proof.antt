@@ -1,5 +1,5 @@
 -- The invariant: each task below `i` passes.
-use Rattle.folds.proofs.Ground.{ℕ, _≤_, _-_, true, not, _||_, _≡_, refl, sym, _∙_, List, arith, needs}
+use Rattle.folds.proofs.Ground.{ℕ, _≤_, _-_, true, not, _||_, _≡_, sym, _∙_, List, arith, needs}
 use Rattle.folds.specs.Below.{allBelow}
 use Rattle.folds.proofs.Tests.{all-more, all-left, all-done, held, failed}
 use Rattle.plan_reading.specs.Plan.{planOf}

@@ -2,7 +2,8 @@
 use Rattle.folds.proofs.Ground.{_≡_, needs}
 use Rattle.plan_reading.specs.Plan.{planOf}
 use Rattle.analysis_equations.specs.Blocking.{globalCount}
-use Rattle.analysis.proofs.Told.{task-low, count-told, passes-idle, passes-met}
+use Rattle.analysis_equations.proofs.Laws.{asks-not}
+use Rattle.analysis.proofs.Told.{task-low, count-told, passes-met}
 use Rattle.analysis.proofs.passes.Statement.{statement}
 use Rattle.analysis.proofs.passes.Tie as tie
 
@@ -17,5 +18,5 @@ passes-spec =
     tie.close
     (tie.spec
     (λ c κs. let h = c .before .before .before .pre in (h .prepared .terms .long, task-low (h .prepared) (h .task)))
-    (λ c. passes-idle _ _ (counted (c .before)) (c .if1 .taken)) (λ c κs. search needs)
+    (λ c. rw (asks-not _ _ (counted (c .before)) (c .if1 .taken))) (λ c κs. search needs)
     (λ c. passes-met _ _ (counted (c .before .before)) (c .before .if1 .left) (c .requirement-of .ensures)))

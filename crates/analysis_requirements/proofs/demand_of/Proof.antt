@@ -21,7 +21,7 @@ Here = tie.In-loop Inv-loop μ-loop
 abbrev start : Here → tie.Start Inv-loop μ-loop
 start c = c .before .before
 
-one : (c : Here) → let k = c .before .loop .k in DemandOfOne (start c .args .t) (getD (start c .args .periods .now) k 0) (getD (start c .args .times .now) k 0)
+one : (c : Here) → let a = start c .args in let k = c .before .loop .k in DemandOfOne (a .t) (getD (a .periods .now) k 0) (getD (a .times .now) k 0)
 one c = demand-one (start c .pre) (c .before .loop .k) (c .loop-test .taken)
 
 add-sum : tie.Need-add-sum Inv-loop μ-loop

@@ -54,7 +54,7 @@ loop-again c =
     let r = longest (known c) in
     let t = turn r .loop .inv .table in
     let terms = terms-section _ (valid-plan _ (t .plan)) (read r) _ (t .terms)
-        (known c .before .chosen .ensures) (known c .longer .ensures) refl (c .longer2 .ensures) in
+    (known c .before .chosen .ensures) (known c .longer .ensures) refl (c .longer2 .ensures) in
     search needs
 
 returns : tie.Need-returns Inv-loop μ-loop

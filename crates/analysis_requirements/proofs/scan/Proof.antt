@@ -31,7 +31,7 @@ loop-again c =
     let i = l .inv in
     let x = back _ (c .before .difference2 .ok) ∙ c .before .difference2 .ensures in
     let told = back _ (c .greater .ok)
-        ∙ left-step _ _ _ _ (l .t) (i .low) (i .told) (c .before .before .demand-of2 .ensures .told) x (c .greater .ensures) in
+    ∙ left-step _ _ _ _ (l .t) (i .low) (i .told) (c .before .before .demand-of2 .ensures .told) x (c .greater .ensures) in
     search needs
 
 pub scan-spec : {M : Type 1} → statement M

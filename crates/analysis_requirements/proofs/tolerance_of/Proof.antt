@@ -21,7 +21,8 @@ scan-requires c κs =
 returns : tie.Need-returns
 returns c =
     let a = packed (c .before .before .before) in
-    back _ (c .scan .ok) ∙ higher-tolerance _ (valid-plan _ (start a .pre .plan)) _ (a .higher-tasks .ensures) (a .before .task .ensures) (c .scan .ensures)
+    let v = valid-plan _ (start a .pre .plan) in
+    back _ (c .scan .ok) ∙ higher-tolerance _ v _ (a .higher-tasks .ensures) (a .before .task .ensures) (c .scan .ensures)
 
 pub tolerance-of-spec : {M : Type 1} → statement M
 tolerance-of-spec =

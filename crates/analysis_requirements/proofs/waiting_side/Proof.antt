@@ -1,5 +1,5 @@
 -- The invariant: the sum over the resources below `q`, each wait in its range.
-use Rattle.analysis_requirements.proofs.Ground.{ℕ, _*_, _<_, _≤_, _-_, _≡_, refl, _∙_, List, arith, needs, sumBelow, sum-step, sum-done}
+use Rattle.analysis_requirements.proofs.Ground.{ℕ, _*_, _<_, _≤_, _-_, _≡_, List, arith, needs, sumBelow, sum-step, sum-done}
 use Rattle.analysis_requirements.proofs.Ground.{mostResources, planOf, valid-plan, waitingSide, mostWaiting, TaskTables, waitingAt}
 use Rattle.analysis_requirements.proofs.waiting_side.Statement.{statement}
 use Rattle.analysis_requirements.proofs.waiting_side.Tie as tie
