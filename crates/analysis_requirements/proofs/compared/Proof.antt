@@ -6,10 +6,7 @@ use Rattle.analysis_requirements.proofs.Sides.{comparison-told}
 use Rattle.analysis_requirements.proofs.compared.Statement.{statement}
 use Rattle.analysis_requirements.proofs.compared.Tie as tie
 
-returns : tie.Need-returns
-returns c =
-    let s = c .before .minus in
-    comparison-told (toZ-ofZ (c .before .before .fits .tolerance)) (back _ (s .ok)) (s .ensures) (c .at-most .ensures)
-
 pub compared-spec : {M : Type 1} → statement M
-compared-spec = tie.close (tie.spec (λ c. search needs) (λ c κs. search needs) (λ c κs. search needs) returns)
+compared-spec = tie.close (tie.spec (λ c. search needs) (λ c κs. search needs) (λ c κs. search needs)
+    (λ c. let s = c .before .minus in
+    comparison-told (toZ-ofZ (c .before .before .fits .tolerance)) (back _ (s .ok)) (s .ensures) (c .at-most .ensures)))

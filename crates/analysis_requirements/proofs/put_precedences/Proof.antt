@@ -20,11 +20,6 @@ abbrev μ-loop : tie.MeasureT-loop
 abbrev start : tie.After-wide Inv-loop μ-loop → tie.Start Inv-loop μ-loop
 start c = c .before .before .before .before
 
-loop-holds : tie.Need-loop-holds Inv-loop μ-loop
-loop-holds c =
-    let v = valid-plan _ (start c .pre .plan) in
-    search needs
-
 loop-again : tie.Need-loop-again Inv-loop μ-loop
 loop-again c =
     let l = c .before .before .before .before .loop in
@@ -50,7 +45,8 @@ pub put-precedences-spec : {M : Type 1} → statement M
 put-precedences-spec =
     tie.close
     (tie.spec
-    Inv-loop μ-loop (λ c κs. search needs) (λ c κs. search needs) loop-holds
+    Inv-loop μ-loop (λ c κs. search needs) (λ c κs. search needs)
+    (λ c. let v = valid-plan _ (start c .pre .plan) in search needs)
     (λ c κs. search needs) (λ c κs. search needs) (λ c. omega arith) (λ c κs. search needs)
     (λ c. omega arith) (λ c. omega arith) (λ c. omega arith)
     (λ c. omega (arith, c .before .before .before .before .loop .inv .table .terms .long)) (λ c. omega arith) (λ c. omega arith)

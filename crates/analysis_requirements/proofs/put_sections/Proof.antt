@@ -43,12 +43,6 @@ longest c = c .before .before .before .before
 abbrev known : tie.After-longer2 Inv-loop μ-loop → tie.After-longer Inv-loop μ-loop
 known c = c .before .before .before .before
 
-add-count : tie.Need-add-count-2 Inv-loop μ-loop
-add-count c =
-    let r = longest (c .before) in
-    let i = turn r .loop .inv .table in
-    omega (arith, count-low _ (valid-plan _ (i .plan)) (read r) _ (i .terms))
-
 loop-again : tie.Need-loop-again Inv-loop μ-loop
 loop-again c =
     let r = longest (known c) in
@@ -73,7 +67,9 @@ put-sections-spec =
     (λ c. let h = there (c .before .before) in omega arith)
     (λ c κs. search needs) (λ c κs. search needs) (λ c. omega arith) (λ c. omega arith)
     (λ c. let h = there (longest (c .before)) in omega arith)
-    add-count (λ c. omega arith) (λ c. omega arith) (λ c. let h = there (longest (c .before .before)) in omega arith)
+    (λ c. let r = longest (c .before) in let t = turn r .loop .inv .table in
+    omega (arith, count-low _ (valid-plan _ (t .plan)) (read r) _ (t .terms)))
+    (λ c. omega arith) (λ c. omega arith) (λ c. let h = there (longest (c .before .before)) in omega arith)
     (λ c. omega arith) (λ c. omega arith) (λ c. let h = there (longest (c .before .before .before)) in omega arith)
     (λ c κs. search needs) (λ c. omega arith) (λ c. let h = there (longest (known c)) in omega arith) (λ c. omega arith) (λ c. omega arith)
     (λ c. let h = there (longest (known c)) in rw length-set (omega arith)) (λ c. omega arith) (λ c. omega arith)

@@ -24,11 +24,6 @@ loop-again c =
     let terms = terms-shared _ (l .q) (l .terms) (l .inv .terms) (omega arith) e in
     search needs
 
-same-length : tie.Need-same-length Inv-loop μ-loop
-same-length c =
-    let l = c .before in
-    l .loop .inv .terms .long ∙ sym (rw (l .before .before .before .before .pre .1) (length-replicate {A = ℕ} termCount 0))
-
 pub put-shared-spec : {M : Type 1} → statement M
 put-shared-spec =
     tie.close
@@ -36,5 +31,7 @@ put-shared-spec =
     Inv-loop μ-loop
     (λ c. let h = c .before .before .before .pre in record { within = omega arith; known = h .0; terms = terms-none _ (h .1) })
     (λ c κs. search needs) (λ c κs. search needs) (λ c. omega arith) (λ c. omega arith)
-    (λ c. omega (arith, c .before .before .before .loop .inv .terms .long)) (λ c. omega arith) (λ c. omega arith) loop-again same-length
+    (λ c. omega (arith, c .before .before .before .loop .inv .terms .long)) (λ c. omega arith) (λ c. omega arith) loop-again
+    (λ c. let l = c .before in
+    l .loop .inv .terms .long ∙ sym (rw (l .before .before .before .before .pre .1) (length-replicate {A = ℕ} termCount 0)))
     (λ c. let l = c .before .loop in let e : l .q ≡ mostResources = omega arith in rw e at (l .inv .terms)))

@@ -20,11 +20,6 @@ Inv-loop periods times m own period best₀ t₀ best t = Turn periods times m o
 abbrev μ-loop : tie.MeasureT-loop
 μ-loop periods times m own period best₀ t₀ best t = period - t
 
-loop-holds : tie.Need-loop-holds Inv-loop μ-loop
-loop-holds c =
-    let told = back _ (c .difference .ok) ∙ left-first _ _ _ _ (c .before .demand-of .ensures .told) (c .difference .ensures) in
-    search needs
-
 loop-again : tie.Need-loop-again Inv-loop μ-loop
 loop-again c =
     let l = c .before .before .before .before .loop in
@@ -39,6 +34,7 @@ scan-spec =
     tie.close
     (tie.spec
     Inv-loop μ-loop (λ c κs. search needs) (λ c. omega arith) (λ c κs. omega arith)
-    loop-holds (λ c. omega arith) (λ c κs. search needs)
+    (λ c. let told = back _ (c .difference .ok) ∙ left-first _ _ _ _ (c .before .demand-of .ensures .told) (c .difference .ensures) in search needs)
+    (λ c. omega arith) (λ c κs. search needs)
     (λ c. omega arith) (λ c. omega arith) (λ c κs. omega arith) (λ c κs. tt) (λ c. omega arith) loop-again
     (λ c. let l = c .before .loop in left-done _ _ _ _ _ (l .t) (omega arith) (l .inv .told)))

@@ -19,15 +19,11 @@ waiter c =
       count = h .count;
     }
 
-returns : tie.Need-returns
-returns c =
-    let h = start (c .before) .pre in
-    waiting-local _ _ _ (flag-off _ (sym (h .prepared .terms .shared _ (h .resource)) ∙ c .if1 .taken))
-
 pub waiting-at-spec : {M : Type 1} → statement M
 waiting-at-spec =
     tie.close
     (tie.spec
-    (λ c. omega arith) (λ c. omega arith) (λ c. omega arith) returns
+    (λ c. omega arith) (λ c. omega arith) (λ c. omega arith)
+    (λ c. let h = start (c .before) .pre in waiting-local _ _ _ (flag-off _ (sym (h .prepared .terms .shared _ (h .resource)) ∙ c .if1 .taken)))
     (λ c. waiting-unused _ _ _ (start (c .before .before) .pre .count) (c .if2 .taken))
     (λ c κs. waiter c) (λ c. waiting-there (waiter (c .before)) (c .waiting-on .ensures)))

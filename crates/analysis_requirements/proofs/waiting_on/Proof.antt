@@ -7,11 +7,6 @@ use Rattle.analysis_requirements.proofs.waiting_on.Tie as tie
 abbrev start : tie.After-wide → tie.Start
 start c = c .before .before .before .before
 
-budget-at-requires : tie.Need-budget-at-requires
-budget-at-requires c κs =
-    let row = processor-low (start c .pre) (c .before .task .ensures) (c .wide .ensures .same) in
-    search needs
-
 -- ── once the fellows' hold times are there ──
 abbrev Here : Type 0
 Here = tie.After-struct-known
@@ -31,7 +26,9 @@ pub waiting-on-spec : {M : Type 1} → statement M
 waiting-on-spec =
     tie.close
     (tie.spec
-    (λ c κs. search needs) (λ c κs. search needs) budget-at-requires (λ c. omega arith) (λ c κs. search needs) (λ c κs. search needs)
+    (λ c κs. search needs) (λ c κs. search needs)
+    (λ c κs. let row = processor-low (start c .pre) (c .before .task .ensures) (c .wide .ensures .same) in search needs)
+    (λ c. omega arith) (λ c κs. search needs) (λ c κs. search needs)
     (λ c. let h = known c in omega arith) (λ c. let h = known c in omega arith) (λ c. let h = known c in omega arith) (λ c. known c .low)
     (λ c. let h = known c in omega arith) (λ c. let h = known c in omega arith) (λ c. search needs) (λ c. let h = known c in omega arith)
     (λ c. known c .told))
