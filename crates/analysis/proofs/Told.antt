@@ -1,10 +1,13 @@
 -- What each answer is, case by case: what is refused, what is given, and what it tells.
-use Rattle.folds.proofs.Ground.{ℕ, _<_, _≤_, _/_, _%_, Bool, true, cond, not, _||_, _≡_, refl, sym, ap, _∙_, List, [], _∷_, ltb, getD, replicate, div-add-mod', arith, eq-eqb, ne-eqb, lt-ltb, le-ltb, ltb-true}
+use Rattle.folds.proofs.Ground.{ℕ, _<_, _≤_, _/_, _%_, Bool, true, false, cond, not, _||_, _≡_, refl, sym, ap, _∙_, List, [], _∷_, eqb, ltb, getD}
+use Rattle.folds.proofs.Ground.{replicate, div-add-mod', arith, eq-eqb, ne-eqb, lt-ltb, le-ltb, ltb-true}
 use Rattle.folds.specs.Bytes.{placedBelow}
 use Rattle.folds.proofs.Tests.{code-zero, code-next}
 use Rattle.folds.proofs.Arrays.{by-eq, placed-same}
+use Rattle.sizes.specs.Sizes.{mostTasks, mostResources}
+use Rattle.refusals.specs.Outcomes.{Outcome, outcome}
 use Rattle.plan_reading.specs.Plan.{Plan, planOf, Checked}
-use Rattle.refusals.specs.Outcomes.{outcome}
+use Rattle.plan_reading.proofs.Laws.{valid-plan}
 use Rattle.plan.specs.Acceptance.{refusal}
 use Rattle.plan.proofs.Laws.{accepted-checked}
 use Rattle.analysis_equations.specs.HoldTimes.{holdAt}
@@ -15,6 +18,7 @@ use Rattle.analysis_equations.proofs.Laws.{asks-not, asks-some}
 use Rattle.analysis_figures.specs.Figures.{Figures}
 use Rattle.analysis_requirements.specs.declared.Requirement.{Requirement}
 use Rattle.analysis_requirements.specs.Figures.{requirementOf}
+use Rattle.analysis_requirements.specs.Terms.{countCell, Prepared}
 use Rattle.analysis.specs.declared.Figure.{Figure}
 use Rattle.analysis.specs.declared.Figure.the-variants.{Given, Refused}
 use Rattle.analysis.specs.declared.RequirementAnswer.{RequirementAnswer}
@@ -22,11 +26,12 @@ use Rattle.analysis.specs.declared.RequirementAnswer.the-variants as req
 use Rattle.analysis.specs.declared.AdmissionAnswer.{AdmissionAnswer}
 use Rattle.analysis.specs.declared.AdmissionAnswer.the-variants as admissions
 use Rattle.analysis.specs.Inner.{Share}
-use Rattle.analysis.specs.Answers.{afterReading, figure, figureOutcome, shareRefusal, requirementGiven, requirementValues, requirementOutcome, signedAnswered, admissionAnswer, admissionOutcome, holdTimes}
+use Rattle.analysis.specs.Answers.{afterReading, figure, figureOutcome, shareRefusal, holdCount, holdTimes, admissionAnswer, admissionOutcome}
+use Rattle.analysis.specs.Answers.{requirementGiven, requirementValues, requirementOutcome, signedAnswered}
 
--- a file of bytes whose plan is not refused
-pub checked-file : (f : List ℕ) → refusal f ≡ 0 → ((i : ℕ) → getD f i 0 < 256) → Checked f
-checked-file f z b = accepted-checked (record { none = z; bytes = λ i l. b i })
+-- a file of bytes that was not refused
+pub checked-file : {f : List ℕ} {k : ℕ} → k ≡ refusal f → k ≡ 0 → ((i : ℕ) → getD f i 0 < 256) → Checked f
+checked-file e z b = accepted-checked (record { none = sym e ∙ z; bytes = λ i l. b i })
 
 -- a number is that of the reading, or the one that comes after it
 module _ (f : List ℕ) (n : ℕ) where
@@ -38,35 +43,32 @@ module _ (f : List ℕ) (n : ℕ) where
   unfolding afterReading
   reading-holds e z = rw (eq-eqb (refusal f) 0 (sym e ∙ z))
 
--- where a number is 0, so are both
-pub reading-clear : (f : List ℕ) (n : ℕ) → afterReading f n ≡ 0 → (refusal f ≡ 0) × (n ≡ 0)
-unfolding afterReading
-reading-clear f n =
-    by-eq (λ (b : Bool). cond b n (refusal f) ≡ 0 → (refusal f ≡ 0) × (n ≡ 0)) (refusal f) 0 (λ q h. (q, h)) (λ d h. absurd (d h))
+  -- where a number is 0, so are both
+  reading-clear : afterReading f n ≡ 0 → (refusal f ≡ 0) × (n ≡ 0)
+  unfolding afterReading
+  reading-clear =
+      by-eq (λ (b : Bool). cond b n (refusal f) ≡ 0 → (refusal f ≡ 0) × (n ≡ 0)) (refusal f) 0 (λ q h. (q, h)) (λ d h. absurd (d h))
 
--- a figure given, and one refused
-pub figure-given : {n v w : ℕ} → 0 ≡ n → w ≡ v → Given w ≡ figure n v
+-- what an answer tells, by what it tells where something is given and where it is refused
+answer-told : {A B : Type 0} (tell : A → B) (says : Bool → B) (k : ℕ) {a given refused : A} → a ≡ cond (eqb k 0) given refused
+    → (k ≡ 0 → tell given ≡ says true) → tell refused ≡ says false → tell a ≡ says (eqb k 0)
+answer-told tell says k {given = x} {refused = y} e g r = ap tell e ∙ by-eq (λ (b : Bool). tell (cond b x y) ≡ says b) k 0 g (λ d. r)
+
+-- a figure given, and one refused: both things that a contract says of the answer
+abbrev FigureTold : ℕ → ℕ → Figure → Type 0
+FigureTold n v r = (r ≡ figure n v) × (figureOutcome r ≡ outcome n (v ∷ []))
+
+figure-told : (n v : ℕ) {r : Figure} → r ≡ figure n v → FigureTold n v r
 unfolding figure
-figure-given z e = rw (← z, e)
+figure-told n v e = (e, answer-told figureOutcome (λ (b : Bool). record { number = n; values = cond b (v ∷ []) [] }) n e (λ q. rw q) refl)
 
-pub figure-refused : {k n : ℕ} (v : ℕ) → k ≡ n → (k ≡ 0 → ⊥) → Refused k ≡ figure n v
+pub figure-given : {k n v w : ℕ} → k ≡ n → k ≡ 0 → w ≡ v → FigureTold n v (Given w)
 unfolding figure
-figure-refused {k} v e d = rw (← e, ne-eqb k 0 d)
+figure-given {k} {n} {v} {w} e z g = figure-told n v (rw (← e, z, g))
 
--- the answer of a question that comes after the reading
-pub reading-figure : (f : List ℕ) (n v : ℕ) {k : ℕ} {r : Figure} → k ≡ refusal f → k ≡ 0 → r ≡ figure n v → r ≡ figure (afterReading f n) v
-reading-figure f n v e z h = rw (reading-holds f n e z) h
-
--- both things that a contract says of an answer
-pub figure-told : (k v : ℕ) {r : Figure} → r ≡ figure k v → (r ≡ figure k v) × (figureOutcome r ≡ outcome k (v ∷ []))
+pub figure-refused : {k n : ℕ} (v : ℕ) → k ≡ n → (k ≡ 0 → ⊥) → FigureTold n v (Refused k)
 unfolding figure
-figure-told k v e = (e, ap figureOutcome e ∙ go)
-  where
-    go : figureOutcome (figure k v) ≡ outcome k (v ∷ [])
-    go =
-        by-eq
-        (λ (b : Bool). figureOutcome (cond b (Given v) (Refused k)) ≡ record { number = k; values = cond b (v ∷ []) [] })
-        k 0 (λ q. rw q) (λ d. refl)
+figure-refused {k} {n} v e d = figure-told n v (rw (← e, ne-eqb k 0 d))
 
 -- 18 and 12, or neither
 module _ (p : Plan) where
@@ -90,30 +92,34 @@ module _ (p : Plan) where
   )
 
 -- what a question about shares that is not refused tells
-pub share-clear : (f : List ℕ) (k q : ℕ) → shareRefusal f k q ≡ 0 → ((i : ℕ) → getD f i 0 < 256) → Share f k q
+pub share-clear : (f : List ℕ) (k q : ℕ) {code : ℕ} → code ≡ shareRefusal f k q → code ≡ 0 → ((i : ℕ) → getD f i 0 < 256) → Share f k q
 unfolding shareRefusal
-share-clear f k q e b =
-    let r = reading-clear f (processorCode (planOf f) k q) e in
+share-clear f k q e z b =
+    let r = reading-clear f (processorCode (planOf f) k q) (sym e ∙ z) in
     let there = processor-clear (planOf f) k q (r .1) in
-    record { plan = checked-file f (r .0) b; processor = there .0; resource = there .1 }
+    let plan = checked-file refl (r .0) b in
+    let v = valid-plan f plan in
+    record { plan = plan; processor = omega (arith, there .0); resource = omega (arith, there .1) }
 
--- the hold times of a table of figures: x stands in the row of x / 16 at x % 16
+-- the hold times of a table of figures: x stands in the row of x / mostResources at x % mostResources
 holds-list : (p : Plan) (t : List ℕ) → Figures p t
-    → placedBelow 1024 (λ x. getD t x 0) (replicate 1024 0) ≡ placedBelow 1024 (λ x. holdAt p (x / 16) (x % 16)) (replicate 1024 0)
+    → placedBelow holdCount (λ x. getD t x 0) (replicate holdCount 0)
+    ≡ placedBelow holdCount (λ x. holdAt p (x / mostResources) (x % mostResources)) (replicate holdCount 0)
 holds-list p t c =
-    placed-same 1024 _ _ (replicate 1024 0)
-    (λ x l. ap (λ (y : ℕ). getD t y 0) (sym (div-add-mod' x 16)) ∙ c .hold (x / 16) (x % 16) (omega arith) (omega arith))
+    placed-same holdCount _ _ (replicate holdCount 0)
+    (λ x l. ap (λ (y : ℕ). getD t y 0) (sym (div-add-mod' x mostResources))
+    ∙ c .hold (x / mostResources) (x % mostResources) (omega arith) (omega arith))
 
 -- all hold times, refused and given
 module _ (f : List ℕ) where
-  pub times-refused : {k : ℕ} → k ≡ refusal f → (k ≡ 0 → ⊥) → record { times = replicate 1024 0; refusal = k } ≡ holdTimes f
+  pub times-refused : {k : ℕ} → k ≡ refusal f → (k ≡ 0 → ⊥) → record { times = replicate holdCount 0; refusal = k } ≡ holdTimes f
   unfolding holdTimes
   times-refused e d = rw (← e, ne-eqb _ _ d)
 
-  pub times-given : (t : List ℕ) {times : List ℕ} → refusal f ≡ 0 → Figures (planOf f) t → times ≡ placedBelow 1024 (λ x. getD t x 0) (replicate 1024 0)
-      → record { times = times; refusal = 0 } ≡ holdTimes f
+  pub times-given : (t : List ℕ) {k : ℕ} {times : List ℕ} → k ≡ refusal f → k ≡ 0 → Figures (planOf f) t
+      → times ≡ placedBelow holdCount (λ x. getD t x 0) (replicate holdCount 0) → record { times = times; refusal = 0 } ≡ holdTimes f
   unfolding holdTimes
-  times-given t z c e = rw (z, e, holds-list (planOf f) t c)
+  times-given t e z c l = rw (← e, z, l, holds-list (planOf f) t c)
 
 -- a requirement given, and one refused
 pub requirement-given : {n : ℕ} {r s : Requirement} → 0 ≡ n → s ≡ r → requirements.Found s ≡ requirementGiven n r
@@ -125,19 +131,24 @@ unfolding requirementGiven
 requirement-refused {k} r e d = rw (← e, ne-eqb k 0 d)
 
 -- the answer of a question that comes after the reading
-pub reading-requirement : (f : List ℕ) (n : ℕ) (r : Requirement) {k : ℕ} {a : RequirementAnswer} → k ≡ refusal f → k ≡ 0 → a ≡ requirementGiven n r → a ≡ requirementGiven (afterReading f n) r
+pub reading-requirement : (f : List ℕ) (n : ℕ) (r : Requirement) {k : ℕ} {a : RequirementAnswer} → k ≡ refusal f → k ≡ 0 → a ≡ requirementGiven n r
+    → a ≡ requirementGiven (afterReading f n) r
 reading-requirement f n r e z h = rw (reading-holds f n e z) h
 
 -- both things that a contract says of an answer
-pub requirement-told : (k : ℕ) (r : Requirement) {a : RequirementAnswer} → a ≡ requirementGiven k r → (a ≡ requirementGiven k r) × (requirementOutcome a ≡ signedAnswered k (requirementValues r))
+pub requirement-told : (k : ℕ) (r : Requirement) {a : RequirementAnswer} → a ≡ requirementGiven k r
+    → (a ≡ requirementGiven k r) × (requirementOutcome a ≡ signedAnswered k (requirementValues r))
 unfolding requirementGiven
-requirement-told k r e = (e, ap requirementOutcome e ∙ go)
-  where
-    go : requirementOutcome (requirementGiven k r) ≡ signedAnswered k (requirementValues r)
-    go =
-        by-eq
-        (λ (b : Bool). requirementOutcome (cond b (requirements.Found r) (requirements.Refused k)) ≡ record { number = k; values = cond b (requirementValues r) [] })
-        k 0 (λ q. rw q) (λ d. refl)
+requirement-told k r e =
+    (e, answer-told requirementOutcome (λ (b : Bool). record { number = k; values = cond b (requirementValues r) [] }) k e (λ q. rw q) refl)
+
+-- how many global sections a task has, by the table
+module _ {f figures t : List ℕ} (h : Prepared f figures t) {i : ℕ} (l : i < planOf f .tasks) where
+  pub task-low : i < mostTasks
+  task-low = omega (arith, valid-plan f (h .known .plan) .tasks)
+
+  pub count-told : {n : ℕ} → n ≡ getD t (countCell i) 0 → n ≡ globalCount (planOf f) i
+  count-told e = e ∙ h .terms .count i task-low
 
 module _ (p : Plan) where
   -- 11, 17 or neither
@@ -153,30 +164,27 @@ module _ (p : Plan) where
   unfolding requirementCode
   task-asked tag {i} t l e d = rw (← t, lt-ltb i (p .tasks) l, asks-some p i e d)
 
-  -- a task that does not ask passes; one that asks where its requirement is met
-  pub passes-idle : (i : ℕ) {n : ℕ} → n ≡ globalCount p i → n ≡ 0 → true ≡ (not (asks p i) || met p i)
-  passes-idle i e z = rw (asks-not p i e z)
-
-  pub passes-met : (i : ℕ) {n : ℕ} {r : Requirement} → n ≡ globalCount p i → (n ≡ 0 → ⊥) → r ≡ requirementOf p i → r .met ≡ (not (asks p i) || met p i)
+  -- a task that asks passes where its requirement is met
+  pub passes-met : (i : ℕ) {n : ℕ} {r : Requirement} → n ≡ globalCount p i → (n ≡ 0 → ⊥) → r ≡ requirementOf p i
+      → r .met ≡ (not (asks p i) || met p i)
   unfolding requirementOf
   passes-met i e d h = rw (asks-some p i e d, h)
 
--- admission, refused and decided, and both things that its contract says
+-- admission, refused and decided: both things that its contract says of the answer
 module _ (f : List ℕ) where
-  pub admission-refused : {k : ℕ} → k ≡ refusal f → (k ≡ 0 → ⊥) → admissions.Refused k ≡ admissionAnswer f
-  unfolding admissionAnswer
-  admission-refused e d = rw (← e, ne-eqb _ _ d)
+  abbrev AdmissionTold : AdmissionAnswer → Type 0
+  AdmissionTold a = (a ≡ admissionAnswer f) × (admissionOutcome a ≡ outcome (refusal f) (cond (admitted (planOf f)) 1 0 ∷ []))
 
-  pub admission-decided : {b : Bool} → refusal f ≡ 0 → b ≡ admitted (planOf f) → admissions.Decided b ≡ admissionAnswer f
+  admission-told : {a : AdmissionAnswer} → a ≡ admissionAnswer f → AdmissionTold a
   unfolding admissionAnswer
-  admission-decided z e = rw (z, e)
+  admission-told e =
+      let says : Bool → Outcome = λ (b : Bool). record { number = refusal f; values = cond b (cond (admitted (planOf f)) 1 0 ∷ []) [] } in
+      (e, answer-told admissionOutcome says (refusal f) e (λ q. rw q) refl)
 
-  pub admission-told : {a : AdmissionAnswer} → a ≡ admissionAnswer f → (a ≡ admissionAnswer f) × (admissionOutcome a ≡ outcome (refusal f) (cond (admitted (planOf f)) 1 0 ∷ []))
+  pub admission-refused : {k : ℕ} → k ≡ refusal f → (k ≡ 0 → ⊥) → AdmissionTold (admissions.Refused k)
   unfolding admissionAnswer
-  admission-told e = (e, ap admissionOutcome e ∙ go)
-    where
-      go : admissionOutcome (admissionAnswer f) ≡ outcome (refusal f) (cond (admitted (planOf f)) 1 0 ∷ [])
-      go =
-          by-eq
-          (λ (b : Bool). admissionOutcome (cond b (admissions.Decided (admitted (planOf f))) (admissions.Refused (refusal f))) ≡ record { number = refusal f; values = cond b (cond (admitted (planOf f)) 1 0 ∷ []) [] })
-          (refusal f) 0 (λ q. rw q) (λ d. refl)
+  admission-refused e d = admission-told (rw (← e, ne-eqb _ _ d))
+
+  pub admission-decided : {k : ℕ} {b : Bool} → k ≡ refusal f → k ≡ 0 → b ≡ admitted (planOf f) → AdmissionTold (admissions.Decided b)
+  unfolding admissionAnswer
+  admission-decided e z h = admission-told (rw (← e, z, h))

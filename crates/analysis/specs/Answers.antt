@@ -1,11 +1,12 @@
 -- What each question about a plan file is answered: document 01's number and values for each case.
-use Prim.Native.Nat.{ℕ, _/_, _%_}
+use Prim.Native.Nat.{ℕ, _*_, _/_, _%_}
 use mathlib.Core.Bool.{cond}
 use mathlib.Core.List.{List, [], _∷_}
 use lib.Dec.{eqb}
 use lib.IntN.{ℤ, pos}
 use lib.ListN.{replicate}
 use Rattle.folds.specs.Bytes.{placedBelow}
+use Rattle.sizes.specs.Sizes.{mostTasks, mostResources}
 use Rattle.refusals.specs.Outcomes.{Outcome}
 use Rattle.plan.specs.Acceptance.{refusal}
 use Rattle.plan_reading.specs.Plan.{planOf}
@@ -48,10 +49,11 @@ holdFigure f tag q = holdTime (planOf f) (taskNumber (planOf f) tag) q
 abbrev pub longestFigure : List ℕ → ℕ → ℕ → ℕ
 longestFigure f tag q = longestWait (planOf f) (taskNumber (planOf f) tag) q
 
--- the budget of a processor on a resource, and its wait time
+-- the budget of a processor on a resource
 abbrev pub budgetOf : List ℕ → ℕ → ℕ → ℕ
 budgetOf f = budget (planOf f)
 
+-- and its wait time for it
 abbrev pub waitOf : List ℕ → ℕ → ℕ → ℕ
 waitOf f = waitTime (planOf f)
 
@@ -103,11 +105,18 @@ abbrev pub admissionOutcome : AdmissionAnswer → Outcome
 admissionOutcome (admissions.Decided b) = record { number = 0; values = cond b 1 0 ∷ [] }
 admissionOutcome (admissions.Refused code) = record { number = code; values = [] }
 
+-- how many hold times there are: one for each task and resource that a plan can have
+abbrev pub holdCount : ℕ
+holdCount = mostTasks * mostResources
+
 -- all hold times of a plan at once: that of resource q by task i stands at i × 16 + q, 0 where the question for it would be
 -- refused, or there is no such task; all are 0 where the plan is refused
 unfoldable pub holdTimes : List ℕ → HoldTimes
 holdTimes f =
     record {
       refusal = refusal f;
-      times = cond (eqb (refusal f) 0) (placedBelow 1024 (λ x. holdAt (planOf f) (x / 16) (x % 16)) (replicate 1024 0)) (replicate 1024 0);
+      times =
+          cond (eqb (refusal f) 0)
+          (placedBelow holdCount (λ x. holdAt (planOf f) (x / mostResources) (x % mostResources)) (replicate holdCount 0))
+          (replicate holdCount 0);
     }

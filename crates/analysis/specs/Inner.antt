@@ -3,11 +3,14 @@ use Prim.Native.Nat.{ℕ, _<_}
 use mathlib.Core.Bool.{true}
 use mathlib.Core.List.{List}
 use mathlib.Core.Path.{_≡_}
-use Rattle.plan_reading.specs.Plan.{planOf, Checked}
+use Rattle.sizes.specs.Sizes.{mostProcessors, mostTasks, mostResources}
+use Rattle.plan_reading.specs.Plan.{Plan, planOf, Checked}
 use Rattle.analysis_equations.specs.Sharing.{uses, global}
+use Rattle.analysis_equations.specs.HoldTimes.{budget, waitTime}
 use Rattle.analysis_equations.specs.Questions.{taskNumber}
 use Rattle.analysis_figures.specs.Figures.{Known}
 use Rattle.analysis_figures.specs.declared.User.{User}
+use Rattle.analysis_requirements.specs.Terms.{Prepared}
 use Rattle.analysis.specs.Answers.{holdRefusal}
 
 -- task i of a checked plan uses q, which is global; the table is that of the plan
@@ -15,15 +18,26 @@ pub record Uses (f : List ℕ) (tag q : ℕ) (figures : List ℕ) (i : ℕ) : Ty
   pub known : Known f figures
   pub task : i ≡ taskNumber (planOf f) tag
   pub below : i < planOf f .tasks
-  pub resource : q < planOf f .resources
+  pub low : i < mostTasks
+  pub resource : q < mostResources
   pub used : uses (planOf f) i q ≡ true
   pub shared : global (planOf f) q ≡ true
 
--- processor k and resource q of a checked plan
+-- a checked file, and a processor and a resource that a plan can have
 pub record Share (f : List ℕ) (k q : ℕ) : Type 0 where
   pub plan : Checked f
-  pub processor : k < planOf f .processors
-  pub resource : q < planOf f .resources
+  pub processor : k < mostProcessors
+  pub resource : q < mostResources
+
+-- their budget and their wait time
+pub record Shares (p : Plan) (k q b w : ℕ) : Type 0 where
+  pub budget : b ≡ budget p k q
+  pub wait : w ≡ waitTime p k q
+
+-- task i of a checked plan whose tables are filled in
+pub record TaskReady (f figures t : List ℕ) (i : ℕ) : Type 0 where
+  pub prepared : Prepared f figures t
+  pub task : i < planOf f .tasks
 
 -- the refusal of a question about a task and a resource; where that is 0, who is asked about
 pub record Found (f : List ℕ) (tag q : ℕ) (figures : List ℕ) (r : User) : Type 0 where

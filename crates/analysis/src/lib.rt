@@ -5,24 +5,22 @@ use analysis_requirements::Requirement;
 ghost use mathlib.Core.Path.{_≡_};
 ghost use mathlib.Core.Bool.{cond, not, _||_};
 ghost use mathlib.Core.List.{[], _∷_};
-ghost use Prim.Native.Nat.{_<_};
 ghost use lib.ListN.{length, getD, replicate};
 ghost use Rattle.refusals.specs.Outcomes.{outcome};
 ghost use Rattle.folds.specs.Bytes.{placedBelow};
 ghost use Rattle.plan.specs.Acceptance.{refusal};
 ghost use Rattle.plan_reading.specs.Plan.{planOf, Checked};
-ghost use Rattle.analysis_equations.specs.HoldTimes.{budget, waitTime};
 ghost use Rattle.analysis_equations.specs.Requirement.{asks, met, admitted};
 ghost use Rattle.analysis_equations.specs.Questions.{processorCode, requirementCode};
 ghost use Rattle.analysis_figures.specs.Figures.{figureCount};
 ghost use Rattle.analysis_requirements.specs.Terms.{Prepared};
-ghost use Rattle.analysis.specs.Inner.{Share, Found};
+ghost use Rattle.analysis.specs.Inner.{Share, Shares, TaskReady, Found};
 ghost use Rattle.analysis.specs.Answers.{figure, figureOutcome, holdRefusal, holdFigure, longestFigure, shareRefusal, budgetOf, waitOf};
 ghost use Rattle.analysis.specs.Answers.{requirementRefusal, requirementFigures, requirementGiven, requirementOutcome, requirementSays};
-ghost use Rattle.analysis.specs.Answers.{admissionAnswer, admissionOutcome, holdTimes};
+ghost use Rattle.analysis.specs.Answers.{admissionAnswer, admissionOutcome, holdCount, holdTimes};
 
 // The hold times of a plan.
-const HOLDS: usize = sizes::TASKS * sizes::RESOURCES;
+pub const HOLDS: usize = sizes::TASKS * sizes::RESOURCES;
 
 // A hold time, a longest wait, a budget or a wait time, or why none is given.
 pub enum Figure {
@@ -42,7 +40,7 @@ pub enum AdmissionAnswer {
     Refused(u8),
 }
 
-// All hold times of a plan, that of resource q by task i at i * 16 + q; all 0 where the plan is refused.
+// All hold times of a plan, that of resource q by task i at i * RESOURCES + q; all 0 where the plan is refused.
 pub struct HoldTimes {
     pub times: [u16; HOLDS],
     pub refusal: u8,
@@ -98,7 +96,7 @@ pub fn longest_wait(file: &[u8], tag: u16, resource: u8) -> Figure
 // Budget and wait time of processor k on resource q.
 fn shares_of(file: &[u8], k: u8, q: u8) -> BudgetAndWait
     requires { ⌜ Share (now file) k q ⌝ }
-    ensures { λ r. ⌜ (r .budget ≡ budget (planOf (now (file .entry))) k q) × (r .wait ≡ waitTime (planOf (now (file .entry))) k q) ⌝ }
+    ensures { λ r. ⌜ Shares (planOf (now (file .entry))) k q (r .budget) (r .wait) ⌝ }
 {
     let mut figures = [0u16; analysis_figures::FIGURES];
     analysis_hold_times::fill_figures(file, &mut figures);
@@ -194,7 +192,7 @@ pub fn requirement(file: &[u8], tag: u16) -> RequirementAnswer
 
 // Whether task i has no global section, or its requirement is met.
 fn passes(file: &[u8], figures: &[u16], terms: &[u16], i: usize) -> bool
-    requires { ⌜ (Prepared (now file) (now figures) (now terms)) × (i < planOf (now file) .tasks) ⌝ }
+    requires { ⌜ TaskReady (now file) (now figures) (now terms) i ⌝ }
     ensures { λ r. ⌜ r ≡ (not (asks (planOf (now (file .entry))) i) || met (planOf (now (file .entry))) i) ⌝ }
 {
     if analysis_requirements::count_at(terms, i) == 0 {
@@ -248,7 +246,7 @@ pub fn admission(file: &[u8]) -> AdmissionAnswer
 // The hold times of a table of figures.
 fn holds_of(figures: &[u16]) -> [u16; HOLDS]
     requires { ⌜ length (now figures) ≡ figureCount ⌝ }
-    ensures { λ r. ⌜ r ≡ placedBelow 1024 (λ x. getD (now (figures .entry)) x 0) (replicate 1024 0) ⌝ }
+    ensures { λ r. ⌜ r ≡ placedBelow holdCount (λ x. getD (now (figures .entry)) x 0) (replicate holdCount 0) ⌝ }
 {
     let mut times = [0u16; HOLDS];
     let mut x = 0;

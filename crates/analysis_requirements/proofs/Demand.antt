@@ -1,35 +1,32 @@
 -- Laws of the demand of the tasks above a task.
-use Rattle.folds.proofs.Ground.{ℕ, _+_, _*_, _-_, _<_, _≤_, true, false, _≡_, refl, ap, _∙_, List, getD, set, replicate, mul-le-mul, arith}
+use Rattle.analysis_requirements.proofs.Ground.{ℕ, _+_, _*_, _-_, _<_, _≤_, true, false, _≡_, refl, ap, _∙_, List, getD, set, replicate}
+use Rattle.analysis_requirements.proofs.Ground.{mul-le-mul, arith, countBelow, sum-bound, mostTasks, TaskRow, Plan, Valid, higher, ceilDiv}
+use Rattle.analysis_requirements.proofs.Ground.{demand, left, tolerance, mostPeriod, mostDemandOfOne, mostDemand, HigherTasks, Timed, TimedTo}
+use Rattle.analysis_requirements.proofs.Ground.{Scanned, demandOf}
 use lib.IntN.{ℤ, pos, _-ℤ_}
-use Rattle.folds.specs.Below.{countBelow}
 use Rattle.folds.specs.Packed.{packedBelow}
 use Rattle.folds.specs.Signed.{maxZ, greatestTo}
-use Rattle.folds.proofs.Figures.{sum-bound, count-bound}
 use Rattle.folds.proofs.PackedLaws.{packed-length, packed-all, packed-sum, packed-step, packed-skip, count-taken, count-skipped}
 use Rattle.folds.proofs.SignedLaws.{greatest-step, greatest-same}
-use Rattle.plan_rules.specs.declared.TaskRow.{TaskRow}
-use Rattle.plan_reading.specs.Plan.{Plan, Valid}
-use Rattle.analysis_equations.specs.Sharing.{higher}
-use Rattle.analysis_equations.specs.Blocking.{ceilDiv}
-use Rattle.analysis_equations.specs.Requirement.{demand, left, tolerance}
 use Rattle.analysis_equations.proofs.Laws.{ceil-bound}
-use Rattle.analysis_equations.specs.Bounds.{mostPeriod, mostDemandOfOne, mostDemand}
-use Rattle.analysis_requirements.specs.Inner.{Above, Timed, Scanned, demandOf}
 
--- up to a time of 16 bits: the demand of one task, and of at most 64
-term-high : (t v u : ℕ) → t ≤ mostPeriod → u ≤ mostPeriod → ceilDiv t v * u ≤ mostDemandOfOne
-term-high t v u p q =
-    let c : ceilDiv t v ≤ mostPeriod = omega (arith, ceil-bound t v) in
-    mul-le-mul c q
+-- the demand up to t of one task of period v and execution time u: v is not 0, and all fits
+pub record DemandOfOne (t v u : ℕ) : Type 0 where
+  pub low : 1 ≤ v
+  pub period : v ≤ mostPeriod
+  pub high : ceilDiv t v * u ≤ mostDemandOfOne
 
-module _ (periods times : List ℕ) (m t : ℕ) (f : Timed periods times m) (p : t ≤ mostPeriod) where
-  pub demand-one : (k : ℕ) → k < m → ceilDiv t (getD periods k 0) * getD times k 0 ≤ mostDemandOfOne
-  demand-one k l = term-high t (getD periods k 0) (getD times k 0) p (f .time k l)
+module _ {periods times : List ℕ} {m t : ℕ} (h : TimedTo periods times m t) where
+  pub demand-one : (k : ℕ) → k < m → DemandOfOne t (getD periods k 0) (getD times k 0)
+  demand-one k l =
+      let begun : ceilDiv t (getD periods k 0) ≤ mostPeriod = omega (arith, ceil-bound t (getD periods k 0), h .time) in
+      record { low = h .tasks .low k l; period = h .tasks .period k l; high = mul-le-mul begun (h .tasks .time k l) }
 
   pub demand-high : (k : ℕ) → k ≤ m → demandOf periods times k t ≤ mostDemand
   unfolding demandOf
   demand-high k l =
-      omega (arith, f .few, sum-bound k mostDemandOfOne (λ j. ceilDiv t (getD periods j 0) * getD times j 0) (λ j lt. demand-one j (omega arith)))
+      let sum = sum-bound k mostDemandOfOne (λ j. ceilDiv t (getD periods j 0) * getD times j 0) (λ j lt. demand-one j (omega arith) .high) in
+      omega (arith, h .tasks .few)
 
 -- what `own` and that demand leave of a time t + 1
 abbrev pub leftOf : List ℕ → List ℕ → ℕ → ℕ → ℕ → ℤ
@@ -41,7 +38,8 @@ module _ (periods times : List ℕ) (m own : ℕ) where
   unfolding greatestTo
   left-first p e = rw (e, p)
 
-  pub left-step : (t : ℕ) {d : ℕ} {s x z : ℤ} → 1 ≤ t → s ≡ greatestTo (t - 1) (leftOf periods times m own) → d ≡ demandOf periods times m (t + 1) → x ≡ pos (t + 1) -ℤ pos (own + d) → z ≡ maxZ s x → z ≡ greatestTo (t + 1 - 1) (leftOf periods times m own)
+  pub left-step : (t : ℕ) {d : ℕ} {s x z : ℤ} → 1 ≤ t → s ≡ greatestTo (t - 1) (leftOf periods times m own) → d ≡ demandOf periods times m (t + 1)
+      → x ≡ pos (t + 1) -ℤ pos (own + d) → z ≡ maxZ s x → z ≡ greatestTo (t + 1 - 1) (leftOf periods times m own)
   left-step t h p q e r =
       let before : t + 1 - 1 ≡ t - 1 + 1 = omega arith in
       let same : t ≡ t - 1 + 1 = omega arith in
@@ -50,69 +48,71 @@ module _ (periods times : List ℕ) (m own : ℕ) where
       (e ∙ ap (λ (k : ℕ). pos (t + 1) -ℤ pos (own + k)) q ∙ ap (leftOf periods times m own) same)
       r)
 
-  pub left-done : (n t : ℕ) {z : ℤ} → t ≡ n → z ≡ greatestTo (t - 1) (leftOf periods times m own) → z ≡ greatestTo (n - 1) (leftOf periods times m own)
+  pub left-done : (n t : ℕ) {z : ℤ} → t ≡ n → z ≡ greatestTo (t - 1) (leftOf periods times m own)
+      → z ≡ greatestTo (n - 1) (leftOf periods times m own)
   left-done n t e p = rw (← e, p)
 
-pub above-none : (p : Plan) (i : ℕ) → Above p i 0 0 (replicate 64 0) (replicate 64 0)
+pub higher-none : (p : Plan) (i : ℕ) → HigherTasks p i 0 0 (replicate mostTasks 0) (replicate mostTasks 0)
 unfolding countBelow packedBelow
-above-none p i = record { count = refl; period = refl; time = refl }
+higher-none p i = record { count = refl; few = omega arith; period = refl; time = refl }
 
-module _ {p : Plan} {i n m : ℕ} {v u : List ℕ} (a : Above p i n m v u) where
-  pub above-few : m ≤ n
-  above-few = omega (arith, a .count, count-bound n (higher p i))
-
-  -- a turn that takes task n, one that does not, and the end
-  pub above-taken : {x y : ℕ} → higher p i n ≡ true → x ≡ p .task n .period → y ≡ p .task n .execution → Above p i (n + 1) (m + 1) (set v m x) (set u m y)
-  above-taken e ex ey =
+-- a turn that takes task n, one that does not, and the end
+module _ {p : Plan} {i n m : ℕ} {v u : List ℕ} (a : HigherTasks p i n m v u) where
+  pub higher-taken : {x y : ℕ} → higher p i n ≡ true → x ≡ p .task n .period → y ≡ p .task n .execution
+      → HigherTasks p i (n + 1) (m + 1) (set v m x) (set u m y)
+  higher-taken e ex ey =
       record {
         count = count-taken n (higher p i) e (a .count);
+        few = omega (arith, a .few);
         period = packed-step n (higher p i) (λ j. p .task j .period) _ (a .period) (a .count) ex e;
         time = packed-step n (higher p i) (λ j. p .task j .execution) _ (a .time) (a .count) ey e;
       }
 
-  pub above-skipped : higher p i n ≡ false → Above p i (n + 1) m v u
-  above-skipped e =
+  pub higher-skipped : higher p i n ≡ false → HigherTasks p i (n + 1) m v u
+  higher-skipped e =
       record {
         count = count-skipped n (higher p i) e (a .count);
+        few = omega (arith, a .few);
         period = packed-skip n (higher p i) (λ j. p .task j .period) _ e (a .period);
         time = packed-skip n (higher p i) (λ j. p .task j .execution) _ e (a .time);
       }
 
-  pub above-done : {k : ℕ} → n ≡ k → Above p i k m v u
-  above-done e = rw (← e) a
+  pub higher-done : {k : ℕ} → n ≡ k → HigherTasks p i k m v u
+  higher-done e = rw (← e) a
 
 -- all tasks above task i of a valid plan: their number, ranges and demand, and the tolerance of task i
-module _ (p : Plan) (v : Valid p) (i : ℕ) {m : ℕ} {periods times : List ℕ} (a : Above p i (p .tasks) m periods times) where
-  pub above-timed : Timed periods times m
-  above-timed =
+module _ (p : Plan) (v : Valid p) (i : ℕ) {m : ℕ} {periods times : List ℕ} (a : HigherTasks p i (p .tasks) m periods times) where
+  -- what holds of every task's figure holds of those packed
+  every : {l : List ℕ} (g : ℕ → ℕ) (P : ℕ → Type 0) → l ≡ packedBelow (p .tasks) (higher p i) g (replicate mostTasks 0)
+      → ((j : ℕ) → j < p .tasks → P (g j)) → (k : ℕ) → k < m → P (getD l k 0)
+  every g P e all = rw (a .count, e) (packed-all (p .tasks) mostTasks (higher p i) g P (v .tasks) (λ j l h. all j l))
+
+  timed : Timed periods times m
+  timed =
       record {
-        periods-long = rw (a .period) (packed-length (p .tasks) (higher p i) (λ j. p .task j .period) (replicate 64 0));
-        times-long = rw (a .time) (packed-length (p .tasks) (higher p i) (λ j. p .task j .execution) (replicate 64 0));
-        few = omega (arith, above-few a, v .tasks);
-        low = rw (a .count, a .period) (packed-all (p .tasks) 64 (higher p i) (λ j. p .task j .period) (λ (x : ℕ). 1 ≤ x) (v .tasks) (λ j l e. omega (arith, v .task-fits j l .execution, v .task-fits j l .within)));
-        period = rw (a .count, a .period) (packed-all (p .tasks) 64 (higher p i) (λ j. p .task j .period) (λ (x : ℕ). x ≤ mostPeriod) (v .tasks) (λ j l e. omega (arith, v .task-fits j l .period)));
-        time = rw (a .count, a .time) (packed-all (p .tasks) 64 (higher p i) (λ j. p .task j .execution) (λ (x : ℕ). x ≤ mostPeriod) (v .tasks) (λ j l e. omega (arith, v .task-fits j l .within, v .task-fits j l .period)));
+        periods-long = rw (a .period) (packed-length (p .tasks) (higher p i) (λ j. p .task j .period) (replicate mostTasks 0));
+        times-long = rw (a .time) (packed-length (p .tasks) (higher p i) (λ j. p .task j .execution) (replicate mostTasks 0));
+        few = omega (arith, a .few, v .tasks);
+        low = every _ (λ (x : ℕ). 1 ≤ x) (a .period) (λ j l. let fits = v .task-fits j l in omega arith);
+        period = every _ (λ (x : ℕ). x ≤ mostPeriod) (a .period) (λ j l. let fits = v .task-fits j l in omega arith);
+        time = every _ (λ (x : ℕ). x ≤ mostPeriod) (a .time) (λ j l. let fits = v .task-fits j l in omega arith);
       }
 
-  pub above-scanned : {row : TaskRow} → i < p .tasks → row ≡ p .task i → Scanned periods times m (row .execution) (row .period)
-  above-scanned l e =
-      let f = v .task-fits i l in
-      rw e
-      (record {
-        above = above-timed;
-        own = omega (arith, f .within, f .period);
-        low = omega (arith, f .execution, f .within);
-        high = omega (arith, f .period);
-      })
+  pub higher-scanned : {row : TaskRow} → i < p .tasks → row ≡ p .task i → Scanned periods times m (row .execution) (row .period)
+  higher-scanned l e =
+      let fits = v .task-fits i l in
+      rw e (record { above = timed; own = omega arith; low = omega arith; high = omega arith })
 
-  above-demand : (t : ℕ) → demandOf periods times m t ≡ demand p i t
+  higher-demand : (t : ℕ) → demandOf periods times m t ≡ demand p i t
   unfolding demandOf demand
-  above-demand t =
+  higher-demand t =
       rw (a .count, a .period, a .time)
-      (packed-sum (p .tasks) 64 (higher p i) (λ j. p .task j .period) (λ j. p .task j .execution) (λ (x y : ℕ). ceilDiv t x * y) (v .tasks))
+      (packed-sum (p .tasks) mostTasks (higher p i) (λ j. p .task j .period) (λ j. p .task j .execution) (λ (x y : ℕ). ceilDiv t x * y) (v .tasks))
 
-  pub above-tolerance : {row : TaskRow} {z : ℤ} → row ≡ p .task i → z ≡ greatestTo (row .period - 1) (leftOf periods times m (row .execution)) → z ≡ tolerance p i
+  -- Equation 12
+  pub higher-tolerance : {row : TaskRow} {z : ℤ} → row ≡ p .task i
+      → z ≡ greatestTo (row .period - 1) (leftOf periods times m (row .execution)) → z ≡ tolerance p i
   unfolding tolerance left
-  above-tolerance e q =
+  higher-tolerance e q =
       q ∙ ap (λ (row : TaskRow). greatestTo (row .period - 1) (leftOf periods times m (row .execution))) e
-      ∙ greatest-same (p .task i .period - 1) _ _ (λ t. ap (λ (d : ℕ). pos (t + 1) -ℤ pos (p .task i .execution + d)) (above-demand (t + 1)))
+      ∙ greatest-same (p .task i .period - 1) _ _ (λ t. ap (λ (d : ℕ). pos (t + 1) -ℤ pos (p .task i .execution + d)) (higher-demand (t + 1)))

@@ -1,6 +1,7 @@
-pub mod Places
-pub mod Terms
+pub mod Ground
+pub mod Precedences
 pub mod Rows
+pub mod Terms
 pub mod Blocking
 pub mod Sides
 pub mod Demand

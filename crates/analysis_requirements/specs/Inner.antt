@@ -7,28 +7,43 @@ use lib.Dec.{eqb, ltb}
 use lib.IntN.{ℤ, pos, _-ℤ_}
 use lib.ListN.{length, getD, replicate}
 use lib.Signed.{leZ}
-use Rattle.sizes.specs.Sizes.{mostTasks, mostResources}
+use Rattle.sizes.specs.Sizes.{mostTasks, mostResources, mostSections}
 use Rattle.folds.specs.Below.{sumBelow, maxBelow, countBelow}
 use Rattle.folds.specs.Packed.{packedBelow}
 use Rattle.plan_reading.specs.Plan.{Plan, planOf, Checked}
 use Rattle.analysis_equations.specs.Sharing.{priorityOf, globalBy, global, uses, higher}
 use Rattle.analysis_equations.specs.Blocking.{ceilDiv, countOn, waitingOn}
-use Rattle.analysis_equations.specs.Bounds.{mostPeriod}
+use Rattle.analysis_equations.specs.Bounds.{mostPeriod, mostDemand, mostWaiting}
 use Rattle.analysis_figures.specs.Figures.{Sharer}
 use Rattle.analysis_requirements.specs.declared.Requirement.{Requirement}
-use Rattle.analysis_requirements.specs.Terms.{longestCell, placeCell, countCell, ceilingCell, sharedCell, termCount, placeOf, Terms, Prepared}
+use Rattle.analysis_requirements.specs.Terms.{longestCell, precedenceCell, countCell, ceilingCell, sharedCell, termCount}
+use Rattle.analysis_requirements.specs.Terms.{precedenceOf, Terms, Prepared}
 
 -- ── the table of terms as it is filled: r resources, n tasks and s sections are passed ──
 
+-- the longest global section of task j among the first s sections
+abbrev pub longestBelow : Plan → ℕ → ℕ → ℕ
+longestBelow p s j = maxBelow s (λ x. cond (globalBy p j x) (p .section x .length) 0)
+
+-- and the highest priority that uses resource q there
+abbrev pub ceilingBelow : Plan → ℕ → ℕ → ℕ
+ceilingBelow p s q = maxBelow s (λ x. cond (eqb (p .section x .resource) q) (priorityOf p (p .section x .task)) 0)
+
+-- the table of those
 pub record TermsBelow (p : Plan) (r n s : ℕ) (t : List ℕ) : Type 0 where
   pub long : length t ≡ termCount
   pub shared : (q : ℕ) → q < r → q < mostResources → getD t (sharedCell q) 0 ≡ cond (global p q) 1 0
-  pub place : (j : ℕ) → j < n → j < mostTasks → getD t (placeCell j) 0 ≡ placeOf p j
-  pub longest : (j : ℕ) → j < mostTasks → getD t (longestCell j) 0 ≡ maxBelow s (λ x. cond (globalBy p j x) (p .section x .length) 0)
+  pub precedence : (j : ℕ) → j < n → j < mostTasks → getD t (precedenceCell j) 0 ≡ precedenceOf p j
+  pub longest : (j : ℕ) → j < mostTasks → getD t (longestCell j) 0 ≡ longestBelow p s j
   pub count : (j : ℕ) → j < mostTasks → getD t (countCell j) 0 ≡ countBelow s (globalBy p j)
-  pub ceiling : (q : ℕ) → q < mostResources → getD t (ceilingCell q) 0 ≡ maxBelow s (λ x. cond (eqb (p .section x .resource) q) (priorityOf p (p .section x .task)) 0)
+  pub ceiling : (q : ℕ) → q < mostResources → getD t (ceilingCell q) 0 ≡ ceilingBelow p s q
 
--- place b is of a's processor, and higher there
+-- the table of a checked file
+pub record Filling (f : List ℕ) (r n s : ℕ) (t : List ℕ) : Type 0 where
+  pub plan : Checked f
+  pub terms : TermsBelow (planOf f) r n s t
+
+-- precedence b is of a's processor, and higher there
 abbrev pub above : ℕ → ℕ → Bool
 above a b = eqb (b / 256) (a / 256) && ltb a b
 
@@ -38,14 +53,21 @@ under a b = eqb (b / 256) (a / 256) && ltb b a
 
 -- ── what is asked ──
 
--- task i of the plan, by its terms
-pub record Asked (f t : List ℕ) (i : ℕ) : Type 0 where
+-- task i of the plan, by its terms; its cells are there, and its count is that of sections
+pub record TaskTerms (f t : List ℕ) (i : ℕ) : Type 0 where
   pub plan : Checked f
   pub terms : Terms (planOf f) t
   pub task : i < planOf f .tasks
+  pub low : i < mostTasks
+  pub few : getD t (countCell i) 0 ≤ mostSections
+
+-- and by both its tables
+pub record TaskTables (f figures t : List ℕ) (i : ℕ) : Type 0 where
+  pub prepared : Prepared f figures t
+  pub task : i < planOf f .tasks
 
 -- task i has n sections on resource q
-pub record Counted (f figures t : List ℕ) (i q n : ℕ) : Type 0 where
+pub record SectionCount (f figures t : List ℕ) (i q n : ℕ) : Type 0 where
   pub prepared : Prepared f figures t
   pub task : i < planOf f .tasks
   pub resource : q < mostResources
@@ -61,16 +83,22 @@ pub record Waiter (f figures : List ℕ) (i q n : ℕ) : Type 0 where
 abbrev pub waitingAt : Plan → ℕ → ℕ → ℕ
 waitingAt p i q = cond (global p q && uses p i q) (waitingOn p i q) 0
 
+-- x is that, and in its range
+pub record WaitingTold (p : Plan) (i q x : ℕ) : Type 0 where
+  pub told : x ≡ waitingAt p i q
+  pub high : x ≤ mostWaiting
+
 -- a figure of each resource
-pub record Row (f : ℕ → ℕ) (t : List ℕ) : Type 0 where
+pub record PerResource (f : ℕ → ℕ) (t : List ℕ) : Type 0 where
   pub long : length t ≡ mostResources
   pub at : (q : ℕ) → q < mostResources → getD t q 0 ≡ f q
 
 -- ── the tolerance ──
 
 -- of the tasks below n, those above task i: how many, their periods and their execution times, from the front
-pub record Above (p : Plan) (i n m : ℕ) (periods times : List ℕ) : Type 0 where
+pub record HigherTasks (p : Plan) (i n m : ℕ) (periods times : List ℕ) : Type 0 where
   pub count : m ≡ countBelow n (higher p i)
+  pub few : m ≤ n
   pub period : periods ≡ packedBelow n (higher p i) (λ j. p .task j .period) (replicate mostTasks 0)
   pub time : times ≡ packedBelow n (higher p i) (λ j. p .task j .execution) (replicate mostTasks 0)
 
@@ -83,6 +111,11 @@ pub record Timed (periods times : List ℕ) (m : ℕ) : Type 0 where
   pub period : (k : ℕ) → k < m → getD periods k 0 ≤ mostPeriod
   pub time : (k : ℕ) → k < m → getD times k 0 ≤ mostPeriod
 
+-- and their demand is asked up to t
+pub record TimedTo (periods times : List ℕ) (m t : ℕ) : Type 0 where
+  pub tasks : Timed periods times m
+  pub time : t ≤ mostPeriod
+
 -- the task's own, beside them
 pub record Scanned (periods times : List ℕ) (m execution period : ℕ) : Type 0 where
   pub above : Timed periods times m
@@ -93,6 +126,11 @@ pub record Scanned (periods times : List ℕ) (m execution period : ℕ) : Type 
 -- the demand of m tasks up to t: ceil(t / period) × time of each
 unfoldable pub demandOf : List ℕ → List ℕ → ℕ → ℕ → ℕ
 demandOf periods times m t = sumBelow m (λ k. ceilDiv t (getD periods k 0) * getD times k 0)
+
+-- x is that, and in its range
+pub record Demanded (periods times : List ℕ) (m t x : ℕ) : Type 0 where
+  pub told : x ≡ demandOf periods times m t
+  pub high : x ≤ mostDemand
 
 -- B1, B2, a tolerance and a waiting side, with the slack that they leave and whether the side is at most it
 abbrev pub comparison : ℕ → ℕ → ℤ → ℕ → Requirement

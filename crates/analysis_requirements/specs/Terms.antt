@@ -1,5 +1,5 @@
--- What a requirement is worked out from beside hold times and budgets, in one table. None of this is a rule of document 01: it says where
--- a figure stands.
+-- What a requirement is worked out from beside hold times and budgets, in one table. No rule of document 01 stands here, only where a
+-- figure stands in the table; crates above lend the table, so it is not private.
 use Prim.Native.Nat.{ℕ, _+_, _*_, _<_}
 use mathlib.Core.Bool.{cond}
 use mathlib.Core.List.{List}
@@ -15,9 +15,9 @@ use Rattle.analysis_figures.specs.Figures.{Known}
 abbrev pub longestCell : ℕ → ℕ
 longestCell j = j
 
--- its place
-abbrev pub placeCell : ℕ → ℕ
-placeCell j = mostTasks + j
+-- its precedence
+abbrev pub precedenceCell : ℕ → ℕ
+precedenceCell j = mostTasks + j
 
 -- how many global sections it has
 abbrev pub countCell : ℕ → ℕ
@@ -35,15 +35,15 @@ sharedCell q = 3 * mostTasks + mostResources + q
 abbrev pub termCount : ℕ
 termCount = 3 * mostTasks + 2 * mostResources
 
--- a task's place: its processor and its priority as one number
-abbrev pub placeOf : Plan → ℕ → ℕ
-placeOf p j = processorOf p j * 256 + priorityOf p j
+-- a task's precedence: its processor and its priority as one number
+abbrev pub precedenceOf : Plan → ℕ → ℕ
+precedenceOf p j = processorOf p j * 256 + priorityOf p j
 
 -- the table
 pub record Terms (p : Plan) (t : List ℕ) : Type 0 where
   pub long : length t ≡ termCount
   pub longest : (j : ℕ) → j < mostTasks → getD t (longestCell j) 0 ≡ longestGlobal p j
-  pub place : (j : ℕ) → j < p .tasks → getD t (placeCell j) 0 ≡ placeOf p j
+  pub precedence : (j : ℕ) → j < p .tasks → getD t (precedenceCell j) 0 ≡ precedenceOf p j
   pub count : (j : ℕ) → j < mostTasks → getD t (countCell j) 0 ≡ globalCount p j
   pub ceiling : (q : ℕ) → q < mostResources → getD t (ceilingCell q) 0 ≡ ceiling p q
   pub shared : (q : ℕ) → q < mostResources → getD t (sharedCell q) 0 ≡ cond (global p q) 1 0

@@ -2,19 +2,20 @@
 // budgets, and a table of what else they are worked out from. Every function here is for the crates above, and says in its `requires` what
 // it relies on.
 ghost use mathlib.Core.Path.{_≡_};
-ghost use Prim.Native.Nat.{_+_, _-_, _≤_, _<_};
+ghost use Prim.Native.Nat.{_+_, _-_, _<_};
 ghost use lib.IntN.{pos, _-ℤ_};
 ghost use lib.Signed.{mag};
 ghost use lib.ListN.{length, getD, replicate};
+ghost use Rattle.sizes.specs.Sizes.{mostTasks, mostResources};
 ghost use Rattle.folds.specs.Signed.{greatestTo};
 ghost use Rattle.plan_reading.specs.Plan.{planOf, Checked};
 ghost use Rattle.analysis_equations.specs.Blocking.{countOn, longestLocal, blocking1, blocking2, waitingOn, waitingSide};
 ghost use Rattle.analysis_equations.specs.Requirement.{tolerance};
-ghost use Rattle.analysis_equations.specs.Bounds.{mostWaiting, mostPeriod, mostDemand};
 ghost use Rattle.analysis_figures.specs.Figures.{Known};
 ghost use Rattle.analysis_requirements.specs.Figures.{requirementOf};
 ghost use Rattle.analysis_requirements.specs.Terms.{countCell, termCount, Terms, Prepared};
-ghost use Rattle.analysis_requirements.specs.Inner.{TermsBelow, Asked, Counted, Waiter, waitingAt, Row, Above, Timed, Scanned, demandOf, comparison};
+ghost use Rattle.analysis_requirements.specs.Inner.{TermsBelow, Filling, TaskTerms, TaskTables, SectionCount, Waiter, WaitingTold, PerResource};
+ghost use Rattle.analysis_requirements.specs.Inner.{HigherTasks, TimedTo, Scanned, Demanded, demandOf, comparison};
 
 // What a task's requirement compares: met when the waiting side is at most the slack.
 pub struct Requirement {
@@ -34,9 +35,9 @@ struct Higher {
 }
 
 // Where the parts of the table of terms begin, behind the longest global section of each task.
-const PLACES: usize = sizes::TASKS;
+const PRECEDENCES: usize = sizes::TASKS;
 
-const COUNTS: usize = PLACES + sizes::TASKS;
+const COUNTS: usize = PRECEDENCES + sizes::TASKS;
 
 const CEILINGS: usize = COUNTS + sizes::TASKS;
 
@@ -47,7 +48,7 @@ pub const TERMS: usize = SHARED + sizes::RESOURCES;
 
 // How many global sections task i has, from the table.
 pub fn count_at(terms: &[u16], i: usize) -> u16
-    requires { ⌜ (length (now terms) ≡ termCount) × (i < 64) ⌝ }
+    requires { ⌜ (length (now terms) ≡ termCount) × (i < mostTasks) ⌝ }
     ensures { λ r. ⌜ r ≡ getD (now (terms .entry)) (countCell i) 0 ⌝ }
 {
     terms[COUNTS + i]
@@ -56,7 +57,7 @@ pub fn count_at(terms: &[u16], i: usize) -> u16
 // Which resources are global, in a table in which all was 0.
 fn put_shared(file: &[u8], figures: &[u16], terms: &mut [u16])
     requires { ⌜ (Known (now file) (now figures)) × (now terms ≡ replicate termCount 0) ⌝ }
-    ensures { λ u. ⌜ TermsBelow (planOf (now (file .entry))) 16 0 0 (now (terms .exit)) ⌝ }
+    ensures { λ u. ⌜ TermsBelow (planOf (now (file .entry))) mostResources 0 0 (now (terms .exit)) ⌝ }
 {
     let mut q = 0;
     while q < sizes::RESOURCES {
@@ -66,24 +67,24 @@ fn put_shared(file: &[u8], figures: &[u16], terms: &mut [u16])
     }
 }
 
-// The place of each task.
-fn put_places(file: &[u8], terms: &mut [u16])
-    requires { ⌜ (Checked (now file)) × (TermsBelow (planOf (now file)) 16 0 0 (now terms)) ⌝ }
-    ensures { λ u. ⌜ TermsBelow (planOf (now (file .entry))) 16 (planOf (now (file .entry)) .tasks) 0 (now (terms .exit)) ⌝ }
+// The precedence of each task: its processor and its priority as one number.
+fn put_precedences(file: &[u8], terms: &mut [u16])
+    requires { ⌜ Filling (now file) mostResources 0 0 (now terms) ⌝ }
+    ensures { λ u. ⌜ TermsBelow (planOf (now (file .entry))) mostResources (planOf (now (file .entry)) .tasks) 0 (now (terms .exit)) ⌝ }
 {
     let counts = plan_reading::checked::counts(file);
     let n = folds::wide(counts.tasks);
     let mut j = 0;
     while j < n {
         let row = plan_reading::checked::task(file, j);
-        terms[PLACES + j] = folds::half(row.processor) * 256 + folds::half(row.priority);
+        terms[PRECEDENCES + j] = folds::half(row.processor) * 256 + folds::half(row.priority);
         j += 1;
     }
 }
 
 // Each task's longest global section and how many it has, and each resource's ceiling, in one pass over the sections.
 fn put_sections(file: &[u8], terms: &mut [u16])
-    requires { ⌜ (Checked (now file)) × (TermsBelow (planOf (now file)) 16 (planOf (now file) .tasks) 0 (now terms)) ⌝ }
+    requires { ⌜ Filling (now file) mostResources (planOf (now file) .tasks) 0 (now terms) ⌝ }
     ensures { λ u. ⌜ Terms (planOf (now (file .entry))) (now (terms .exit)) ⌝ }
 {
     let counts = plan_reading::checked::counts(file);
@@ -96,7 +97,7 @@ fn put_sections(file: &[u8], terms: &mut [u16])
         let shared = terms[SHARED + q];
         let longest = folds::longer(terms[j], folds::chosen(shared == 1, row.length, 0));
         let count = terms[COUNTS + j] + shared;
-        let ceiling = folds::longer(terms[CEILINGS + q], terms[PLACES + j] % 256);
+        let ceiling = folds::longer(terms[CEILINGS + q], terms[PRECEDENCES + j] % 256);
         terms[j] = longest;
         terms[COUNTS + j] = count;
         terms[CEILINGS + q] = ceiling;
@@ -110,18 +111,18 @@ pub fn fill_terms(file: &[u8], figures: &[u16], terms: &mut [u16])
     ensures { λ u. ⌜ Prepared (now (file .entry)) (now (figures .entry)) (now (terms .exit)) ⌝ }
 {
     put_shared(file, figures, terms);
-    put_places(file, terms);
+    put_precedences(file, terms);
     put_sections(file, terms);
 }
 
 // How many sections task i has on each resource.
 fn counts_on(file: &[u8], i: usize) -> [u16; sizes::RESOURCES]
     requires { ⌜ Checked (now file) ⌝ }
-    ensures { λ r. ⌜ Row (countOn (planOf (now (file .entry))) i) r ⌝ }
+    ensures { λ r. ⌜ PerResource (countOn (planOf (now (file .entry))) i) r ⌝ }
 {
     let counts = plan_reading::checked::counts(file);
     let n = counts.sections as usize;
-    let mut table = [0u16; 16];
+    let mut table = [0u16; sizes::RESOURCES];
     let mut s = 0;
     while s < n {
         let row = plan_reading::checked::section(file, s);
@@ -134,7 +135,7 @@ fn counts_on(file: &[u8], i: usize) -> [u16; sizes::RESOURCES]
 
 // The longest section of a task below task i on a local resource whose ceiling is at least i's priority.
 fn longest_local(file: &[u8], terms: &[u16], i: usize) -> u16
-    requires { ⌜ Asked (now file) (now terms) i ⌝ }
+    requires { ⌜ TaskTerms (now file) (now terms) i ⌝ }
     ensures { λ r. ⌜ r ≡ longestLocal (planOf (now (file .entry))) i ⌝ }
 {
     let counts = plan_reading::checked::counts(file);
@@ -160,7 +161,7 @@ fn longest_local(file: &[u8], terms: &[u16], i: usize) -> u16
 
 // Equation 4: B1.
 fn blocking1_of(file: &[u8], terms: &[u16], i: usize) -> u32
-    requires { ⌜ Asked (now file) (now terms) i ⌝ }
+    requires { ⌜ TaskTerms (now file) (now terms) i ⌝ }
     ensures { λ r. ⌜ r ≡ blocking1 (planOf (now (file .entry))) i ⌝ }
 {
     let count = count_at(terms, i) as u32;
@@ -170,18 +171,18 @@ fn blocking1_of(file: &[u8], terms: &[u16], i: usize) -> u32
 
 // Equation 5: B2.
 fn blocking2_of(file: &[u8], terms: &[u16], i: usize) -> u32
-    requires { ⌜ Asked (now file) (now terms) i ⌝ }
+    requires { ⌜ TaskTerms (now file) (now terms) i ⌝ }
     ensures { λ r. ⌜ r ≡ blocking2 (planOf (now (file .entry))) i ⌝ }
 {
     let counts = plan_reading::checked::counts(file);
     let n = folds::wide(counts.tasks);
-    let mine = terms[PLACES + i];
+    let mine = terms[PRECEDENCES + i];
     let times = terms[COUNTS + i] as u32 + 1;
     let mut sum = 0u32;
     let mut j = 0;
     while j < n {
-        let place = terms[PLACES + j];
-        let is_under = (place / 256 == mine / 256) & (place < mine);
+        let theirs = terms[PRECEDENCES + j];
+        let is_under = (theirs / 256 == mine / 256) & (theirs < mine);
         let longest = folds::chosen(is_under, terms[j], 0);
         sum += folds::smaller(times, terms[COUNTS + j] as u32) * longest as u32;
         j += 1;
@@ -205,9 +206,8 @@ fn waiting_on(file: &[u8], figures: &[u16], count: u16, i: usize, q: usize) -> u
 
 // The same where q is global and task i uses it, else 0.
 fn waiting_at(file: &[u8], figures: &[u16], terms: &[u16], count: u16, i: usize, q: usize) -> u64
-    requires { ⌜ Counted (now file) (now figures) (now terms) i q count ⌝ }
-    ensures { λ r. ⌜ r ≡ waitingAt (planOf (now (file .entry))) i q ⌝ }
-    ensures { λ r. ⌜ r ≤ mostWaiting ⌝ }
+    requires { ⌜ SectionCount (now file) (now figures) (now terms) i q count ⌝ }
+    ensures { λ r. ⌜ WaitingTold (planOf (now (file .entry))) i q r ⌝ }
 {
     if terms[SHARED + q] == 0 {
         return 0;
@@ -220,7 +220,7 @@ fn waiting_at(file: &[u8], figures: &[u16], terms: &[u16], count: u16, i: usize,
 
 // Equation 7: the waiting side of task i.
 fn waiting_side(file: &[u8], figures: &[u16], terms: &[u16], i: usize) -> u64
-    requires { ⌜ (Prepared (now file) (now figures) (now terms)) × (i < planOf (now file) .tasks) ⌝ }
+    requires { ⌜ TaskTables (now file) (now figures) (now terms) i ⌝ }
     ensures { λ r. ⌜ r ≡ waitingSide (planOf (now (file .entry))) i ⌝ }
 {
     let counts = plan_reading::checked::counts(file);
@@ -237,19 +237,19 @@ fn waiting_side(file: &[u8], figures: &[u16], terms: &[u16], i: usize) -> u64
 
 // The tasks above task i.
 fn higher_tasks(file: &[u8], terms: &[u16], i: usize) -> Higher
-    requires { ⌜ Asked (now file) (now terms) i ⌝ }
-    ensures { λ r. ⌜ Above (planOf (now (file .entry))) i (planOf (now (file .entry)) .tasks) (r .count) (r .periods) (r .times) ⌝ }
+    requires { ⌜ TaskTerms (now file) (now terms) i ⌝ }
+    ensures { λ r. ⌜ HigherTasks (planOf (now (file .entry))) i (planOf (now (file .entry)) .tasks) (r .count) (r .periods) (r .times) ⌝ }
 {
     let counts = plan_reading::checked::counts(file);
     let n = folds::wide(counts.tasks);
-    let mine = terms[PLACES + i];
+    let mine = terms[PRECEDENCES + i];
     let mut count = 0;
     let mut periods = [0u32; sizes::TASKS];
     let mut times = [0u32; sizes::TASKS];
     let mut j = 0;
     while j < n {
-        let place = terms[PLACES + j];
-        if (place / 256 == mine / 256) & (mine < place) {
+        let theirs = terms[PRECEDENCES + j];
+        if (theirs / 256 == mine / 256) & (mine < theirs) {
             let row = plan_reading::checked::task(file, j);
             periods[count] = row.period as u32;
             times[count] = row.execution as u32;
@@ -266,8 +266,8 @@ fn higher_tasks(file: &[u8], terms: &[u16], i: usize) -> Higher
 
 // The demand of the first m of those tasks up to t.
 fn demand_of(periods: &[u32], times: &[u32], m: usize, t: u32) -> u64
-    requires { ⌜ (Timed (now periods) (now times) m) × (t ≤ mostPeriod) ⌝ }
-    ensures { λ r. ⌜ (r ≡ demandOf (now (periods .entry)) (now (times .entry)) m t) × (r ≤ mostDemand) ⌝ }
+    requires { ⌜ TimedTo (now periods) (now times) m t ⌝ }
+    ensures { λ r. ⌜ Demanded (now (periods .entry)) (now (times .entry)) m t r ⌝ }
 {
     let mut sum = 0u64;
     let mut k = 0;
@@ -298,7 +298,7 @@ fn scan(periods: &[u32], times: &[u32], m: usize, own: u32, period: u32) -> i64
 
 // Equation 12: the tolerance of task i.
 fn tolerance_of(file: &[u8], terms: &[u16], i: usize) -> i64
-    requires { ⌜ Asked (now file) (now terms) i ⌝ }
+    requires { ⌜ TaskTerms (now file) (now terms) i ⌝ }
     ensures { λ r. ⌜ r ≡ tolerance (planOf (now (file .entry))) i ⌝ }
 {
     let task = plan_reading::checked::task(file, i);

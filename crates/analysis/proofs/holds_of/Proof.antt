@@ -2,14 +2,15 @@
 use Rattle.folds.proofs.Ground.{_≤_, _-_, _≡_, refl, getD, replicate, arith}
 use Rattle.folds.specs.Bytes.{placedBelow}
 use Rattle.folds.proofs.Arrays.{placed-step, placed-done}
+use Rattle.analysis.specs.Answers.{holdCount}
 use Rattle.analysis.proofs.holds_of.Statement.{statement}
 use Rattle.analysis.proofs.holds_of.Tie as tie
 
 abbrev Inv-loop : tie.InvT-loop
-Inv-loop figures times₀ x₀ times x = (x ≤ 1024) × (times ≡ placedBelow x (λ y. getD figures y 0) (replicate 1024 0))
+Inv-loop figures times₀ x₀ times x = (x ≤ holdCount) × (times ≡ placedBelow x (λ y. getD figures y 0) (replicate holdCount 0))
 
 abbrev μ-loop : tie.MeasureT-loop
-μ-loop figures times₀ x₀ times x = 1024 - x
+μ-loop figures times₀ x₀ times x = holdCount - x
 
 loop-holds : tie.Need-loop-holds Inv-loop μ-loop
 unfolding placedBelow
@@ -21,4 +22,4 @@ holds-of-spec =
     (tie.spec
     Inv-loop μ-loop loop-holds (λ c. omega arith) (λ c. omega arith) (λ c. omega arith) (λ c. omega arith) (λ c. omega arith)
     (λ c. omega arith) (λ c. let l = c .before .before .loop in (omega arith, placed-step (l .x) _ _ (l .inv .1) refl))
-    (λ c. let l = c .before .loop in placed-done 1024 (l .x) _ _ (omega arith) (l .inv .1)))
+    (λ c. let l = c .before .loop in placed-done holdCount (l .x) _ _ (omega arith) (l .inv .1)))

@@ -1,5 +1,5 @@
 -- The number of the reading, then the answer of the checked plan.
-use Rattle.folds.proofs.Ground.{sym, _∙_, needs}
+use Rattle.folds.proofs.Ground.{needs}
 use Rattle.analysis.specs.Answers.{requirementRefusal}
 use Rattle.analysis.proofs.Told.{checked-file, reading-fails, reading-requirement, requirement-refused, requirement-told}
 use Rattle.analysis.proofs.requirement.Statement.{statement}
@@ -11,10 +11,12 @@ returns c = requirement-told _ _ (requirement-refused _ (reading-fails _ _ (c .b
 
 returns-2 : tie.Need-returns-2
 unfolding requirementRefusal
-returns-2 c = requirement-told _ _ (reading-requirement _ _ _ (c .before .before .check .ensures) (c .before .if1 .left) (c .requirement-question .ensures))
+returns-2 c =
+    let e = c .before in
+    requirement-told _ _ (reading-requirement _ _ _ (e .before .check .ensures) (e .if1 .left) (c .requirement-question .ensures))
 
 pub requirement-spec : {M : Type 1} → statement M
 requirement-spec = tie.close (tie.spec
     (λ c κs. search needs) returns
-    (λ c κs. checked-file _ (sym (c .before .check .ensures) ∙ c .if1 .left) (λ i. c .before .before .shared-slice-known .given i .fits))
+    (λ c κs. checked-file (c .before .check .ensures) (c .if1 .left) (λ i. c .before .before .shared-slice-known .given i .fits))
     returns-2)

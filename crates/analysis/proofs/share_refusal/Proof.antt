@@ -16,5 +16,5 @@ returns-2 c = c .processor-code .ensures ∙ sym (reading-holds _ _ (c .before .
 pub share-refusal-spec : {M : Type 1} → statement M
 share-refusal-spec = tie.close (tie.spec
     (λ c κs. search needs) returns
-    (λ c κs. checked-file _ (sym (c .before .check .ensures) ∙ c .if1 .left) (λ i. c .before .before .shared-slice-known .given i .fits))
+    (λ c κs. checked-file (c .before .check .ensures) (c .if1 .left) (λ i. c .before .before .shared-slice-known .given i .fits))
     returns-2)

@@ -1,11 +1,11 @@
 -- A number of 0 says that the file is checked and the resource is there.
-use Rattle.folds.proofs.Ground.{sym, _∙_, needs}
-use Rattle.analysis.proofs.Told.{share-clear, figure-given, figure-refused, figure-told}
+use Rattle.folds.proofs.Ground.{needs}
+use Rattle.analysis.proofs.Told.{share-clear, figure-given, figure-refused}
 use Rattle.analysis.proofs.wait_time.Statement.{statement}
 use Rattle.analysis.proofs.wait_time.Tie as tie
 
 pub wait-time-spec : {M : Type 1} → statement M
 wait-time-spec = tie.close (tie.spec
-    (λ c κs. search needs) (λ c. figure-told _ _ (figure-refused _ (c .before .share-refusal .ensures) (c .if1 .taken)))
-    (λ c κs. share-clear _ _ _ (sym (c .before .share-refusal .ensures) ∙ c .if1 .left) (λ i. c .before .before .shared-slice-known .given i .fits))
-    (λ c. figure-told _ _ (figure-given (sym (c .before .if1 .left) ∙ c .before .before .share-refusal .ensures) (c .shares-of .ensures .1))))
+    (λ c κs. search needs) (λ c. figure-refused _ (c .before .share-refusal .ensures) (c .if1 .taken))
+    (λ c κs. share-clear _ _ _ (c .before .share-refusal .ensures) (c .if1 .left) (λ i. c .before .before .shared-slice-known .given i .fits))
+    (λ c. let e = c .before in figure-given (e .before .share-refusal .ensures) (e .if1 .left) (c .shares-of .ensures .wait)))

@@ -1,15 +1,12 @@
 -- The tolerance and the slack are read back from their bits.
 use mir.Facts.{toZ-ofZ}
-use Rattle.folds.proofs.Ground.{needs}
+use Rattle.analysis_requirements.proofs.Ground.{needs}
 use Rattle.folds.proofs.SignedLaws.{back}
 use Rattle.analysis_requirements.proofs.Sides.{comparison-told}
 use Rattle.analysis_requirements.proofs.compared.Statement.{statement}
 use Rattle.analysis_requirements.proofs.compared.Tie as tie
 
-returns : tie.Need-returns
-returns c =
-    let s = c .before .minus in
-    comparison-told (toZ-ofZ (c .before .before .fits .tolerance)) (back _ (s .ok)) (s .ensures) (c .at-most .ensures)
-
 pub compared-spec : {M : Type 1} → statement M
-compared-spec = tie.close (tie.spec (λ c. search needs) (λ c κs. search needs) (λ c κs. search needs) returns)
+compared-spec = tie.close (tie.spec (λ c. search needs) (λ c κs. search needs) (λ c κs. search needs)
+    (λ c. let s = c .before .minus in
+    comparison-told (toZ-ofZ (c .before .before .fits .tolerance)) (back _ (s .ok)) (s .ensures) (c .at-most .ensures)))

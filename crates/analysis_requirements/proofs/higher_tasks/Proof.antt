@@ -1,72 +1,58 @@
 -- The invariant: the tasks below j that are above task i are counted and packed.
-use Rattle.folds.proofs.Ground.{_≤_, _-_, _≡_, sym, ap, _∙_, ⊎-elim, arith}
-use Rattle.plan_rules.specs.declared.TaskRow.{TaskRow}
-use Rattle.plan_reading.specs.Plan.{planOf}
-use Rattle.plan_reading.proofs.Laws.{valid-plan}
-use Rattle.analysis_requirements.proofs.Places.{table-above}
-use Rattle.analysis_requirements.specs.Inner.{Above}
-use Rattle.analysis_requirements.proofs.Demand.{above-none, above-few, above-taken, above-skipped, above-done}
+use Rattle.analysis_requirements.proofs.Ground.{ℕ, _≤_, _-_, sym, ap, _∙_, List, ⊎-elim, arith, needs, mostTasks, TaskRow, planOf, valid-plan}
+use Rattle.analysis_requirements.proofs.Ground.{HigherTasks}
+use Rattle.analysis_requirements.proofs.Precedences.{table-above}
+use Rattle.analysis_requirements.proofs.Blocking.{Over, over}
+use Rattle.analysis_requirements.proofs.Demand.{higher-none, higher-taken, higher-skipped, higher-done}
 use Rattle.analysis_requirements.proofs.higher_tasks.Statement.{statement}
 use Rattle.analysis_requirements.proofs.higher_tasks.Tie as tie
 
+record Turn (f t : List ℕ) (i n j m : ℕ) (periods times : List ℕ) : Type 0 where
+  within : j ≤ n
+  over : Over f t i n (planOf f .tasks) mostTasks
+  packed : HigherTasks (planOf f) i j m periods times
+
 abbrev Inv-loop : tie.InvT-loop
-Inv-loop file terms i n mine count₀ periods₀ times₀ j₀ count periods times j =
-    (j ≤ n) × (n ≡ planOf file .tasks) × (n ≤ 64) × Above (planOf file) i j count periods times
+Inv-loop file terms i n mine count₀ periods₀ times₀ j₀ count periods times j = Turn file terms i n j count periods times
 
 abbrev μ-loop : tie.MeasureT-loop
 μ-loop file terms i n mine count₀ periods₀ times₀ j₀ count periods times j = n - j
 
-add-mine : tie.Need-add-mine Inv-loop μ-loop
-add-mine c =
-    let a = c .before .before .before .before in
-    omega (arith, valid-plan _ (a .pre .plan) .tasks, a .pre .task)
-
-mul-mine : tie.Need-mul-mine Inv-loop μ-loop
-mul-mine c =
-    let a = c .before .before .before .before in
-    omega (arith, valid-plan _ (a .pre .plan) .tasks, a .pre .task)
-
-shared-slice-read-mine : tie.Need-shared-slice-read-mine Inv-loop μ-loop
-shared-slice-read-mine c =
-    let a = c .before .before .before .before .before in
-    omega (arith, a .pre .terms .long, valid-plan _ (a .pre .plan) .tasks, a .pre .task)
+abbrev start : tie.After-wide Inv-loop μ-loop → tie.Start Inv-loop μ-loop
+start c = c .before .before .before .before
 
 loop-holds : tie.Need-loop-holds Inv-loop μ-loop
 loop-holds c =
-    let a = c .before .before .before .before .before in
-    let e = c .before .wide .ensures .same ∙ c .before .before .counts .ensures .tasks in
-    (omega arith, e, omega (arith, e, valid-plan _ (a .pre .plan) .tasks), above-none _ _)
+    let w = c .before in
+    let h = start w .pre in
+    let e = w .wide .ensures .same ∙ w .before .counts .ensures .tasks in
+    record { within = omega arith; over = over h e (valid-plan _ (h .plan) .tasks); packed = higher-none _ _ }
 
 loop-again : tie.Need-loop-again Inv-loop μ-loop
 loop-again c =
     let l = c .before .before .before .loop in
-    let a = c .before .before .before .before .before .before .before .before .before in
-    let test = table-above (planOf (a .args .file .now)) (valid-plan _ (a .pre .plan)) (a .args .terms .now) (a .pre .terms) (a .args .i) (l .j) (a .pre .task) (omega arith) in (
-      omega arith,
-      l .inv .1,
-      l .inv .2,
-      ⊎-elim
-          (λ t. rw (t .4, t .5, t .6) (above-taken (l .inv .3) (sym test ∙ t .0 .taken) (ap (λ (r : TaskRow). r .period) (t .1 .ensures)) (ap (λ (r : TaskRow). r .execution) (t .1 .ensures))))
-          (λ t. rw (t .1, t .2, t .3) (above-skipped (l .inv .3) (sym test ∙ t .0 .left)))
-          (c .if1 .came),
-    )
-
-returns : tie.Need-returns Inv-loop μ-loop
-returns c =
-    let l = c .before .loop in
-    above-done (l .inv .3) (omega arith)
+    let i = l .inv in
+    let h = i .over .asked in
+    let test = table-above _ (valid-plan _ (h .plan)) _ (h .terms) _ (l .j) (h .task) (omega (arith, i .over .all)) in
+    record {
+      within = omega arith;
+      over = i .over;
+      packed = ⊎-elim
+          (λ t. let row = t .1 .ensures in
+          rw (t .4, t .5, t .6)
+          (higher-taken (i .packed) (sym test ∙ t .0 .taken) (ap (λ (r : TaskRow). r .period) row) (ap (λ (r : TaskRow). r .execution) row)))
+          (λ t. rw (t .1, t .2, t .3) (higher-skipped (i .packed) (sym test ∙ t .0 .left)))
+          (c .if1 .came);
+    }
 
 pub higher-tasks-spec : {M : Type 1} → statement M
 higher-tasks-spec =
     tie.close
     (tie.spec
-    Inv-loop μ-loop (λ c κs. c .before .before .pre .plan) (λ c κs. tt) add-mine mul-mine shared-slice-read-mine loop-holds
-    (λ c. omega arith) (λ c. omega arith)
-    (λ c. omega (arith, c .before .before .before .before .before .before .before .before .pre .terms .long))
-    (λ c κs. (c .before .before .before .before .before .before .before .before .before .pre .plan, omega arith))
-    (λ c. omega arith) (λ c. omega (arith, above-few (c .before .before .before .before .before .loop .inv .3)))
-    (λ c. omega (arith, above-few (c .before .before .before .before .before .loop .inv .3))) (λ c. omega arith)
-    (λ c. omega (arith, above-few (c .before .before .before .before .before .before .loop .inv .3)))
-    (λ c. omega (arith, above-few (c .before .before .before .before .before .before .loop .inv .3)))
-    (λ c. omega (arith, above-few (c .before .before .before .before .before .before .loop .inv .3))) (λ c. omega arith)
-    (λ c. omega arith) loop-again returns)
+    Inv-loop μ-loop (λ c κs. search needs) (λ c κs. tt) (λ c. omega arith)
+    (λ c. omega arith) (λ c. omega arith) loop-holds
+    (λ c. omega arith) (λ c. omega arith) (λ c. omega arith)
+    (λ c κs. search needs)
+    (λ c. omega arith) (λ c. omega arith) (λ c. omega arith) (λ c. omega arith) (λ c. omega arith) (λ c. omega arith) (λ c. omega arith)
+    (λ c. omega arith) (λ c. omega arith) loop-again
+    (λ c. let i = c .before .loop .inv in higher-done (i .packed) (omega (arith, i .over .all))))

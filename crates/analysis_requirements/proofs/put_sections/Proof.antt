@@ -1,19 +1,15 @@
 -- The invariant: the table tells of the sections below `s`.
-use Rattle.folds.proofs.Ground.{ℕ, _<_, _≤_, _-_, _≡_, refl, sym, ap, _∙_, List, length-set, arith, needs}
-use Rattle.plan_rules.specs.declared.SectionRow.{SectionRow}
-use Rattle.plan_reading.specs.Plan.{planOf, Checked}
-use Rattle.plan_reading.proofs.Laws.{valid-plan}
-use Rattle.analysis_requirements.specs.Inner.{TermsBelow}
-use Rattle.analysis_requirements.proofs.Rows.{row-task, row-resource}
-use Rattle.analysis_requirements.proofs.Terms.{count-low, terms-section, terms-done}
+use Rattle.analysis_requirements.proofs.Ground.{ℕ, _≤_, _-_, _≡_, refl, sym, _∙_, List, length-set, arith, needs, mostResources, planOf}
+use Rattle.analysis_requirements.proofs.Ground.{valid-plan, Filling}
+use Rattle.analysis_requirements.proofs.Rows.{SectionRead}
+use Rattle.analysis_requirements.proofs.Terms.{Cells, cells, count-low, terms-section, terms-done}
 use Rattle.analysis_requirements.proofs.put_sections.Statement.{statement}
 use Rattle.analysis_requirements.proofs.put_sections.Tie as tie
 
 record Turn (f : List ℕ) (n s : ℕ) (t : List ℕ) : Type 0 where
   within : s ≤ n
   all : n ≡ planOf f .sections
-  plan : Checked f
-  terms : TermsBelow (planOf f) 16 (planOf f .tasks) s t
+  table : Filling f mostResources (planOf f .tasks) s t
 
 abbrev Inv-loop : tie.InvT-loop
 Inv-loop file terms₀ n s₀ terms s = Turn file n s terms
@@ -21,84 +17,62 @@ Inv-loop file terms₀ n s₀ terms s = Turn file n s terms
 abbrev μ-loop : tie.MeasureT-loop
 μ-loop file terms₀ n s₀ terms s = n - s
 
-loop-holds : tie.Need-loop-holds Inv-loop μ-loop
-loop-holds c = let h = c .before .before .before .before .pre in record { within = omega arith; all = c .before .counts .ensures .sections; plan = h .0; terms = h .1 }
-
 -- ── where the task and the resource of the section are read ──
 abbrev Read : Type 0
 Read = tie.After-wide2 Inv-loop μ-loop
 
-low-task : (r : Read) → r .before .wide .result < 64
-low-task r =
-    let i = r .before .before .before .before .loop .inv in
-    omega (arith, valid-plan _ (i .plan) .tasks, row-task _ (i .plan) (i .all) (r .before .before .before .loop-test .taken) (r .before .before .section .ensures) (r .before .wide .ensures .same))
+abbrev turn : Read → tie.At-loop Inv-loop μ-loop
+turn r = r .before .before .before .before
 
-low-resource : (r : Read) → r .wide2 .result < 16
-low-resource r =
-    let i = r .before .before .before .before .loop .inv in
-    row-resource _ (i .plan) (i .all) (r .before .before .before .loop-test .taken) (r .before .before .section .ensures) (r .wide2 .ensures .same)
+abbrev counted : Read → tie.After-counts Inv-loop μ-loop
+counted r = turn r .before .before
 
-task-is : (r : Read) → r .before .wide .result ≡ planOf (r .before .before .before .before .before .before .before .before .before .args .file .now) .section (r .before .before .before .before .loop .s) .task
-task-is r = r .before .wide .ensures .same ∙ ap (λ (x : SectionRow). x .task) (r .before .before .section .ensures)
+abbrev file : Read → List ℕ
+file r = counted r .before .before .before .args .file .now
 
-resource-is : (r : Read) → r .wide2 .result ≡ planOf (r .before .before .before .before .before .before .before .before .before .args .file .now) .section (r .before .before .before .before .loop .s) .resource
-resource-is r = r .wide2 .ensures .same ∙ ap (λ (x : SectionRow). x .resource) (r .before .before .section .ensures)
+read : (r : Read) → SectionRead (planOf (file r)) (turn r .loop .s) (r .before .wide .result) (r .wide2 .result) (r .before .before .section .result)
+read r = search needs
 
-length-is : (r : Read) → r .before .before .section .result .length ≡ planOf (r .before .before .before .before .before .before .before .before .before .args .file .now) .section (r .before .before .before .before .loop .s) .length
-length-is r = ap (λ (x : SectionRow). x .length) (r .before .before .section .ensures)
+there : (r : Read) → Cells (planOf (file r)) (turn r .loop .terms) (r .before .wide .result) (r .wide2 .result)
+there r = let t = turn r .loop .inv .table in cells _ (valid-plan _ (t .plan)) (read r) _ (t .terms)
 
-below : (r : Read) → r .before .before .before .before .loop .s < planOf (r .before .before .before .before .before .before .before .before .before .args .file .now) .sections
-below r = omega (arith, r .before .before .before .before .loop .inv .all)
+-- ── once the longest is known, and once all is ──
+abbrev longest : tie.After-longer Inv-loop μ-loop → Read
+longest c = c .before .before .before .before
 
--- ── the needs ──
-slice-read-shared : tie.Need-slice-read-shared Inv-loop μ-loop
-slice-read-shared c = let r = c .before in omega (arith, low-resource r, r .before .before .before .before .loop .inv .terms .long)
-
-add-count : tie.Need-add-count-2 Inv-loop μ-loop
-add-count c =
-    let r = c .before .before .before .before .before in
-    let l = r .before .before .before .before .loop in
-    omega (arith, count-low _ (valid-plan _ (l .inv .plan)) (l .s) _ _ _ _ (l .inv .terms) (below r) (task-is r) (resource-is r) (length-is r))
-
-slice-read-ceiling : tie.Need-slice-read-longer-2 Inv-loop μ-loop
-slice-read-ceiling c = let r = c .before .before .before .before .before .before in omega (arith, low-resource r, r .before .before .before .before .loop .inv .terms .long)
-
-slice-read-place : tie.Need-slice-read-longer-3 Inv-loop μ-loop
-slice-read-place c = let r = c .before .before .before .before .before .before .before in omega (arith, low-task r, r .before .before .before .before .loop .inv .terms .long)
-
-slice-write-longest : tie.Need-slice-write-terms Inv-loop μ-loop
-slice-write-longest c = let r = c .before .before .before .before .before .before .before .before in omega (arith, low-task r, r .before .before .before .before .loop .inv .terms .long)
-
-slice-write-count : tie.Need-slice-write-terms-2 Inv-loop μ-loop
-slice-write-count c = let r = c .before .before .before .before .before .before .before .before in rw length-set (omega (arith, low-task r, r .before .before .before .before .loop .inv .terms .long))
-
-slice-write-ceiling : tie.Need-slice-write-terms-3 Inv-loop μ-loop
-slice-write-ceiling c = let r = c .before .before .before .before .before .before .before .before in rw (length-set, length-set) (omega (arith, low-resource r, r .before .before .before .before .loop .inv .terms .long))
+abbrev known : tie.After-longer2 Inv-loop μ-loop → tie.After-longer Inv-loop μ-loop
+known c = c .before .before .before .before
 
 loop-again : tie.Need-loop-again Inv-loop μ-loop
 loop-again c =
-    let r = c .before .before .before .before .before .before .before .before in
-    let l = r .before .before .before .before .loop in
-    let i = l .inv in
-    record {
-      within = omega arith;
-      all = i .all;
-      plan = i .plan;
-      terms = terms-section _ (valid-plan _ (i .plan)) (l .s) _ _ _ _ (i .terms) (below r) (task-is r) (resource-is r) (length-is r) (c .before .before .before .before .before .chosen .ensures) (c .before .before .before .before .longer .ensures) refl (c .longer2 .ensures);
-    }
+    let r = longest (known c) in
+    let t = turn r .loop .inv .table in
+    let terms = terms-section _ (valid-plan _ (t .plan)) (read r) _ (t .terms)
+    (known c .before .chosen .ensures) (known c .longer .ensures) refl (c .longer2 .ensures) in
+    search needs
+
+returns : tie.Need-returns Inv-loop μ-loop
+returns c =
+    let l = c .before .loop in
+    let t = l .inv .table in
+    terms-done _ (valid-plan _ (t .plan)) (l .s) (omega (arith, l .inv .all)) (t .terms)
 
 pub put-sections-spec : {M : Type 1} → statement M
 put-sections-spec =
     tie.close
     (tie.spec
-    Inv-loop μ-loop (λ c κs. c .before .before .pre .0) (λ c. omega arith) loop-holds
-    (λ c κs. let i = c .before .loop .inv in (i .plan, omega (arith, i .all))) (λ c κs. search needs) (λ c κs. search needs)
-    (λ c. omega arith) (λ c. omega arith) slice-read-shared (λ c. omega arith)
-    (λ c. let r = c .before .before in omega (arith, low-task r, r .before .before .before .before .loop .inv .terms .long))
+    Inv-loop μ-loop (λ c κs. search needs) (λ c. omega arith)
+    (λ c. search needs) (λ c κs. search needs) (λ c κs. search needs) (λ c κs. search needs)
+    (λ c. omega arith) (λ c. omega arith) (λ c. let h = there (c .before) in omega arith) (λ c. omega arith)
+    (λ c. let h = there (c .before .before) in omega arith)
     (λ c κs. search needs) (λ c κs. search needs) (λ c. omega arith) (λ c. omega arith)
-    (λ c. let r = c .before .before .before .before .before in omega (arith, low-task r, r .before .before .before .before .loop .inv .terms .long))
-    add-count (λ c. omega arith) (λ c. omega arith) slice-read-ceiling (λ c. omega arith) (λ c. omega arith) slice-read-place
-    (λ c κs. search needs) (λ c. omega arith) slice-write-longest (λ c. omega arith) (λ c. omega arith) slice-write-count
-    (λ c. omega arith) (λ c. omega arith) slice-write-ceiling (λ c. omega arith) (λ c. omega arith) loop-again
-    (λ c. c .before .loop .inv .terms .long ∙ sym (c .before .before .before .before .before .before .pre .1 .long))
-    (λ c. let l = c .before .loop in terms-done _ (valid-plan _ (l .inv .plan)) (l .s) (omega (arith, l .inv .all)) (l .inv .terms)))
+    (λ c. let h = there (longest (c .before)) in omega arith)
+    (λ c. let r = longest (c .before) in let t = turn r .loop .inv .table in
+    omega (arith, count-low _ (valid-plan _ (t .plan)) (read r) _ (t .terms)))
+    (λ c. omega arith) (λ c. omega arith) (λ c. let h = there (longest (c .before .before)) in omega arith)
+    (λ c. omega arith) (λ c. omega arith) (λ c. let h = there (longest (c .before .before .before)) in omega arith)
+    (λ c κs. search needs) (λ c. omega arith) (λ c. let h = there (longest (known c)) in omega arith) (λ c. omega arith) (λ c. omega arith)
+    (λ c. let h = there (longest (known c)) in rw length-set (omega arith)) (λ c. omega arith) (λ c. omega arith)
+    (λ c. let h = there (longest (known c)) in rw (length-set, length-set) (omega arith)) (λ c. omega arith) (λ c. omega arith) loop-again
+    (λ c. let b = c .before .before .before .before in c .before .loop .inv .table .terms .long ∙ sym (b .before .before .pre .terms .long))
+    returns)

@@ -1,27 +1,35 @@
 -- Each figure comes from its call; the tolerance is read back from its bits.
-use Rattle.folds.proofs.Ground.{_∙_}
+use Rattle.analysis_requirements.proofs.Ground.{_∙_, arith, needs, valid-plan, TaskTerms}
 use Rattle.folds.proofs.SignedLaws.{back}
-use Rattle.plan_reading.proofs.Laws.{valid-plan}
-use Rattle.analysis_requirements.proofs.Sides.{tolerance-fits, requirement-told}
+use Rattle.analysis_equations.proofs.Laws.{tolerance-mag}
+use Rattle.analysis_requirements.proofs.Blocking.{task-terms}
+use Rattle.analysis_requirements.proofs.Sides.{requirement-told}
 use Rattle.analysis_requirements.proofs.requirement_of.Statement.{statement}
 use Rattle.analysis_requirements.proofs.requirement_of.Tie as tie
 
+asked : (s : tie.Start) → TaskTerms (s .args .file .now) (s .args .terms .now) (s .args .i)
+asked s = task-terms (s .pre .0) (s .pre .1)
+
+abbrev start : tie.After-blocking1-of → tie.Start
+start c = c .before .before .before .before
+
 compared-requires : tie.Need-compared-requires
 compared-requires c κs =
-    let h = c .before .before .before .before .before .before .before .pre in
     let z = c .before .tolerance-of in
-    tolerance-fits _ (valid-plan _ (h .0 .known .plan)) _ (h .1) (back _ (z .ok) ∙ z .ensures)
+    let h = asked (start (c .before .before .before)) in
+    rw (back _ (z .ok) ∙ z .ensures) (omega (arith, tolerance-mag _ (valid-plan _ (h .plan)) _ (h .task)))
 
 returns : tie.Need-returns
 returns c =
-    let z = c .before .before .tolerance-of in
-    requirement-told _ _ (c .compared .ensures) (c .before .before .before .before .blocking1-of .ensures) (c .before .before .before .blocking2-of .ensures) (back _ (z .ok) ∙ z .ensures) (c .before .waiting-side .ensures)
+    let s = c .before in
+    let z = s .before .tolerance-of in
+    let b = s .before .before in
+    requirement-told _ _ (c .compared .ensures) (b .before .blocking1-of .ensures) (b .blocking2-of .ensures) (back _ (z .ok) ∙ z .ensures)
+    (s .waiting-side .ensures)
 
 pub requirement-of-spec : {M : Type 1} → statement M
 requirement-of-spec =
     tie.close
     (tie.spec
-    (λ c κs. let h = c .before .before .before .pre in record { plan = h .0 .known .plan; terms = h .0 .terms; task = h .1 })
-    (λ c κs. let h = c .before .before .before .before .pre in record { plan = h .0 .known .plan; terms = h .0 .terms; task = h .1 })
-    (λ c κs. let h = c .before .before .before .before .before .pre in record { plan = h .0 .known .plan; terms = h .0 .terms; task = h .1 }) (λ c κs. c .before .before .before .before .before .before .pre) compared-requires
-    returns)
+    (λ c κs. asked (c .before .before .before)) (λ c κs. asked (start c)) (λ c κs. asked (start (c .before))) (λ c κs. search needs)
+    compared-requires returns)
