@@ -1,15 +1,24 @@
 -- What counts, rows and lengths that keep their rules have, and the laws of the numbers of names.
-use Rattle.folds.proofs.Ground.{ℕ, _+_, _-_, _*_, _/_, _<_, _≤_, Bool, true, false, cond, _&&_, not, _≡_, refl, sym, ap, _∙_, List, leb, ltb, eqb, length, getD, replicate, add-zero, add-assoc, arith, le-leb, ltb-true, ltb-false, leb-true, eq-eqb, ne-eqb, eqb-true, eqb-false, not-true}
+use Rattle.folds.proofs.Ground.{ℕ, _+_, _-_, _*_, _/_, _<_, _≤_, Bool, true, false, cond, _&&_, not, and-comm, _≡_, refl, sym, ap, _∙_, List, leb, ltb, eqb, length, getD, replicate, add-zero, add-assoc, arith, le-leb, ltb-true, ltb-false, leb-true, eq-eqb, ne-eqb, eqb-true, eqb-false, not-true}
 use Rattle.sizes.specs.Sizes.{mostProcessors, mostTasks, mostResources, mostSections, mostNameBytes, mostSectionTicks}
 use Rattle.folds.proofs.Tests.{and-parts, code-zero, code-next, all-at, all-from}
 use Rattle.folds.specs.Bytes.{number}
 use Rattle.folds.proofs.RowLaws.{number-same}
-use Rattle.folds.proofs.Arrays.{by-eq, placed-at}
+use Rattle.folds.proofs.Arrays.{cell-eqb, placed-at}
 use Rattle.plan_rules.specs.declared.Counts.{Counts}
 use Rattle.plan_rules.specs.declared.TaskRow.{TaskRow}
 use Rattle.plan_rules.specs.declared.SectionRow.{SectionRow}
 use Rattle.plan_rules.specs.Rules.{taskOf, countsOk, taskOk, tasksOk, tagsOk, sectionOk, lengthOf, startOf, lengthsOk, sameBytes, differ, nameNew, namesDiffer, Tests, testsCode}
 use Rattle.plan_rules.specs.Inner.{digestOf, digestsOf, numberNew, numbersDiffer}
+
+-- a test that all hold tells each of them
+test-rest : (a b : Bool) → (a && b) ≡ true → a ≡ true
+test-rest a b h = and-parts a b h .0
+
+test-last : (a b : Bool) → (a && b) ≡ true → b ≡ true
+test-last a b h = and-parts a b h .1
+
+ruleset facts = (test-rest, test-last, leb-true, ltb-true)
 
 -- counts in their ranges
 pub record InRange (c : Counts) : Type 0 where
@@ -22,22 +31,7 @@ pub record InRange (c : Counts) : Type 0 where
   pub sections : c .sections ≤ mostSections
 
 pub counts-facts : (c : Counts) → countsOk c ≡ true → InRange c
-counts-facts c h =
-    let g = and-parts _ _ h in
-    let f = and-parts _ _ (g .0) in
-    let e = and-parts _ _ (f .0) in
-    let d = and-parts _ _ (e .0) in
-    let k = and-parts _ _ (d .0) in
-    let p = and-parts _ _ (k .0) in
-    record {
-      processor = leb-true _ _ (p .0);
-      processors = leb-true _ _ (p .1);
-      task = leb-true _ _ (k .1);
-      tasks = leb-true _ _ (d .1);
-      resource = leb-true _ _ (e .1);
-      resources = leb-true _ _ (f .1);
-      sections = leb-true _ _ (g .1);
-    }
+counts-facts c h = search facts
 
 -- a task that keeps its rule in a plan of p processors
 pub record Task (most p : ℕ) (t : TaskRow) : Type 0 where
@@ -48,18 +42,7 @@ pub record Task (most p : ℕ) (t : TaskRow) : Type 0 where
   pub period : t .execution ≤ t .period
 
 pub task-facts : (most p : ℕ) (t : TaskRow) → taskOk most p t ≡ true → Task most p t
-task-facts most p t h =
-    let e = and-parts _ _ h in
-    let d = and-parts _ _ (e .0) in
-    let c = and-parts _ _ (d .0) in
-    let b = and-parts _ _ (c .0) in
-    record {
-      processor = ltb-true _ _ (b .0);
-      tag = leb-true _ _ (b .1);
-      priority = leb-true _ _ (c .1);
-      execution = leb-true _ _ (d .1);
-      period = leb-true _ _ (e .1);
-    }
+task-facts most p t h = search facts
 
 pub task-at : (n most p i : ℕ) (tasks : List TaskRow) → tasksOk n most p tasks ≡ true → i < n → Task most p (taskOf tasks i)
 unfolding tasksOk
@@ -103,29 +86,11 @@ pub record Section (n r : ℕ) (s : SectionRow) : Type 0 where
   pub high : s .length ≤ mostSectionTicks
 
 pub section-facts : (n r : ℕ) (s : SectionRow) → sectionOk n r s ≡ true → Section n r s
-section-facts n r s h =
-    let d = and-parts _ _ h in
-    let c = and-parts _ _ (d .0) in
-    let b = and-parts _ _ (c .0) in
-    record {
-      task = ltb-true _ _ (b .0);
-      resource = ltb-true _ _ (b .1);
-      low = leb-true _ _ (c .1);
-      high = leb-true _ _ (d .1);
-    }
+section-facts n r s h = search facts
 
 -- a processor and a priority below 256 as one number
 pub place-eqb : (p q a b : ℕ) → a < 256 → b < 256 → eqb (p * 256 + a) (q * 256 + b) ≡ (eqb p q && eqb a b)
-place-eqb p q a b la lb =
-    by-eq (λ (t : Bool). eqb (p * 256 + a) (q * 256 + b) ≡ (t && eqb a b)) p q
-    (λ e. by-eq (λ (t : Bool). eqb (p * 256 + a) (q * 256 + b) ≡ t) a b (λ f. eq-eqb (p * 256 + a) (q * 256 + b) (omega arith)) (λ d. ne-eqb (p * 256 + a) (q * 256 + b) (λ f. d (omega arith))))
-    (λ d. ne-eqb (p * 256 + a) (q * 256 + b) (λ f. d (omega arith)))
-
--- the names of the resources below i are passed, with this found of them; the next one starts at `at`
-pub record Walked (r : ℕ) (lengths : List ℕ) (at i : ℕ) (Found : Type 0) : Type 0 where
-  pub below : i ≤ r
-  pub start : at ≡ startOf lengths i
-  pub found : Found
+place-eqb p q a b la lb = cell-eqb 256 a b p q la lb ∙ and-comm (eqb a b) (eqb p q)
 
 -- a name length that keeps its rule
 pub record Length (l : ℕ) : Type 0 where
@@ -135,8 +100,7 @@ pub record Length (l : ℕ) : Type 0 where
 pub length-facts : (r i : ℕ) (lengths : List ℕ) → lengthsOk r lengths ≡ true → i < r → Length (lengthOf lengths i)
 unfolding lengthsOk
 length-facts r i lengths h l =
-    let a = and-parts (leb 1 (lengthOf lengths i)) (leb (lengthOf lengths i) mostNameBytes) (all-at r i _ h l) in
-    record { low = leb-true _ _ (a .0); high = leb-true _ _ (a .1) }
+    let a = all-at r i (λ k. leb 1 (lengthOf lengths k) && leb (lengthOf lengths k) mostNameBytes) h l in search facts
 
 -- the number of name i among those of r names
 pub digest-at : (r i : ℕ) (lengths names : List ℕ) → i < r → r ≤ mostResources → getD (digestsOf r lengths names) i 0 ≡ digestOf names (startOf lengths i) (lengthOf lengths i)
@@ -157,7 +121,13 @@ digest-same names a b len h e = go (ltb len 4) refl
         number-same 4 names (a + o) (b + o)
         (λ k m. ap (λ (n : ℕ). getD names n 0) (add-assoc a o k) ∙ same (o + k) (omega arith) ∙ sym (ap (λ (n : ℕ). getD names n 0) (add-assoc b o k)))
 
-    go : (t : Bool) → ltb len 4 ≡ t → cond t (getD names a 0 + 256 * getD names (a + len / 2) 0 + 65536 * getD names (a + (len - 1)) 0) (number 4 names a + 3 * number 4 names (a + (len - 4) / 2) + 5 * number 4 names (a + (len - 4))) ≡ cond t (getD names b 0 + 256 * getD names (b + len / 2) 0 + 65536 * getD names (b + (len - 1)) 0) (number 4 names b + 3 * number 4 names (b + (len - 4) / 2) + 5 * number 4 names (b + (len - 4)))
+    short : ℕ → ℕ
+    short at = getD names at 0 + 256 * getD names (at + len / 2) 0 + 65536 * getD names (at + (len - 1)) 0
+
+    long : ℕ → ℕ
+    long at = number 4 names at + 3 * number 4 names (at + (len - 4) / 2) + 5 * number 4 names (at + (len - 4))
+
+    go : (t : Bool) → ltb len 4 ≡ t → cond t (short a) (long a) ≡ cond t (short b) (long b)
     go true t = omega (arith, simp add-zero at (same 0 (omega arith)), same (len / 2) (omega arith), same (len - 1) (omega arith))
     go false t =
         let l : 4 ≤ len = ltb-false len 4 t in
