@@ -1,6 +1,6 @@
 -- What the private functions of this crate give and ask. None of this is a rule of document 01.
 use Prim.Native.Nat.{ℕ, _*_, _≤_, _<_}
-use mathlib.Core.Bool.{Bool, true, _&&_}
+use mathlib.Core.Bool.{Bool, true}
 use mathlib.Core.List.{List}
 use mathlib.Core.Path.{_≡_}
 use lib.Dec.{leb}
@@ -8,10 +8,10 @@ use lib.ListN.{length, getD}
 use Rattle.sizes.specs.Sizes.{mostProcessors, mostTasks, mostSections}
 use Rattle.folds.specs.Below.{allBelow}
 use Rattle.folds.specs.Bytes.{width}
-use Rattle.plan_rules.specs.Rules.{countsOk, uniqueOk, namesOk, sumsOk, testsCode}
+use Rattle.plan_rules.specs.Rules.{countsOk, uniqueOk, sumsOk, testsCode}
 use Rattle.plan_rules.specs.declared.Counts.{Counts}
 use Rattle.plan_layout.specs.Editions.{Edition, edition1, formatOf}
-use Rattle.plan_layout.specs.Layout.{laid, taskAt, startAt, lengthAt, resourceSpare, taskRows, lengthRows, sectionRows, taskRowsOk, lengthRowsOk, sectionRowsOk, partsTests}
+use Rattle.plan_layout.specs.Layout.{taskAt, startAt, lengthAt, resourceSpare, taskRows, sectionRows, taskRowsOk, sectionRowsOk, partsTests}
 use Rattle.plan_layout.specs.declared.ResourceRow.{ResourceRow}
 
 -- the bytes of a task's row

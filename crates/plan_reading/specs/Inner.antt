@@ -1,5 +1,4 @@
 -- What `checked::counts` gives. No rule of document 01.
-use Prim.Native.Nat.{ℕ}
 use mathlib.Core.Path.{_≡_}
 use Rattle.plan_rules.specs.declared.Counts.{Counts}
 use Rattle.plan_reading.specs.Plan.{Plan}

@@ -1,5 +1,5 @@
 -- What counts, rows and lengths that keep their rules have, and the laws of the numbers of names.
-use Rattle.folds.proofs.Ground.{ℕ, _+_, _-_, _*_, _/_, _<_, _≤_, Bool, true, false, cond, _&&_, not, and-comm, _≡_, refl, sym, ap, _∙_, List, leb, ltb, eqb, length, getD, replicate, add-zero, add-assoc, arith, le-leb, ltb-true, ltb-false, leb-true, eq-eqb, ne-eqb, eqb-true, eqb-false, not-true}
+use Rattle.folds.proofs.Ground.{ℕ, _+_, _-_, _*_, _/_, _<_, _≤_, Bool, true, false, cond, _&&_, not, and-comm, _≡_, refl, sym, ap, _∙_, List, leb, ltb, eqb, length, getD, replicate, add-zero, add-assoc, arith, le-leb, ltb-true, ltb-false, leb-true, eqb-true, eqb-false, not-true}
 use Rattle.sizes.specs.Sizes.{mostProcessors, mostTasks, mostResources, mostSections, mostNameBytes, mostSectionTicks}
 use Rattle.folds.proofs.Tests.{and-parts, code-zero, code-next, all-at, all-from}
 use Rattle.folds.specs.Bytes.{number}
@@ -11,14 +11,15 @@ use Rattle.plan_rules.specs.declared.SectionRow.{SectionRow}
 use Rattle.plan_rules.specs.Rules.{taskOf, countsOk, taskOk, tasksOk, tagsOk, sectionOk, lengthOf, startOf, lengthsOk, sameBytes, differ, nameNew, namesDiffer, Tests, testsCode}
 use Rattle.plan_rules.specs.Inner.{digestOf, digestsOf, numberNew, numbersDiffer}
 
--- a test that all hold tells each of them
-test-rest : (a b : Bool) → (a && b) ≡ true → a ≡ true
+-- tests that hold together hold each
+pub test-rest : (a b : Bool) → (a && b) ≡ true → a ≡ true
 test-rest a b h = and-parts a b h .0
 
-test-last : (a b : Bool) → (a && b) ≡ true → b ≡ true
+pub test-last : (a b : Bool) → (a && b) ≡ true → b ≡ true
 test-last a b h = and-parts a b h .1
 
-ruleset facts = (test-rest, test-last, leb-true, ltb-true)
+-- what a row of tests says of the numbers in it: for `search`
+pub ruleset facts = (test-rest, test-last, leb-true, ltb-true, eqb-true)
 
 -- counts in their ranges
 pub record InRange (c : Counts) : Type 0 where
