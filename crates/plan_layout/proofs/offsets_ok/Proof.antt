@@ -8,8 +8,11 @@ use Rattle.plan_layout.proofs.offsets_ok.Tie as tie
 returns : tie.Need-returns
 unfolding offsetsOk
 returns c =
-    let w = c .before .before .before in
-    rw (header-fields, w .word-at4 .ensures .0, w .before .word-at3 .ensures .0, w .before .before .word-at2 .ensures .0, w .before .before .before .word-at .ensures .0, c .sections-at .ensures, c .before .resources-at .ensures, c .before .before .names-at .ensures)
+    let names = c .before .before in
+    let fourth = names .before in
+    let second = fourth .before .before in
+    rw (header-fields, fourth .word-at4 .ensures .read, fourth .before .word-at3 .ensures .read, second .word-at2 .ensures .read,
+    second .before .word-at .ensures .read, c .sections-at .ensures, c .before .resources-at .ensures, names .names-at .ensures)
 
 pub offsets-ok-spec : {M : Type 1} → statement M
 offsets-ok-spec =

@@ -20,7 +20,7 @@ begun c = let m = c .before .before .before in m .before .before
 ok-read : (c : tie.After-load-lengths)
     → let a = begun (c .before) .args in c .load-lengths .result .ok ≡ lengthRowsOk edition1 (a .c .resources) (a .resources .now)
 ok-read c =
-    c .load-lengths .ensures .0 ∙ ap (λ (n : ℕ). lengthRowsOk edition1 n (begun (c .before) .args .resources .now)) (c .before .wide .ensures .same)
+    c .load-lengths .ensures .ok ∙ ap (λ (n : ℕ). lengthRowsOk edition1 n (begun (c .before) .args .resources .now)) (c .before .wide .ensures .same)
 
 names-read : (c : tie.After-names-ok)
     → let a = (let l = c .before .before .before .before in begun (l .before)) .args in
@@ -29,7 +29,7 @@ names-read c =
     let l = c .before .before .before .before in
     let n = l .before .wide .ensures .same in
     let a = begun (l .before) .args in
-    c .names-ok .ensures ∙ ap₂ (λ (k : ℕ) (x : List ℕ). namesOk k x (a .names .now)) n (l .load-lengths .ensures .1 ∙ ap (λ (k : ℕ). lengthRows edition1 k (a .resources .now)) n)
+    c .names-ok .ensures ∙ ap₂ (λ (k : ℕ) (x : List ℕ). namesOk k x (a .names .now)) n (l .load-lengths .ensures .lengths ∙ ap (λ (k : ℕ). lengthRows edition1 k (a .resources .now)) n)
 
 load-lengths-requires : tie.Need-load-lengths-requires
 load-lengths-requires c κs =

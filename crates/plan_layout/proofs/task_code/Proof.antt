@@ -24,7 +24,7 @@ loop-holds c = record { below = omega arith; tags = refl; places = refl; ok = re
 tag-low : tie.Need-array-read-fresh Inv-loop μ-loop
 tag-low c =
     let w = c .before .before in
-    omega (arith, w .before .before .before .task-at .ensures .1)
+    omega (arith, w .before .before .before .task-at .ensures .tag)
 
 place-low : tie.Need-array-read-fresh-2 Inv-loop μ-loop
 place-low c = omega (arith, c .before .before .wide2 .ensures .low)
@@ -36,10 +36,10 @@ loop-again c =
     let t = w .before .before .before in
     let l = t .before .before .loop in
     let part : List ℕ = t .before .before .before .before .args .part .now in
-    let row = t .task-at .ensures .0 in
+    let row = t .task-at .ensures .read in
     let tag : t .task-at .result .tag ≡ tagKey part (l .i) = ap (λ (r : TaskRow). r .tag) row in
     let place : w .before .wide .result % 8 * 256 + w .wide2 .result ≡ placeKey part (l .i) = ap₂ (λ (x y : ℕ). x % 8 * 256 + y) (w .before .wide .ensures .same ∙ ap (λ (r : TaskRow). r .processor) row) (w .wide2 .ensures .same ∙ ap (λ (r : TaskRow). r .priority) row) in
-    let low : tagKey part (l .i) < 256 = omega (arith, tag, t .task-at .ensures .1) in
+    let low : tagKey part (l .i) < 256 = omega (arith, tag, t .task-at .ensures .tag) in
     let below : placeKey part (l .i) < 2048 = omega (arith, place, w .wide2 .ensures .low) in
     record {
       below = omega arith;
