@@ -4,13 +4,13 @@ use Rattle.folds.specs.Below.{allBelow}
 use Rattle.folds.proofs.Tests.{all-same}
 use Rattle.folds.proofs.Arrays.{markedBelow}
 use Rattle.folds.proofs.RowLaws.{Bytes}
-use Rattle.plan_rules.specs.Rules.{taskOf, taskOk, tagNew, priorityNew, uniqueOk}
+use Rattle.plan_rules.specs.Rules.{taskOf, tagNew, priorityNew, uniqueOk}
 use Rattle.plan_rules.specs.declared.TaskRow.{TaskRow}
 use Rattle.plan_rules.proofs.Laws.{place-eqb, task-facts}
 use Rattle.refusals.specs.Numbers.{wrongTask, repeated}
 use Rattle.sizes.specs.Sizes.{mostProcessors, mostTasks}
 use Rattle.plan_layout.specs.Editions.{edition1, formatOf}
-use Rattle.plan_layout.specs.Layout.{taskAt, taskSpare, taskRows, taskRowsOk}
+use Rattle.plan_layout.specs.Layout.{taskAt, taskRows, taskRowsOk}
 use Rattle.plan_layout.specs.Inner.{TasksFit, taskCode}
 use Rattle.plan_layout.proofs.Laws.{task-fields, task-read, task-kept}
 

@@ -1,5 +1,5 @@
 -- The invariant: the tables mark the tags and places of the rows passed, and the two tests are those of all of them.
-use Rattle.folds.proofs.Ground.{ℕ, _+_, _*_, _%_, _<_, _-_, Bool, true, false, cond, _&&_, _≡_, refl, ap, ap₂, _∙_, List, arith, not-true, not-false, needs}
+use Rattle.folds.proofs.Ground.{ℕ, _+_, _*_, _%_, _<_, _-_, Bool, true, false, cond, _&&_, _≡_, refl, ap, ap₂, List, arith, not-true, not-false, needs}
 use Rattle.folds.specs.Below.{allBelow}
 use Rattle.folds.proofs.Tests.{all-step}
 use Rattle.folds.proofs.Arrays.{markedBelow, marked-step, marked-new}
