@@ -1,10 +1,9 @@
 -- Numbers of checks in order: one that fails is the number of the whole, and one that holds passes it on.
 use Rattle.folds.proofs.Ground.{ℕ, suc, Bool, true, false, cond, _≡_, refl, sym, List, arith}
 use Rattle.plan_rules.specs.declared.Counts.{Counts}
-use Rattle.refusals.specs.Numbers.{wrongName}
-use Rattle.plan_rules.specs.Rules.{namesOk, Tests}
-use Rattle.plan_layout.specs.Layout.{laid, lengthRows, lengthRowsOk, partsTests, partsCode}
-use Rattle.plan_layout.specs.Inner.{taskCode, sectionCode, restCode}
+use Rattle.plan_rules.specs.Rules.{Tests}
+use Rattle.plan_layout.specs.Layout.{laid, partsTests, partsCode}
+use Rattle.plan_layout.specs.Inner.{taskCode, restCode}
 
 stop : (a b : Bool) (x m l : ℕ) {k : ℕ} → k ≡ cond a (cond b 0 (suc m)) (suc l) → (k ≡ 0 → ⊥) → cond a (cond b x (suc m)) (suc l) ≡ k
 stop true true x m l e d = absurd (d e)
@@ -27,15 +26,3 @@ module _ (c : Counts) (tasks resources sections names : List ℕ) where
   pub tasks-hold : {k : ℕ} → k ≡ taskCode (laid c) (c .tasks) (c .processors) tasks → k ≡ 0 → partsCode c tasks resources sections names ≡ restCode c tasks resources sections names
   unfolding partsCode taskCode restCode
   tasks-hold e z = pass (whole .tasks) (whole .unique) _ 5 4 e z
-
-  pub starts-fail : lengthRowsOk (laid c) (c .resources) resources ≡ false → restCode c tasks resources sections names ≡ wrongName
-  unfolding restCode
-  starts-fail a = rw a
-
-  pub names-fail : lengthRowsOk (laid c) (c .resources) resources ≡ true → namesOk (c .resources) (lengthRows (laid c) (c .resources) resources) names ≡ false → restCode c tasks resources sections names ≡ wrongName
-  unfolding restCode
-  names-fail a b = rw (a, b)
-
-  pub names-hold : lengthRowsOk (laid c) (c .resources) resources ≡ true → namesOk (c .resources) (lengthRows (laid c) (c .resources) resources) names ≡ true → restCode c tasks resources sections names ≡ sectionCode (laid c) (c .tasks) (c .sections) (c .resources) tasks sections
-  unfolding restCode sectionCode
-  names-hold a b = rw (a, b)
