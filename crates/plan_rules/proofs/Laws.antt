@@ -1,14 +1,15 @@
 -- What counts, rows and lengths that keep their rules have, and the laws of the numbers of names.
-use Rattle.folds.proofs.Ground.{ℕ, _+_, _-_, _*_, _/_, _<_, _≤_, Bool, true, false, cond, _&&_, not, and-comm, _≡_, refl, sym, ap, _∙_, List, leb, ltb, eqb, length, getD, replicate, add-zero, add-assoc, arith, le-leb, ltb-true, ltb-false, leb-true, eqb-true, eqb-false, not-true}
+use Rattle.folds.proofs.Ground.{ℕ, _+_, _-_, _*_, _/_, _<_, _≤_, Bool, true, false, cond, _&&_, not, and-comm, true≢false, _≡_, refl, sym, ap, ap₂, _∙_, List, leb, ltb, eqb, length, getD, replicate, add-zero, add-assoc, arith, le-leb, ltb-true, ltb-false, leb-true, eq-eqb, eqb-true, eqb-false, not-true}
 use Rattle.sizes.specs.Sizes.{mostProcessors, mostTasks, mostResources, mostSections, mostNameBytes, mostSectionTicks}
-use Rattle.folds.proofs.Tests.{and-parts, code-zero, code-next, all-at, all-from}
+use Rattle.folds.proofs.Tests.{and-parts, is-not-true, code-zero, code-next, all-at, all-from}
+use Rattle.folds.specs.Below.{sumBelow}
 use Rattle.folds.specs.Bytes.{number}
 use Rattle.folds.proofs.RowLaws.{number-same}
 use Rattle.folds.proofs.Arrays.{cell-eqb, placed-at}
 use Rattle.plan_rules.specs.declared.Counts.{Counts}
 use Rattle.plan_rules.specs.declared.TaskRow.{TaskRow}
 use Rattle.plan_rules.specs.declared.SectionRow.{SectionRow}
-use Rattle.plan_rules.specs.Rules.{taskOf, countsOk, taskOk, tasksOk, tagsOk, sectionOk, lengthOf, startOf, lengthsOk, sameBytes, differ, nameNew, namesDiffer, Tests, testsCode}
+use Rattle.plan_rules.specs.Rules.{taskOf, countsOk, taskOk, tasksOk, tagsOk, sectionOk, lengthOf, startOf, lengthsOk, sameBytes, differ, nameNew, namesDiffer, namesOk, tagNew, priorityNew, uniqueOk, Tests, testsCode}
 use Rattle.plan_rules.specs.Inner.{digestOf, digestsOf, numberNew, numbersDiffer}
 
 -- tests that hold together hold each
@@ -53,6 +54,41 @@ task-at n most p i tasks h l = task-facts most p (taskOf tasks i) (all-at n i (�
 pub tags-kept : (n most p : ℕ) (tasks : List TaskRow) → tasksOk n most p tasks ≡ true → tagsOk n most tasks ≡ true
 unfolding tagsOk
 tags-kept n most p tasks h = all-from n _ (λ i l. le-leb _ _ (task-at n most p i tasks h l .tag))
+
+-- tasks i and j have neither one tag, nor one priority on one processor
+pub record New (tasks : List TaskRow) (i j : ℕ) : Type 0 where
+  pub tag : taskOf tasks i .tag ≡ taskOf tasks j .tag → ⊥
+  pub priority : taskOf tasks i .processor ≡ taskOf tasks j .processor → taskOf tasks i .priority ≡ taskOf tasks j .priority → ⊥
+
+pub unique-facts : (n i j : ℕ) (tasks : List TaskRow) → uniqueOk n tasks ≡ true → i < n → j < i → New tasks i j
+unfolding uniqueOk tagNew priorityNew
+unique-facts n i j tasks h l m =
+    let row : ℕ → TaskRow = taskOf tasks in
+    let place : ℕ → Bool = λ k. eqb (row i .processor) (row k .processor) && eqb (row i .priority) (row k .priority) in
+    let both = all-at n i (λ k. tagNew tasks k && priorityNew tasks k) h l in
+    let tag = all-at i j (λ k. not (eqb (row i .tag) (row k .tag))) (test-rest (tagNew tasks i) _ both) m in
+    let priority = all-at i j (λ k. not (place k)) (test-last (tagNew tasks i) _ both) m in
+    record {
+      tag = eqb-false _ _ (not-true _ tag);
+      priority = λ p q. true≢false (sym (ap₂ _&&_ (eq-eqb _ _ p) (eq-eqb _ _ q)) ∙ not-true (place j) priority);
+    }
+
+-- what is unlike whatever came before it stands once
+pub once : (n : ℕ) (Like : ℕ → ℕ → Type 0) → ((i j : ℕ) → Like i j → Like j i) → ((i j : ℕ) → i < n → j < i → Like i j → ⊥)
+    → (i j : ℕ) → i < n → j < n → Like i j → i ≡ j
+once n Like turn new i j l m s =
+    let up : i ≤ j = ltb-false j i (is-not-true _ (λ b. new i j l (ltb-true j i b) s)) in
+    let down : j ≤ i = ltb-false i j (is-not-true _ (λ b. new j i m (ltb-true i j b) (turn i j s))) in
+    omega arith
+
+-- names that keep their rules
+pub record Names (r : ℕ) (lengths names : List ℕ) : Type 0 where
+  pub total : sumBelow r (lengthOf lengths) ≡ length names
+  pub ranges : lengthsOk r lengths ≡ true
+
+pub names-facts : (r : ℕ) (lengths names : List ℕ) → namesOk r lengths names ≡ true → Names r lengths names
+unfolding namesOk
+names-facts r lengths names h = search facts
 
 -- checks 5 to 9, all of which hold
 pub record Passed (t : Tests) : Type 0 where
