@@ -1,28 +1,39 @@
 -- What writing, reading back and copying come to, by the number of the refusal.
-use Rattle.folds.proofs.Ground.{ℕ, suc, _<_, _≤_, Bool, cond, _≡_, refl, sym, ap, _∙_, List, [], _∷_, _++_, leb, length, getD, take, drop, take-at, arith, eq-eqb, ne-eqb, le-leb, lt-leb, leb-true}
+use Rattle.folds.proofs.Ground.{ℕ, _<_, _≤_, _≡_, refl, sym, ap, _∙_, List, _++_, leb, length, getD, take, drop, take-at, arith, eq-eqb, ne-eqb, le-leb, lt-leb, leb-true}
 use Rattle.refusals.specs.Numbers.{noRoom}
-use Rattle.folds.proofs.Tests.{code-zero}
-use Rattle.folds.proofs.Arrays.{by-eq}
+use Rattle.folds.proofs.Tests.{code-zero, first-zero, then-zero}
 use Rattle.plan_rules.specs.declared.Counts.{Counts}
 use Rattle.plan_rules.specs.declared.Rows.{Rows}
 use Rattle.plan_layout.specs.Layout.{countsOf, rowsOf, namesOf, valuesCode}
 use Rattle.plan.specs.declared.Reading.{Reading}
 use Rattle.plan.specs.declared.ReadAnswer.the-variants.{Accepted}
 use Rattle.plan.specs.Acceptance.{refusal}
-use Rattle.plan.specs.Reading.{given, reading, refusedWith, countValues, readOutcome}
+use Rattle.plan.specs.Reading.{given, reading, refusedWith, readOutcome}
+use Rattle.plan.proofs.Laws.{by-code, told}
 use Rattle.plan_writing.specs.declared.WriteAnswer.{WriteAnswer}
 use Rattle.plan_writing.specs.declared.WriteAnswer.the-variants.{Written, Refused}
 use Rattle.plan_writing.specs.Encode.{fileLength, fileOf, writeCode, writing, written, writeOutcome, writingOutcome}
 use Rattle.plan_writing.specs.RoundTrip.{trimmed, readBack, readBackOutcome, copyCode, copying, copied, copyOutcome}
 use Rattle.plan_writing.proofs.RoundTrip.{file-holds, written-then-read, read-then-written}
 
-length-in : WriteAnswer → ℕ
-length-in (Written n) = n
-length-in (Refused k) = 0
+-- what it says of values that they are written
+pub record Clear (c : Counts) (rows : Rows) (names : List ℕ) (room : ℕ) : Type 0 where
+  pub values : valuesCode c rows names ≡ 0
+  pub fits : fileLength c names ≤ room
 
-number-in : WriteAnswer → ℕ
-number-in (Written n) = 0
-number-in (Refused k) = suc k
+-- and what the two answers say
+pub record WrittenAs (c : Counts) (rows : Rows) (names : List ℕ) (room n : ℕ) : Type 0 where
+  pub none : writeCode c rows names room ≡ 0
+  pub size : n ≡ fileLength c names
+
+pub record RefusedAs (c : Counts) (rows : Rows) (names : List ℕ) (room k : ℕ) : Type 0 where
+  pub code : writeCode c rows names room ≡ k
+  pub some : k ≡ 0 → ⊥
+
+-- what writing to a buffer comes to
+pub record Ended (c : Counts) (rows : Rows) (names l : List ℕ) (answer : WriteAnswer) (m : List ℕ) : Type 0 where
+  pub said : writing c rows names (length l) ≡ answer
+  pub buffer : written c rows names l ≡ m
 
 module _ (c : Counts) (rows : Rows) (names : List ℕ) where
   -- the number, by the test that fails
@@ -38,47 +49,47 @@ module _ (c : Counts) (rows : Rows) (names : List ℕ) where
   unfolding writeCode
   code-fits room e z l = rw (eq-eqb (valuesCode c rows names) 0 (sym e ∙ z), le-leb (fileLength c names) room l)
 
-  -- and back
-  pub code-clear : (room : ℕ) → writeCode c rows names room ≡ 0 → (valuesCode c rows names ≡ 0) × (fileLength c names ≤ room)
-  unfolding writeCode
-  code-clear room e =
-      by-eq (λ (b : Bool). cond b (cond (leb (fileLength c names) room) 0 noRoom) (valuesCode c rows names) ≡ 0 → (valuesCode c rows names ≡ 0) × (fileLength c names ≤ room)) (valuesCode c rows names) 0
-      (λ z h. (z, leb-true _ _ (code-zero (leb (fileLength c names) room) 0 9 h)))
-      (λ d h. absurd (d h))
-      e
-
   -- what the answer and the buffer then are
-  pub wrote : (l : List ℕ) → writeCode c rows names (length l) ≡ 0 → (writing c rows names (length l) ≡ Written (fileLength c names)) × (written c rows names l ≡ fileOf c rows names ++ drop (fileLength c names) l)
+  pub wrote : (l : List ℕ) → writeCode c rows names (length l) ≡ 0
+      → Ended c rows names l (Written (fileLength c names)) (fileOf c rows names ++ drop (fileLength c names) l)
   unfolding writing written
-  wrote l e = (rw (eq-eqb _ _ e), rw (eq-eqb _ _ e))
+  wrote l e = record { said = rw (eq-eqb _ _ e); buffer = rw (eq-eqb _ _ e) }
 
-  pub kept-back : {k : ℕ} (l : List ℕ) → writeCode c rows names (length l) ≡ k → (k ≡ 0 → ⊥) → (writing c rows names (length l) ≡ Refused k) × (written c rows names l ≡ l)
+  pub kept-back : {k : ℕ} (l : List ℕ) → writeCode c rows names (length l) ≡ k → (k ≡ 0 → ⊥) → Ended c rows names l (Refused k) l
   unfolding writing written
-  kept-back l e d = (rw (e, ne-eqb _ _ d), rw (e, ne-eqb _ _ d))
+  kept-back l e d = record { said = rw (e, ne-eqb _ _ d); buffer = rw (e, ne-eqb _ _ d) }
 
   pub writing-told : (room : ℕ) → writeOutcome (writing c rows names room) ≡ writingOutcome c rows names room
   unfolding writing
-  writing-told room =
-      by-eq
-      (λ (b : Bool). writeOutcome (cond b (Written (fileLength c names)) (Refused (writeCode c rows names room))) ≡ record { number = writeCode c rows names room; values = cond b (fileLength c names ∷ []) [] })
-      (writeCode c rows names room) 0 (λ z. rw z) (λ d. refl)
+  writing-told room = told writeOutcome _ _ (writeCode c rows names room) _ refl refl
 
-  -- what an answer tells of the number
-  pub was-written : {n : ℕ} (room : ℕ) → writing c rows names room ≡ Written n → (writeCode c rows names room ≡ 0) × (n ≡ fileLength c names)
-  unfolding writing length-in number-in
+  -- an answer and a buffer that it comes to are those that are ensured
+  pub ended-so : {l m m′ : List ℕ} {r r′ : WriteAnswer} → Ended c rows names l r m → r′ ≡ r → m′ ≡ m
+      → (r′ ≡ writing c rows names (length l)) × ((m′ ≡ written c rows names l) × (writeOutcome r′ ≡ writingOutcome c rows names (length l)))
+  ended-so {l} o p q =
+      let e = p ∙ sym (o .said) in (e, (q ∙ sym (o .buffer), ap writeOutcome e ∙ writing-told (length l)))
+
+  -- and back: what no refusal says, and what an answer tells of the number
+  pub code-clear : (room : ℕ) → writeCode c rows names room ≡ 0 → Clear c rows names room
+  unfolding writeCode
+  code-clear room e =
+      record {
+        values = first-zero (valuesCode c rows names) _ e;
+        fits = leb-true _ _ (code-zero (leb (fileLength c names) room) 0 9 (then-zero (valuesCode c rows names) _ e));
+      }
+
+  pub was-written : {n : ℕ} (room : ℕ) → writing c rows names room ≡ Written n → WrittenAs c rows names room n
+  unfolding writing
   was-written {n} room a =
-      by-eq (λ (b : Bool). cond b (Written (fileLength c names)) (Refused (writeCode c rows names room)) ≡ Written n → (writeCode c rows names room ≡ 0) × (n ≡ fileLength c names)) (writeCode c rows names room) 0
-      (λ z h. (z, sym (ap length-in h)))
-      (λ d h. let bad : suc (writeCode c rows names room) ≡ 0 = ap number-in h in let off : ⊥ = omega arith in absurd off)
-      a
+      by-code (λ (r : WriteAnswer). r) _ _ (writeCode c rows names room) _ a (λ z h. record { none = z; size = cc })
+      (λ d h. let bad : _≡_ {A = ℕ} 0 1 = cc in let off : ⊥ = omega arith in absurd off)
 
-  pub was-refused : {k : ℕ} (room : ℕ) → writing c rows names room ≡ Refused k → (writeCode c rows names room ≡ k) × (k ≡ 0 → ⊥)
-  unfolding writing number-in
+  pub was-refused : {k : ℕ} (room : ℕ) → writing c rows names room ≡ Refused k → RefusedAs c rows names room k
+  unfolding writing
   was-refused {k} room a =
-      by-eq (λ (b : Bool). cond b (Written (fileLength c names)) (Refused (writeCode c rows names room)) ≡ Refused k → (writeCode c rows names room ≡ k) × (k ≡ 0 → ⊥)) (writeCode c rows names room) 0
-      (λ z h. let bad : 0 ≡ suc k = ap number-in h in let off : ⊥ = omega arith in absurd off)
-      (λ d h. let e : suc (writeCode c rows names room) ≡ suc k = ap number-in h in (omega arith, λ z. d (omega arith)))
-      a
+      by-code (λ (r : WriteAnswer). r) _ _ (writeCode c rows names room) _ a
+      (λ z h. let bad : _≡_ {A = ℕ} 0 1 = cc in let off : ⊥ = omega arith in absurd off)
+      (λ d h. let same : writeCode c rows names room ≡ k = cc in record { code = same; some = λ z. d (same ∙ z) })
 
   -- the front of the buffer is the file, and reading it gives the same plan
   pub file-front : (l : List ℕ) → take (fileLength c names) (fileOf c rows names ++ drop (fileLength c names) l) ≡ fileOf c rows names
@@ -97,7 +108,7 @@ module _ (c : Counts) (rows : Rows) (names : List ℕ) where
   -- a part that is read back, and is that file
   pub back-same : {r : Reading} (room : ℕ) (part : List ℕ) → r ≡ reading part → part ≡ fileOf c rows names → writeCode c rows names room ≡ 0 → r ≡ readBack c rows names room
   back-same room part h e k =
-      h ∙ ap reading e ∙ read-same (code-clear room k .0) ∙ sym (back-written room k)
+      h ∙ ap reading e ∙ read-same (code-clear room k .values) ∙ sym (back-written room k)
 
   pub back-refused : {k : ℕ} (room : ℕ) → writeCode c rows names room ≡ k → (k ≡ 0 → ⊥) → readBack c rows names room ≡ refusedWith k
   unfolding readBack
@@ -105,10 +116,7 @@ module _ (c : Counts) (rows : Rows) (names : List ℕ) where
 
   pub back-told : (room : ℕ) → readOutcome (readBack c rows names room .answer) ≡ readBackOutcome c rows names room
   unfolding readBack
-  back-told room =
-      by-eq
-      (λ (b : Bool). readOutcome ((cond b (record { answer = Accepted c; rows = trimmed c rows }) (refusedWith (writeCode c rows names room))) .answer) ≡ record { number = writeCode c rows names room; values = cond b (countValues c) [] })
-      (writeCode c rows names room) 0 (λ z. rw z) (λ d. refl)
+  back-told room = told (λ (r : Reading). readOutcome (r .answer)) _ _ (writeCode c rows names room) _ refl refl
 
 -- copying a file that is refused, and one that is read
 module _ (f : List ℕ) where
@@ -138,7 +146,4 @@ module _ (f : List ℕ) where
 
   pub copy-told : (room : ℕ) → writeOutcome (copying f room) ≡ copyOutcome f room
   unfolding copying
-  copy-told room =
-      by-eq
-      (λ (b : Bool). writeOutcome (cond b (Written (length f)) (Refused (copyCode f room))) ≡ record { number = copyCode f room; values = cond b (length f ∷ []) [] })
-      (copyCode f room) 0 (λ z. rw z) (λ d. refl)
+  copy-told room = told writeOutcome _ _ (copyCode f room) _ refl refl

@@ -12,7 +12,7 @@ part-read-end c =
     let a = c .before .before in
     let w = a .before .before .before .before .write in
     let k = was-written _ _ _ _ (sym (w .ensures .0) ∙ a .answer .given .1) in
-    omega (arith, k .1, code-clear _ _ _ _ (k .0) .1, w .kept .1 .1 .1 .0)
+    omega (arith, k .size, code-clear _ _ _ _ (k .none) .fits, w .kept .1 .1 .1 .0)
 
 returns : tie.Need-returns
 returns c =
@@ -21,8 +21,8 @@ returns c =
     let w = e .write in
     let a = e .before .before .before .before .args in
     let k = was-written _ _ _ _ (sym (w .ensures .0) ∙ d .answer .given .1) in
-    let front : take (d .answer .given .0 .0 - 0) (w .last .1 .1 .1 .0) ≡ fileOf (a .c) (a .rows) (a .names .now) = rw (sub-zero, k .1, w .ensures .1 .0, wrote _ _ _ _ (k .0) .1) (file-front _ _ _ _) in
-    let r = back-same _ _ _ _ _ (c .read .ensures .0) front (k .0) in
+    let front : take (d .answer .given .0 .0 - 0) (w .last .1 .1 .1 .0) ≡ fileOf (a .c) (a .rows) (a .names .now) = rw (sub-zero, k .size, w .ensures .1 .0, wrote _ _ _ _ (k .none) .buffer) (file-front _ _ _ _) in
+    let r = back-same _ _ _ _ _ (c .read .ensures .0) front (k .none) in
     (r, (w .ensures .1 .0, ap (λ (x : Reading). readOutcome (x .answer)) r ∙ back-told _ _ _ _))
 
 returns-2 : tie.Need-returns-2
@@ -30,7 +30,7 @@ returns-2 c =
     let a = c .before .before in
     let w = a .before .before .before .before .write in
     let k = was-refused _ _ _ _ (sym (w .ensures .0) ∙ a .answer2 .given .1) in
-    let r = c .refused .ensures ∙ sym (back-refused _ _ _ _ (k .0) (k .1)) in
+    let r = c .refused .ensures ∙ sym (back-refused _ _ _ _ (k .code) (k .some)) in
     (r, (w .ensures .1 .0, ap (λ (x : Reading). readOutcome (x .answer)) r ∙ back-told _ _ _ _))
 
 pub read-back-spec : {M : Type 1} → statement M
