@@ -1,5 +1,5 @@
 -- What writing, reading back and copying come to, by the number of the refusal.
-use Rattle.folds.proofs.Ground.{ℕ, _<_, _≤_, _≡_, refl, sym, ap, _∙_, List, _++_, leb, length, getD, take, drop, take-at, arith, eq-eqb, ne-eqb, le-leb, lt-leb, leb-true}
+use Rattle.folds.proofs.Ground.{ℕ, _-_, _<_, _≤_, _≡_, refl, sym, ap, _∙_, List, _++_, leb, length, getD, take, drop, take-at, sub-zero, arith, eq-eqb, ne-eqb, le-leb, lt-leb, leb-true}
 use Rattle.refusals.specs.Numbers.{noRoom}
 use Rattle.folds.proofs.Tests.{code-zero, first-zero, then-zero}
 use Rattle.plan_rules.specs.declared.Counts.{Counts}
@@ -91,10 +91,7 @@ module _ (c : Counts) (rows : Rows) (names : List ℕ) where
       (λ z h. let bad : _≡_ {A = ℕ} 0 1 = cc in let off : ⊥ = omega arith in absurd off)
       (λ d h. let same : writeCode c rows names room ≡ k = cc in record { code = same; some = λ z. d (same ∙ z) })
 
-  -- the front of the buffer is the file, and reading it gives the same plan
-  pub file-front : (l : List ℕ) → take (fileLength c names) (fileOf c rows names ++ drop (fileLength c names) l) ≡ fileOf c rows names
-  file-front l = take-at (fileOf c rows names) (drop (fileLength c names) l) (fileLength c names) (file-holds c rows names .size)
-
+  -- reading the file gives the same plan
   read-same : valuesCode c rows names ≡ 0 → reading (fileOf c rows names) ≡ record { answer = Accepted c; rows = trimmed c rows }
   unfolding given
   read-same e =
@@ -105,10 +102,14 @@ module _ (c : Counts) (rows : Rows) (names : List ℕ) where
   unfolding readBack
   back-written room e = rw (eq-eqb _ _ e)
 
-  -- a part that is read back, and is that file
-  pub back-same : {r : Reading} (room : ℕ) (part : List ℕ) → r ≡ reading part → part ≡ fileOf c rows names → writeCode c rows names room ≡ 0 → r ≡ readBack c rows names room
-  back-same room part h e k =
-      h ∙ ap reading e ∙ read-same (code-clear room k .values) ∙ sym (back-written room k)
+  -- the front of the buffer is the file, and is read back
+  pub back-same : {r : Reading} {n : ℕ} {m : List ℕ} (l : List ℕ)
+      → WrittenAs c rows names (length l) n → m ≡ written c rows names l → r ≡ reading (take (n - 0) m) → r ≡ readBack c rows names (length l)
+  back-same {r} {n} {m} l k e h =
+      let behind : List ℕ = drop (fileLength c names) l in
+      let whole = take-at (fileOf c rows names) behind (fileLength c names) (file-holds c rows names .size) in
+      let front : take (n - 0) m ≡ fileOf c rows names = rw (sub-zero, k .size, e, wrote l (k .none) .buffer) whole in
+      h ∙ ap reading front ∙ read-same (code-clear (length l) (k .none) .values) ∙ sym (back-written (length l) (k .none))
 
   pub back-refused : {k : ℕ} (room : ℕ) → writeCode c rows names room ≡ k → (k ≡ 0 → ⊥) → readBack c rows names room ≡ refusedWith k
   unfolding readBack
@@ -118,11 +119,27 @@ module _ (c : Counts) (rows : Rows) (names : List ℕ) where
   unfolding readBack
   back-told room = told (λ (r : Reading). readOutcome (r .answer)) _ _ (writeCode c rows names room) _ refl refl
 
+  -- an answer and a buffer that are those of reading back are what is ensured
+  pub back-so : {r : Reading} {m : List ℕ} (l : List ℕ) → r ≡ readBack c rows names (length l) → m ≡ written c rows names l
+      → (r ≡ readBack c rows names (length l)) × ((m ≡ written c rows names l) × (readOutcome (r .answer) ≡ readBackOutcome c rows names (length l)))
+  back-so l p q = (p, (q, ap (λ (r : Reading). readOutcome (r .answer)) p ∙ back-told (length l)))
+
+-- what is ensured of a copy
+abbrev Copy : List ℕ → List ℕ → WriteAnswer → List ℕ → Type 0
+Copy f l r m = (r ≡ copying f (length l)) × ((m ≡ copied f l) × (writeOutcome r ≡ copyOutcome f (length l)))
+
 -- copying a file that is refused, and one that is read
 module _ (f : List ℕ) where
-  pub copy-refused : {k : ℕ} (l : List ℕ) → refusal f ≡ k → (k ≡ 0 → ⊥) → (copying f (length l) ≡ Refused k) × (copied f l ≡ l)
+  copy-told : (room : ℕ) → writeOutcome (copying f room) ≡ copyOutcome f room
+  unfolding copying
+  copy-told room = told writeOutcome _ _ (copyCode f room) _ refl refl
+
+  copy-ended : {r : WriteAnswer} {m : List ℕ} (l : List ℕ) → r ≡ copying f (length l) → m ≡ copied f l → Copy f l r m
+  copy-ended l p q = (p, (q, ap writeOutcome p ∙ copy-told (length l)))
+
+  pub copy-refused : {k : ℕ} (l : List ℕ) → refusal f ≡ k → (k ≡ 0 → ⊥) → Copy f l (Refused k) l
   unfolding copying copied copyCode
-  copy-refused l e d = (simp (e, ne-eqb _ _ d), simp (e, ne-eqb _ _ d))
+  copy-refused l e d = copy-ended l (simp (e, ne-eqb _ _ d)) (simp (e, ne-eqb _ _ d))
 
   copy-length : ((i : ℕ) → getD f i 0 < 256) → refusal f ≡ 0 → fileLength (countsOf f) (namesOf f) ≡ length f
   copy-length b e =
@@ -133,17 +150,9 @@ module _ (f : List ℕ) where
   copy-code room b e = rw (eq-eqb _ _ (read-then-written f b e .accepted), eq-eqb _ _ e, copy-length b e)
 
   -- writing counts, rows and names that are those of the file
-  module _ (b : (i : ℕ) → getD f i 0 < 256) (e : refusal f ≡ 0) where
-    pub copy-buffer : {now : List ℕ} (c : Counts) (rows : Rows) (names l : List ℕ) → now ≡ written c rows names l → c ≡ countsOf f → rows ≡ rowsOf f → names ≡ namesOf f → now ≡ copied f l
-    unfolding written copied
-    copy-buffer c rows names l h counted rowed named =
-        h ∙ rw (counted, rowed, named, copy-code (length l) b e, copy-length b e, read-then-written f b e .file)
-
-    pub copy-answer : {r : WriteAnswer} (c : Counts) (rows : Rows) (names : List ℕ) (room : ℕ) → r ≡ writing c rows names room → c ≡ countsOf f → rows ≡ rowsOf f → names ≡ namesOf f → r ≡ copying f room
-    unfolding writing copying
-    copy-answer c rows names room h counted rowed named =
-        h ∙ rw (counted, rowed, named, copy-code room b e, copy-length b e)
-
-  pub copy-told : (room : ℕ) → writeOutcome (copying f room) ≡ copyOutcome f room
-  unfolding copying
-  copy-told room = told writeOutcome _ _ (copyCode f room) _ refl refl
+  pub copy-so : ((i : ℕ) → getD f i 0 < 256) → refusal f ≡ 0 → {r : WriteAnswer} {m : List ℕ} (c : Counts) (rows : Rows) (names l : List ℕ)
+      → c ≡ countsOf f → rows ≡ rowsOf f → names ≡ namesOf f → r ≡ writing c rows names (length l) → m ≡ written c rows names l → Copy f l r m
+  unfolding writing written copying copied
+  copy-so b e c rows names l counted rowed named p q =
+      copy-ended l (p ∙ rw (counted, rowed, named, copy-code (length l) b e, copy-length b e))
+      (q ∙ rw (counted, rowed, named, copy-code (length l) b e, copy-length b e, read-then-written f b e .file))
