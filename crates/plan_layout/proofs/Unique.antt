@@ -31,7 +31,7 @@ keysNew part i = keyNew (tagKey part) i && keyNew (placeKey part) i
 module _ (n p : ℕ) (part : List ℕ) (few : n ≤ mostTasks) (most : p ≤ mostProcessors) (bytes : (k : ℕ) → taskAt edition1 part k .priority < 256) (ok : taskRowsOk edition1 n p part ≡ true) where
   processor-small : (k : ℕ) → k < n → taskAt edition1 part k .processor % 8 ≡ taskAt edition1 part k .processor
   processor-small k l =
-      let t = task-facts (formatOf edition1 .mostTag) p (taskAt edition1 part k) (task-kept edition1 n part p k ok l) in omega arith
+      let t = task-facts (formatOf edition1 .mostTag) p (taskAt edition1 part k) (task-kept edition1 n part p k ok l .rule) in omega arith
 
   row : (k : ℕ) → k < n → taskAt edition1 part k ≡ taskOf (taskRows edition1 n part) k
   row k l = sym (task-read edition1 n part k l few)

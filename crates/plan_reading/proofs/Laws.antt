@@ -1,6 +1,5 @@
 -- What a file that passed its checks tells.
-use Rattle.folds.proofs.Ground.{ℕ, suc, _+_, _*_, _<_, _≤_, Bool, true, false, cond, _&&_, _≡_, refl, sym, ap, _∙_, List, eqb, ltb, length, getD, drop, length-drop, length-take, List·getD-eq-default, getD-drop, arith, ltb-true, ltb-false, eqb-true, eq-eqb, ne-eqb}
-use Rattle.folds.specs.Below.{sumBelow}
+use Rattle.folds.proofs.Ground.{ℕ, suc, _+_, _*_, _<_, _≤_, Bool, true, false, cond, _≡_, refl, sym, ap, _∙_, List, eqb, ltb, length, getD, drop, length-drop, length-take, List·getD-eq-default, getD-drop, arith, ltb-true, ltb-false, eqb-true, eq-eqb, ne-eqb}
 use Rattle.folds.specs.Bytes.{number}
 use Rattle.folds.proofs.Tests.{code-zero, code-next, first-zero, then-zero, all-at}
 use Rattle.folds.proofs.Figures.{sum-at}
@@ -10,9 +9,9 @@ use Rattle.plan_rules.specs.declared.Counts.{Counts}
 use Rattle.plan_rules.specs.declared.TaskRow.{TaskRow}
 use Rattle.sizes.specs.Sizes.{mostNameBytes}
 use Rattle.plan_layout.specs.Editions.{formatOf, known, headerLength}
-use Rattle.plan_layout.specs.Layout.{headerIn, countsOf, editionIn, lengthSaid, tasksAt, resourcesAt, sectionsAt, namesAt, offsetsOk, taskAt, sectionAt, taskRowsOk, lengthRowsOk, sectionRowsOk, partsTests, partsCode, taskRowsOf, lengthsOf, sectionsOf, namesOf, startAt, lengthAt, resourceSpare}
+use Rattle.plan_layout.specs.Layout.{headerIn, countsOf, editionIn, lengthSaid, tasksAt, resourcesAt, sectionsAt, namesAt, offsetsOk, taskAt, sectionAt, taskRowsOk, lengthRowsOk, sectionRowsOk, partsTests, partsCode, taskRowsOf, lengthsOf, sectionsOf, namesOf, startAt, lengthAt}
 use Rattle.plan_rules.proofs.Laws.{facts, InRange, counts-facts, task-facts, unique-facts, once, names-facts, section-facts, length-facts, tests-facts}
-use Rattle.plan_layout.proofs.Laws.{task-read, length-read, start-read, task-fields, task-kept}
+use Rattle.plan_layout.proofs.Laws.{task-read, length-read, start-read, task-fields, task-kept, resource-kept}
 use Rattle.plan_reading.specs.Plan.{planOf, namePart, Checked, TaskFits, SectionFits, Valid}
 use Rattle.plan_reading.specs.Checks.{countsCode, headerCode, rowsCode, checkCode}
 
@@ -117,22 +116,20 @@ pub record Named (f : List ℕ) (q : ℕ) : Type 0 where
   pub short : lengthIn f q ≤ mostNameBytes
 
 pub name-facts : (f : List ℕ) (q : ℕ) → checkCode f ≡ 0 → q < countsOf f .resources → Named f q
-unfolding lengthRowsOk
 name-facts f q e l =
     let part : List ℕ = drop (resourcesAt (countsOf f)) f in
     let each : ℕ → ℕ = lengthAt (editionIn f) part in
     let r : ℕ = countsOf f .resources in
     let w = whole-facts f e in
     let h = w .header in
-    let at = all-at r q (λ i. eqb (startIn f i) (sumBelow i each) && eqb (resourceSpare (editionIn f) part i) 0) (w .starts) l in
-    let start : startIn f q ≡ sumBelow q each = search facts in
+    let row = resource-kept (editionIn f) r part q (w .starts) l in
     let n = names-facts r (lengthsOf f) (namesOf f) (w .names) in
     let total = start-read (editionIn f) r part r (omega arith) (h .ranges .resources) in
     let rule = length-facts r q (lengthsOf f) (n .ranges) l in
     record {
       whole = w;
       below = l;
-      fits = omega (arith, sum-at r q each l, length-drop (namesAt (countsOf f)) f, n .total, h .ends);
+      fits = omega (arith, sum-at r q each l, row .start, length-drop (namesAt (countsOf f)) f, n .total, h .ends);
       short = omega (arith, rule .high, length-read (editionIn f) r part q l (h .ranges .resources));
     }
 
@@ -210,7 +207,8 @@ valid-plan f h =
     task-fits : (i : ℕ) → i < c .tasks → TaskFits (c .processors) (task i)
     task-fits i l =
         let b : Bytes part = bytes-drop (tasksAt c) f (checked-bytes f h) in
-        let t = task-facts (formatOf (editionIn f) .mostTag) (c .processors) (task i) (task-kept (editionIn f) (c .tasks) part (c .processors) i (w .tasks) l) in
+        let kept = task-kept (editionIn f) (c .tasks) part (c .processors) i (w .tasks) l in
+        let t = task-facts (formatOf (editionIn f) .mostTag) (c .processors) (task i) (kept .rule) in
         let priority : task i .priority ≡ getD part (i * 8 + 2) 0 = ap (λ (v : TaskRow). v .priority) (task-fields part i) in
         let period : task i .period ≡ number 2 part (i * 8 + 4) = ap (λ (v : TaskRow). v .period) (task-fields part i) in
         record {
