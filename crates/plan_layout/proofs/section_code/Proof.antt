@@ -38,8 +38,8 @@ loop-again c =
 
 -- the code, by whether the sums fit
 code : (c : tie.After-sums-fit Inv-loop μ-loop) (t : Bool)
-    → let l = c .before .before .before in
-    let a = l .before .before .before .before .before .args in
+    → let rows = c .before .before .before .before in
+    let a = rows .before .before .before .before .args in
     c .sums-fit .result ≡ t → cond t 0 sectionsAbove ≡ sectionCode edition1 (a .n) (a .s) (a .r) (a .tasks .now) (a .part .now)
 code c t e =
     let l = c .before .before .before in
