@@ -1,6 +1,7 @@
 -- What an accepted plan file passed, and what reading one tells.
-use Rattle.folds.proofs.Ground.{ℕ, suc, _<_, Bool, true, false, cond, _≡_, refl, sym, ap, _∙_, List, [], eqb, ltb, arith, ltb-true, eqb-true, eqb-false, eq-eqb, ne-eqb}
+use Rattle.folds.proofs.Ground.{ℕ, _<_, Bool, cond, _≡_, refl, sym, _∙_, List, [], eqb, ltb, arith, ltb-true, eq-eqb, ne-eqb}
 use Rattle.refusals.specs.Numbers.{unknownResource}
+use Rattle.refusals.specs.Outcomes.{Outcome, outcome}
 use Rattle.folds.proofs.Tests.{code-zero, first-zero, then-zero}
 use Rattle.folds.proofs.Arrays.{by-eq}
 use Rattle.plan_rules.specs.declared.Counts.{Counts}
@@ -8,11 +9,11 @@ use Rattle.plan_layout.specs.Layout.{countsOf, rowsOf}
 use Rattle.plan_reading.specs.Checks.{checkCode}
 use Rattle.plan_reading.specs.Plan.{planOf, Checked, Valid}
 use Rattle.plan_reading.proofs.Laws.{valid-plan}
-use Rattle.plan.specs.declared.ReadAnswer.{ReadAnswer}
+use Rattle.plan.specs.declared.Reading.{Reading}
 use Rattle.plan.specs.declared.ReadAnswer.the-variants.{Accepted, Refused}
 use Rattle.plan.specs.Acceptance as acceptance
 use Rattle.plan.specs.Acceptance.{refusal}
-use Rattle.plan.specs.Reading.{given, reading, refusedWith, countValues, readOutcome, readingOutcome, nameRefusal}
+use Rattle.plan.specs.Reading.{given, reading, refusedWith, readOutcome, readingOutcome, nameRefusal}
 
 -- a plan that is not refused passed checks 1 to 9
 pub none-failed : (f : List ℕ) → refusal f ≡ 0 → checkCode f ≡ 0
@@ -43,36 +44,34 @@ pub record Got (f : List ℕ) (c : Counts) : Type 0 where
   pub counts : c ≡ countsOf f
   pub rows : reading f .rows ≡ rowsOf f
 
-counts-in : ReadAnswer → Counts
-counts-in (Accepted c) = c
-counts-in (Refused k) = record { edition = 0; processors = 0; tasks = 0; resources = 0; sections = 0 }
+-- what is seen of a value that hangs on a code, by whether the code is 0
+pub by-code : {A B : Type 0} (see : A → B) (a b : A) {x : B} (k : ℕ) (C : Type 0)
+    → see (cond (eqb k 0) a b) ≡ x → (k ≡ 0 → see a ≡ x → C) → ((k ≡ 0 → ⊥) → see b ≡ x → C) → C
+by-code see a b {x} k C e f g = by-eq (λ (t : Bool). see (cond t a b) ≡ x → C) k 0 f g e
 
-number-in : ReadAnswer → ℕ
-number-in (Accepted c) = 0
-number-in (Refused k) = suc k
+-- and what it tells: values with no number, or the number with no values
+pub told : {A : Type 0} (tell : A → Outcome) (a b : A) (k : ℕ) (values : List ℕ)
+    → tell a ≡ record { number = 0; values = values } → tell b ≡ record { number = k; values = [] } → tell (cond (eqb k 0) a b) ≡ outcome k values
+told tell a b k values p q =
+    by-eq (λ (t : Bool). tell (cond t a b) ≡ record { number = k; values = cond t values [] }) k 0 (λ z. rw z p) (λ d. q)
 
 pub given-told : (f : List ℕ) → readOutcome (reading f .answer) ≡ readingOutcome f
 unfolding given
-given-told f =
-    by-eq
-    (λ (b : Bool). readOutcome ((cond b (record { answer = Accepted (countsOf f); rows = rowsOf f }) (refusedWith (refusal f))) .answer) ≡ record { number = refusal f; values = cond b (countValues (countsOf f)) [] })
-    (refusal f) 0 (λ q. rw q) (λ d. refl)
+given-told f = told (λ (r : Reading). readOutcome (r .answer)) _ _ (refusal f) _ refl refl
 
 pub got-plan : (f : List ℕ) (c : Counts) → reading f .answer ≡ Accepted c → Got f c
-unfolding given counts-in number-in
-got-plan f c e = go (eqb (refusal f) 0) refl e
-  where
-    go : (b : Bool) → eqb (refusal f) 0 ≡ b → (cond b (record { answer = Accepted (countsOf f); rows = rowsOf f }) (refusedWith (refusal f))) .answer ≡ Accepted c → Got f c
-    go true t a = record { none = eqb-true _ _ t; counts = sym (ap counts-in a); rows = rw t }
-    go false t a = let bad : suc (refusal f) ≡ 0 = ap number-in a in let off : ⊥ = omega arith in absurd off
+unfolding given
+got-plan f c e =
+    by-code (λ (r : Reading). r .answer) _ _ (refusal f) (Got f c) e
+    (λ z a. record { none = z; counts = cc; rows = rw (eq-eqb _ _ z) })
+    (λ d a. let bad : _≡_ {A = ℕ} 0 1 = cc in let off : ⊥ = omega arith in absurd off)
 
 pub got-refusal : (f : List ℕ) (k : ℕ) → reading f .answer ≡ Refused k → (refusal f ≡ k) × (k ≡ 0 → ⊥)
-unfolding given number-in
-got-refusal f k e = go (eqb (refusal f) 0) refl e
-  where
-    go : (b : Bool) → eqb (refusal f) 0 ≡ b → (cond b (record { answer = Accepted (countsOf f); rows = rowsOf f }) (refusedWith (refusal f))) .answer ≡ Refused k → (refusal f ≡ k) × (k ≡ 0 → ⊥)
-    go true t a = let bad : 0 ≡ suc k = ap number-in a in let off : ⊥ = omega arith in absurd off
-    go false t a = let same : suc (refusal f) ≡ suc k = ap number-in a in (omega arith, λ z. eqb-false (refusal f) 0 t (omega arith))
+unfolding given
+got-refusal f k e =
+    by-code (λ (r : Reading). r .answer) _ _ (refusal f) _ e
+    (λ z a. let bad : _≡_ {A = ℕ} 0 1 = cc in let off : ⊥ = omega arith in absurd off)
+    (λ d a. let same : refusal f ≡ k = cc in (same, λ z. d (same ∙ z)))
 
 -- what a question for a name that is not refused says
 pub record Answered (f : List ℕ) (q : ℕ) : Type 0 where

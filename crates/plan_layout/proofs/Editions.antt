@@ -1,5 +1,5 @@
 -- What the format of each edition keeps: rows written and then read are the same rows, and rows read and then written too.
-use Rattle.folds.proofs.Ground.{ℕ, true, _≡_, refl, List, [], _∷_, length, getD}
+use Rattle.folds.proofs.Ground.{ℕ, true, _≡_, refl, List, length, getD}
 use Rattle.folds.specs.Bytes.{fields, rowAt}
 use Rattle.folds.proofs.RowLaws.{solid}
 use Rattle.plan_rules.specs.declared.TaskRow.{TaskRow}

@@ -1,15 +1,16 @@
 -- What the rows of a part tell of the rows by value: the same rows, under the same rules.
-use Rattle.folds.proofs.Ground.{ℕ, _+_, _*_, _<_, _≤_, true, _≡_, refl, ap, _∙_, List, [], _∷_, eqb, length, getD, replicate, length-replicate, add-zero, arith}
+use Rattle.folds.proofs.Ground.{ℕ, _+_, _*_, _<_, _≤_, true, _&&_, _≡_, refl, ap, _∙_, List, [], _∷_, eqb, length, getD, replicate, length-replicate, add-zero, arith, eqb-true}
 use Rattle.sizes.specs.Sizes.{mostTasks, mostResources, mostSections}
 use Rattle.folds.specs.Below.{sumBelow}
-use Rattle.folds.proofs.Tests.{all-at, all-from, all-same, and-parts}
+use Rattle.folds.proofs.Tests.{all-at, all-from, all-same}
 use Rattle.folds.proofs.Figures.{sum-same}
 use Rattle.folds.specs.Bytes.{number, rowAt, fields}
 use Rattle.folds.proofs.Arrays.{placed-at}
 use Rattle.folds.proofs.RowLaws.{number-drop, number-byte}
 use Rattle.plan_rules.specs.Rules.{noTask, noSection, taskOk, sectionOk, tasksOk, sectionsOk, lengthOf, taskOf, sectionOf}
+use Rattle.plan_rules.proofs.Laws.{test-rest, test-last, facts}
 use Rattle.plan_layout.specs.Editions.{Edition, edition1, formatOf}
-use Rattle.plan_layout.specs.Layout.{headerIn, countsOf, lengthSaid, taskAt, taskSpare, startAt, lengthAt, resourceSpare, sectionAt, taskRows, lengthRows, sectionRows, taskRowsOk, sectionRowsOk}
+use Rattle.plan_layout.specs.Layout.{headerIn, countsOf, lengthSaid, taskAt, taskSpare, startAt, lengthAt, resourceSpare, sectionAt, taskRows, lengthRows, sectionRows, taskRowsOk, lengthRowsOk, sectionRowsOk}
 
 -- where the numbers of a header stand in a file of edition 1
 module _ (f : List ℕ) where
@@ -56,6 +57,15 @@ module _ (part : List ℕ) (i : ℕ) where
   unfolding sectionAt rowAt fields
   section-fields = simp (number-drop, number-byte, add-zero)
 
+-- what the checks of a task row and of a resource row say
+pub record TaskKept (e : Edition) (part : List ℕ) (p i : ℕ) : Type 0 where
+  pub rule : taskOk (formatOf e .mostTag) p (taskAt e part i) ≡ true
+  pub spare : taskSpare e part i ≡ 0
+
+pub record ResourceKept (e : Edition) (part : List ℕ) (i : ℕ) : Type 0 where
+  pub start : startAt e part i ≡ sumBelow i (lengthAt e part)
+  pub spare : resourceSpare e part i ≡ 0
+
 module _ (e : Edition) (n : ℕ) (part : List ℕ) where
   -- row i by value is row i of the part
   pub task-read : (i : ℕ) → i < n → n ≤ mostTasks → taskOf (taskRows e n part) i ≡ taskAt e part i
@@ -74,12 +84,22 @@ module _ (e : Edition) (n : ℕ) (part : List ℕ) where
   pub start-read : (i : ℕ) → i ≤ n → n ≤ mostResources → sumBelow i (lengthOf (lengthRows e n part)) ≡ sumBelow i (lengthAt e part)
   start-read i l h = sum-same i (lengthOf (lengthRows e n part)) (lengthAt e part) (λ k lt. length-read k (omega arith) h)
 
+  -- a row that passed its check
+  pub task-kept : (p i : ℕ) → taskRowsOk e n p part ≡ true → i < n → TaskKept e part p i
+  unfolding taskRowsOk
+  task-kept p i k l =
+      let a = all-at n i (λ j. taskOk (formatOf e .mostTag) p (taskAt e part j) && eqb (taskSpare e part j) 0) k l in
+      record { rule = test-rest _ (eqb (taskSpare e part i) 0) a; spare = eqb-true _ _ (test-last (taskOk (formatOf e .mostTag) p (taskAt e part i)) _ a) }
+
+  pub resource-kept : (i : ℕ) → lengthRowsOk e n part ≡ true → i < n → ResourceKept e part i
+  unfolding lengthRowsOk
+  resource-kept i k l =
+      let a = all-at n i (λ j. eqb (startAt e part j) (sumBelow j (lengthAt e part)) && eqb (resourceSpare e part j) 0) k l in search facts
+
   -- rows that passed their check keep the rules of rows by value
   pub tasks-kept : (p : ℕ) → n ≤ mostTasks → taskRowsOk e n p part ≡ true → tasksOk n (formatOf e .mostTag) p (taskRows e n part) ≡ true
-  unfolding taskRowsOk tasksOk
-  tasks-kept p h k =
-      all-from n (λ i. taskOk (formatOf e .mostTag) p (taskOf (taskRows e n part) i))
-      (λ i l. ap (taskOk (formatOf e .mostTag) p) (task-read i l h) ∙ and-parts (taskOk (formatOf e .mostTag) p (taskAt e part i)) (eqb (taskSpare e part i) 0) (all-at n i _ k l) .0)
+  unfolding tasksOk
+  tasks-kept p h k = all-from n _ (λ i l. ap (taskOk (formatOf e .mostTag) p) (task-read i l h) ∙ task-kept p i k l .rule)
 
   pub sections-kept : (m r : ℕ) → n ≤ mostSections → sectionsOk n m r (sectionRows e n part) ≡ sectionRowsOk e n m r part
   unfolding sectionRowsOk sectionsOk

@@ -1,17 +1,18 @@
 -- Tags and places seen in a pass over task rows, and what they tell once every row keeps its rule.
-use Rattle.folds.proofs.Ground.{ℕ, _+_, _*_, _%_, _<_, _≤_, Bool, true, _&&_, not, _≡_, sym, ap, ap₂, _∙_, List, eqb, replicate, arith}
+use Rattle.folds.proofs.Ground.{ℕ, _+_, _*_, _%_, _<_, _≤_, Bool, true, false, cond, _&&_, not, _≡_, sym, ap, ap₂, _∙_, List, eqb, replicate, arith}
 use Rattle.folds.specs.Below.{allBelow}
-use Rattle.folds.proofs.Tests.{all-at, all-same, and-parts}
+use Rattle.folds.proofs.Tests.{all-same}
 use Rattle.folds.proofs.Arrays.{markedBelow}
 use Rattle.folds.proofs.RowLaws.{Bytes}
-use Rattle.plan_rules.specs.Rules.{taskOf, taskOk, tagNew, priorityNew, uniqueOk}
+use Rattle.plan_rules.specs.Rules.{taskOf, tagNew, priorityNew, uniqueOk}
 use Rattle.plan_rules.specs.declared.TaskRow.{TaskRow}
 use Rattle.plan_rules.proofs.Laws.{place-eqb, task-facts}
+use Rattle.refusals.specs.Numbers.{wrongTask, repeated}
 use Rattle.sizes.specs.Sizes.{mostProcessors, mostTasks}
 use Rattle.plan_layout.specs.Editions.{edition1, formatOf}
-use Rattle.plan_layout.specs.Layout.{taskAt, taskSpare, taskRows, taskRowsOk}
-use Rattle.plan_layout.specs.Inner.{TasksFit}
-use Rattle.plan_layout.proofs.Laws.{task-fields, task-read}
+use Rattle.plan_layout.specs.Layout.{taskAt, taskRows, taskRowsOk}
+use Rattle.plan_layout.specs.Inner.{TasksFit, taskCode}
+use Rattle.plan_layout.proofs.Laws.{task-fields, task-read, task-kept}
 
 -- row k's tag, and its place in the table of priorities
 abbrev pub tagKey : List ℕ → ℕ → ℕ
@@ -29,10 +30,8 @@ keysNew part i = keyNew (tagKey part) i && keyNew (placeKey part) i
 
 module _ (n p : ℕ) (part : List ℕ) (few : n ≤ mostTasks) (most : p ≤ mostProcessors) (bytes : (k : ℕ) → taskAt edition1 part k .priority < 256) (ok : taskRowsOk edition1 n p part ≡ true) where
   processor-small : (k : ℕ) → k < n → taskAt edition1 part k .processor % 8 ≡ taskAt edition1 part k .processor
-  unfolding taskRowsOk
   processor-small k l =
-      let t = task-facts (formatOf edition1 .mostTag) p (taskAt edition1 part k) (and-parts (taskOk (formatOf edition1 .mostTag) p (taskAt edition1 part k)) (eqb (taskSpare edition1 part k) 0) (all-at n k _ ok l) .0) in
-      omega (arith, t .processor)
+      let t = task-facts (formatOf edition1 .mostTag) p (taskAt edition1 part k) (task-kept edition1 n part p k ok l .rule) in omega arith
 
   row : (k : ℕ) → k < n → taskAt edition1 part k ≡ taskOf (taskRows edition1 n part) k
   row k l = sym (task-read edition1 n part k l few)
@@ -65,10 +64,12 @@ pub record Seen (n p : ℕ) (part ts ps : List ℕ) (test new : Bool) (i : ℕ) 
 
 -- and a pass over all
 module _ {n p : ℕ} {part ts ps : List ℕ} {test new : Bool} {i : ℕ} (s : Seen n p part ts ps test new i) (e : i ≡ n) where
-  pub seen-rows : test ≡ taskRowsOk edition1 n p part
-  seen-rows = rw (← e) (s .ok)
-
-  pub seen-new : TasksFit n p part → Bytes part → taskRowsOk edition1 n p part ≡ true → new ≡ uniqueOk n (taskRows edition1 n part)
-  seen-new f b h =
-      let fresh : new ≡ allBelow n (keysNew part) = rw (← e) (s .fresh) in
-      fresh ∙ keys-unique n p part (f .tasks) (f .processors) (priority-byte part b) h
+  pub seen-code : TasksFit n p part → Bytes part → cond test (cond new 0 repeated) wrongTask ≡ taskCode edition1 n p part
+  unfolding taskCode
+  seen-code f b = go test (rw (← e) (s .ok))
+    where
+      go : (t : Bool) → t ≡ taskRowsOk edition1 n p part → cond t (cond new 0 repeated) wrongTask ≡ taskCode edition1 n p part
+      go true h =
+          let fresh : new ≡ allBelow n (keysNew part) = rw (← e) (s .fresh) in
+          rw (← h, fresh, keys-unique n p part (f .tasks) (f .processors) (priority-byte part b) (sym h))
+      go false h = rw (← h)

@@ -1,18 +1,20 @@
 -- What the private functions of this crate give and ask. None of this is a rule of document 01.
-use Prim.Native.Nat.{ℕ, _*_, _≤_, _<_}
-use mathlib.Core.Bool.{Bool, true, _&&_}
+use Prim.Native.Nat.{ℕ, _*_, _^_, _≤_, _<_}
+use mathlib.Core.Bool.{Bool, true}
 use mathlib.Core.List.{List}
 use mathlib.Core.Path.{_≡_}
 use lib.Dec.{leb}
 use lib.ListN.{length, getD}
 use Rattle.sizes.specs.Sizes.{mostProcessors, mostTasks, mostSections}
 use Rattle.folds.specs.Below.{allBelow}
-use Rattle.folds.specs.Bytes.{width}
-use Rattle.plan_rules.specs.Rules.{countsOk, uniqueOk, namesOk, sumsOk, testsCode}
+use Rattle.folds.specs.Bytes.{width, number}
+use Rattle.plan_rules.specs.Rules.{countsOk, uniqueOk, sumsOk, testsCode}
 use Rattle.plan_rules.specs.declared.Counts.{Counts}
+use Rattle.plan_rules.specs.declared.TaskRow.{TaskRow}
 use Rattle.plan_layout.specs.Editions.{Edition, edition1, formatOf}
-use Rattle.plan_layout.specs.Layout.{laid, taskAt, startAt, lengthAt, resourceSpare, taskRows, lengthRows, sectionRows, taskRowsOk, lengthRowsOk, sectionRowsOk, partsTests}
+use Rattle.plan_layout.specs.Layout.{taskAt, startAt, lengthAt, resourceSpare, taskRows, lengthRows, sectionRows, taskRowsOk, lengthRowsOk, sectionRowsOk, partsTests}
 use Rattle.plan_layout.specs.declared.ResourceRow.{ResourceRow}
+use Rattle.plan_layout.specs.declared.LoadedLengths.{LoadedLengths}
 
 -- the bytes of a task's row
 abbrev pub taskWidth : ℕ
@@ -46,10 +48,25 @@ restCode c tasks resources sections names =
     let t = partsTests c tasks resources sections names in
     testsCode (record { tasks = true; unique = true; names = t .names; sections = t .sections; sums = t .sums })
 
+-- r is the number that two bytes at `at` make
+pub record WordRead (s : List ℕ) (at r : ℕ) : Type 0 where
+  pub read : r ≡ number 2 s at
+  pub small : r < 2 ^ 16
+
+-- what is read of task row i: a tag is no greater than a row has room for
+pub record TaskRead (e : Edition) (part : List ℕ) (i : ℕ) (row : TaskRow) : Type 0 where
+  pub read : row ≡ taskAt e part i
+  pub tag : row .tag ≤ formatOf e .mostTag
+
+-- what is read of r resource rows
+pub record LengthsRead (e : Edition) (part : List ℕ) (r : ℕ) (l : LoadedLengths) : Type 0 where
+  pub ok : l .ok ≡ lengthRowsOk e r part
+  pub lengths : l .lengths ≡ lengthRows e r part
+
 -- what is read of resource row i
 pub record ResourceRead (e : Edition) (part : List ℕ) (i : ℕ) (row : ResourceRow) : Type 0 where
   pub start : row .start ≡ startAt e part i
-  pub small : row .start < 65536
+  pub small : row .start < 2 ^ 16
   pub length : row .length ≡ lengthAt e part i
   pub spare : row .spare ≡ resourceSpare e part i
 

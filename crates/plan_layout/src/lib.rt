@@ -10,11 +10,11 @@ ghost use lib.ListN.{length};
 ghost use Rattle.sizes.specs.Sizes.{mostTasks, mostResources, mostSections};
 ghost use Rattle.folds.specs.Bytes.{number};
 ghost use Rattle.plan_rules.specs.Rules.{countsOk, noTask, noSection};
-ghost use Rattle.plan_layout.specs.Editions.{edition1, formatOf, known, headerLength};
-ghost use Rattle.plan_layout.specs.Layout.{countsOf, lengthSaid, offsetsOk, resourcesAt, sectionsAt, namesAt, taskAt, taskSpare, sectionAt};
-ghost use Rattle.plan_layout.specs.Layout.{taskRows, lengthRows, sectionRows, lengthRowsOk, sectionRowsOk, partsCode, fileCode};
+ghost use Rattle.plan_layout.specs.Editions.{edition1, known, headerLength};
+ghost use Rattle.plan_layout.specs.Layout.{countsOf, lengthSaid, offsetsOk, resourcesAt, sectionsAt, namesAt, taskSpare, sectionAt};
+ghost use Rattle.plan_layout.specs.Layout.{taskRows, sectionRows, sectionRowsOk, partsCode, fileCode};
 ghost use Rattle.plan_layout.specs.Inner.{taskWidth, resourceWidth, sectionWidth, taskCode, sumsFit, sectionCode, restCode};
-ghost use Rattle.plan_layout.specs.Inner.{ResourceRead, TasksFit, SectionsFit, PartsFit};
+ghost use Rattle.plan_layout.specs.Inner.{WordRead, TaskRead, ResourceRead, LengthsRead, TasksFit, SectionsFit, PartsFit};
 
 // The edition that is read and written, the bytes of its header and of its rows, and the greatest tag that a row has room for.
 const EDITION: u8 = 1;
@@ -45,7 +45,7 @@ pub struct ResourceRow {
 // Two bytes, low byte first.
 pub fn word_at(s: &[u8], at: usize) -> usize
     requires { ⌜ at + 1 < length (now s) ⌝ }
-    ensures { λ r. ⌜ (r ≡ number 2 (now (s .entry)) at) × (r < 65536) ⌝ }
+    ensures { λ r. ⌜ WordRead (now (s .entry)) at r ⌝ }
 {
     folds::wide(s[at]) + 256 * folds::wide(s[at + 1])
 }
@@ -156,7 +156,7 @@ pub fn no_section() -> SectionRow
 // Task row i of the part that begins at the task rows.
 pub fn task_at(part: &[u8], i: usize) -> TaskRow
     requires { ⌜ (i < mostTasks) × (i * taskWidth + taskWidth ≤ length (now part)) ⌝ }
-    ensures { λ r. ⌜ (r ≡ taskAt edition1 (now (part .entry)) i) × (r .tag ≤ formatOf edition1 .mostTag) ⌝ }
+    ensures { λ r. ⌜ TaskRead edition1 (now (part .entry)) i r ⌝ }
 {
     let at = i * TASK_ROW;
     TaskRow {
@@ -240,7 +240,7 @@ pub fn resource_at(part: &[u8], i: usize) -> ResourceRow
 // 7: the lengths in the resource rows, and whether each name starts where the last ended and each spare byte is 0.
 pub fn load_lengths(part: &[u8], r: usize) -> LoadedLengths
     requires { ⌜ (r ≤ mostResources) × (r * resourceWidth ≤ length (now part)) ⌝ }
-    ensures { λ l. ⌜ (l .ok ≡ lengthRowsOk edition1 r (now (part .entry))) × (l .lengths ≡ lengthRows edition1 r (now (part .entry))) ⌝ }
+    ensures { λ l. ⌜ LengthsRead edition1 (now (part .entry)) r l ⌝ }
 {
     let mut lengths = [0u8; sizes::RESOURCES];
     let mut ok = true;

@@ -1,18 +1,17 @@
 -- What a file that passed its checks tells.
-use Rattle.folds.proofs.Ground.{ℕ, suc, _+_, _*_, _<_, _≤_, Bool, true, false, cond, _&&_, not, true≢false, _≡_, refl, sym, ap, ap₂, _∙_, List, eqb, ltb, length, getD, drop, length-drop, length-take, List·getD-eq-default, getD-drop, arith, ltb-true, ltb-false, leb-true, eqb-true, eqb-false, eq-eqb, ne-eqb, not-true}
-use Rattle.folds.specs.Below.{sumBelow}
+use Rattle.folds.proofs.Ground.{ℕ, suc, _+_, _*_, _<_, _≤_, Bool, true, false, cond, _≡_, refl, sym, ap, _∙_, List, eqb, ltb, length, getD, drop, length-drop, length-take, List·getD-eq-default, getD-drop, arith, ltb-true, ltb-false, eqb-true, eq-eqb, ne-eqb}
 use Rattle.folds.specs.Bytes.{number}
-use Rattle.folds.proofs.Tests.{and-parts, is-not-true, code-zero, code-next, first-zero, then-zero, all-at}
+use Rattle.folds.proofs.Tests.{code-zero, code-next, first-zero, then-zero, all-at}
 use Rattle.folds.proofs.Figures.{sum-at}
 use Rattle.folds.proofs.RowLaws.{Bytes}
-use Rattle.plan_rules.specs.Rules.{taskOf, countsOk, taskOk, tagNew, priorityNew, uniqueOk, namesOk, sumsOk, lengthOf, lengthsOk, Tests}
+use Rattle.plan_rules.specs.Rules.{taskOf, countsOk, uniqueOk, namesOk, sumsOk, Tests}
 use Rattle.plan_rules.specs.declared.Counts.{Counts}
 use Rattle.plan_rules.specs.declared.TaskRow.{TaskRow}
 use Rattle.sizes.specs.Sizes.{mostNameBytes}
 use Rattle.plan_layout.specs.Editions.{formatOf, known, headerLength}
-use Rattle.plan_layout.specs.Layout.{headerIn, countsOf, editionIn, lengthSaid, tasksAt, resourcesAt, sectionsAt, namesAt, offsetsOk, taskAt, taskSpare, sectionAt, taskRowsOk, lengthRowsOk, sectionRowsOk, partsTests, partsCode, taskRowsOf, lengthsOf, sectionsOf, namesOf, startAt, lengthAt, resourceSpare}
-use Rattle.plan_rules.proofs.Laws.{InRange, counts-facts, task-facts, section-facts, length-facts, tests-facts}
-use Rattle.plan_layout.proofs.Laws.{task-read, length-read, start-read, task-fields}
+use Rattle.plan_layout.specs.Layout.{headerIn, countsOf, editionIn, lengthSaid, tasksAt, resourcesAt, sectionsAt, namesAt, offsetsOk, taskAt, sectionAt, taskRowsOk, lengthRowsOk, sectionRowsOk, partsTests, partsCode, taskRowsOf, lengthsOf, sectionsOf, namesOf, startAt, lengthAt}
+use Rattle.plan_rules.proofs.Laws.{facts, InRange, counts-facts, task-facts, unique-facts, once, names-facts, section-facts, length-facts, tests-facts}
+use Rattle.plan_layout.proofs.Laws.{task-read, length-read, start-read, task-fields, task-kept, resource-kept}
 use Rattle.plan_reading.specs.Plan.{planOf, namePart, Checked, TaskFits, SectionFits, Valid}
 use Rattle.plan_reading.specs.Checks.{countsCode, headerCode, rowsCode, checkCode}
 
@@ -55,21 +54,18 @@ header-facts f e =
     let e3 = code-next (known (countsOf f .edition)) _ 1 e2 in
     let e4 = code-next (countsOk (countsOf f)) _ 2 e3 in
     let ok : countsOk (countsOf f) ≡ true = code-zero _ _ 2 e3 in
-    let a = and-parts _ _ (code-zero (offsetsOk (countsOf f) f) _ 3 e4) in
-    let b = and-parts _ _ (a .0) in
-    let d = and-parts _ _ (b .0) in
-    let g = and-parts _ _ (d .0) in
+    let o = code-zero (offsetsOk (countsOf f) f) _ 3 e4 in
     record {
       long = ltb-false _ _ (first-fails (ltb (length f) headerLength) _ 0 e);
       whole = eqb-true _ _ (code-zero _ _ 0 e1);
       edition = code-zero _ _ 1 e2;
       counts = ok;
       ranges = counts-facts (countsOf f) ok;
-      tasks-at = eqb-true _ _ (g .0);
-      resources-at = eqb-true _ _ (g .1);
-      sections-at = eqb-true _ _ (d .1);
-      names-at = eqb-true _ _ (b .1);
-      ends = leb-true _ _ (a .1);
+      tasks-at = search facts;
+      resources-at = search facts;
+      sections-at = search facts;
+      names-at = search facts;
+      ends = search facts;
     }
 
 -- a whole plan
@@ -95,13 +91,12 @@ pub whole-facts : (f : List ℕ) → checkCode f ≡ 0 → Whole f
 unfolding checkCode partsCode
 whole-facts f e =
     let p = tests-facts (asked f) (then-zero (headerCode f) _ e) in
-    let n = and-parts (lengthRowsOk (editionIn f) (countsOf f .resources) (drop (resourcesAt (countsOf f)) f)) _ (p .names) in
     record {
       header = header-facts f (first-zero (headerCode f) _ e);
       tasks = p .tasks;
       unique = p .unique;
-      starts = n .0;
-      names = n .1;
+      starts = search facts;
+      names = search facts;
       sections = p .sections;
       sums = p .sums;
     }
@@ -121,22 +116,21 @@ pub record Named (f : List ℕ) (q : ℕ) : Type 0 where
   pub short : lengthIn f q ≤ mostNameBytes
 
 pub name-facts : (f : List ℕ) (q : ℕ) → checkCode f ≡ 0 → q < countsOf f .resources → Named f q
-unfolding lengthRowsOk namesOk
 name-facts f q e l =
     let part : List ℕ = drop (resourcesAt (countsOf f)) f in
     let each : ℕ → ℕ = lengthAt (editionIn f) part in
     let r : ℕ = countsOf f .resources in
     let w = whole-facts f e in
-    let at = and-parts (eqb (startIn f q) (sumBelow q each)) (eqb (resourceSpare (editionIn f) part q) 0) (all-at r q _ (w .starts) l) in
-    let start : startIn f q ≡ sumBelow q each = eqb-true _ _ (at .0) in
-    let kept = and-parts (eqb (sumBelow r (lengthOf (lengthsOf f))) (length (namesOf f))) _ (w .names) in
-    let total : sumBelow r each ≡ length (namesOf f) = sym (start-read (editionIn f) r part r (omega arith) (w .header .ranges .resources)) ∙ eqb-true _ _ (kept .0) in
-    let rule = length-facts r q (lengthsOf f) (and-parts (lengthsOk r (lengthsOf f)) _ (kept .1) .0) l in
+    let h = w .header in
+    let row = resource-kept (editionIn f) r part q (w .starts) l in
+    let n = names-facts r (lengthsOf f) (namesOf f) (w .names) in
+    let total = start-read (editionIn f) r part r (omega arith) (h .ranges .resources) in
+    let rule = length-facts r q (lengthsOf f) (n .ranges) l in
     record {
       whole = w;
       below = l;
-      fits = omega (arith, sum-at r q each l, length-drop (namesAt (countsOf f)) f, w .header .ends);
-      short = omega (arith, rule .high, length-read (editionIn f) r part q l (w .header .ranges .resources));
+      fits = omega (arith, sum-at r q each l, row .start, length-drop (namesAt (countsOf f)) f, n .total, h .ends);
+      short = omega (arith, rule .high, length-read (editionIn f) r part q l (h .ranges .resources));
     }
 
 -- a part of the file that is such a name
@@ -147,10 +141,6 @@ name-said part f q n e =
 
 -- the plan of a file has the counts in its header
 module _ (f : List ℕ) where
-  pub plan-processors : planOf f .processors ≡ countsOf f .processors
-  unfolding planOf
-  plan-processors = refl
-
   pub plan-tasks : planOf f .tasks ≡ countsOf f .tasks
   unfolding planOf
   plan-tasks = refl
@@ -178,9 +168,13 @@ word-below : (s : List ℕ) (at : ℕ) → Bytes s → number 2 s at < 65536
 unfolding number
 word-below s at b = omega (arith, b at, b (at + 1))
 
+-- task i by value is that of its row
+row-read : (f : List ℕ) → Whole f → (i : ℕ) → i < countsOf f .tasks → taskOf (taskRowsOf f) i ≡ taskAt (editionIn f) (drop (tasksAt (countsOf f)) f) i
+row-read f w i l = task-read (editionIn f) (countsOf f .tasks) (drop (tasksAt (countsOf f)) f) i l (w .header .ranges .tasks)
+
 -- a checked file holds a plan in its ranges
 pub valid-plan : (f : List ℕ) → Checked f → Valid (planOf f)
-unfolding planOf taskRowsOk sectionRowsOk uniqueOk priorityNew
+unfolding planOf sectionRowsOk
 valid-plan f h =
     record {
       processor = r .processor;
@@ -213,8 +207,8 @@ valid-plan f h =
     task-fits : (i : ℕ) → i < c .tasks → TaskFits (c .processors) (task i)
     task-fits i l =
         let b : Bytes part = bytes-drop (tasksAt c) f (checked-bytes f h) in
-        let ok = and-parts (taskOk (formatOf (editionIn f) .mostTag) (c .processors) (task i)) (eqb (taskSpare (editionIn f) part i) 0) (all-at (c .tasks) i _ (w .tasks) l) .0 in
-        let t = task-facts (formatOf (editionIn f) .mostTag) (c .processors) (task i) ok in
+        let kept = task-kept (editionIn f) (c .tasks) part (c .processors) i (w .tasks) l in
+        let t = task-facts (formatOf (editionIn f) .mostTag) (c .processors) (task i) (kept .rule) in
         let priority : task i .priority ≡ getD part (i * 8 + 2) 0 = ap (λ (v : TaskRow). v .priority) (task-fields part i) in
         let period : task i .period ≡ number 2 part (i * 8 + 4) = ap (λ (v : TaskRow). v .period) (task-fields part i) in
         record {
@@ -227,23 +221,13 @@ valid-plan f h =
           period = omega (arith, word-below part (i * 8 + 4) b);
         }
 
-    -- no earlier task has both, by the check of unique rows
-    earlier : (i j : ℕ) → i < c .tasks → j < i → task i .processor ≡ task j .processor → task i .priority ≡ task j .priority → ⊥
-    earlier i j l m p q =
-        let rows : List TaskRow = taskRowsOf f in
-        let at : taskOf rows i ≡ task i = task-read (editionIn f) (c .tasks) part i l (r .tasks) in
-        let before : taskOf rows j ≡ task j = task-read (editionIn f) (c .tasks) part j (omega arith) (r .tasks) in
-        let new : priorityNew rows i ≡ true = and-parts (tagNew rows i) (priorityNew rows i) (all-at (c .tasks) i _ (w .unique) l) .1 in
-        let off = not-true _ (all-at i j (λ k. not (eqb (taskOf rows i .processor) (taskOf rows k .processor) && eqb (taskOf rows i .priority) (taskOf rows k .priority))) new m) in
-        let processor : eqb (taskOf rows i .processor) (taskOf rows j .processor) ≡ true = eq-eqb _ _ (ap (λ (v : TaskRow). v .processor) at ∙ p ∙ sym (ap (λ (v : TaskRow). v .processor) before)) in
-        let priority : eqb (taskOf rows i .priority) (taskOf rows j .priority) ≡ true = eq-eqb _ _ (ap (λ (v : TaskRow). v .priority) at ∙ q ∙ sym (ap (λ (v : TaskRow). v .priority) before)) in
-        true≢false (sym (ap₂ _&&_ processor priority) ∙ off)
-
     unique : (i j : ℕ) → i < c .tasks → j < c .tasks → task i .processor ≡ task j .processor → task i .priority ≡ task j .priority → i ≡ j
     unique i j l m p q =
-        let up : i ≤ j = ltb-false j i (is-not-true _ (λ b. earlier i j l (ltb-true j i b) p q)) in
-        let down : j ≤ i = ltb-false i j (is-not-true _ (λ b. earlier j i m (ltb-true i j b) (sym p) (sym q))) in
-        omega arith
+        let row : ℕ → TaskRow = taskOf (taskRowsOf f) in
+        let like : ℕ → ℕ → Type 0 = λ a b. (row a .processor ≡ row b .processor) × (row a .priority ≡ row b .priority) in
+        once (c .tasks) like (λ a b s. (sym (s .0), sym (s .1)))
+        (λ a b k m s. unique-facts (c .tasks) a b (taskRowsOf f) (w .unique) k m .priority (s .0) (s .1)) i j l m
+        (rw (row-read f w i l, row-read f w j m) (p, q))
 
     section-fits : (s : ℕ) → s < c .sections → SectionFits (c .tasks) (c .resources) (sectionAt (editionIn f) (drop (sectionsAt c) f) s)
     section-fits s l =
@@ -253,22 +237,10 @@ valid-plan f h =
 
 -- and its tags are unique
 pub tags-differ : (f : List ℕ) → Checked f → (i j : ℕ) → i < planOf f .tasks → j < planOf f .tasks → planOf f .task i .tag ≡ planOf f .task j .tag → i ≡ j
-unfolding planOf uniqueOk tagNew
+unfolding planOf
 tags-differ f h i j l m e =
-    let up : i ≤ j = ltb-false j i (is-not-true _ (λ b. earlier i j l (ltb-true j i b) e)) in
-    let down : j ≤ i = ltb-false i j (is-not-true _ (λ b. earlier j i m (ltb-true i j b) (sym e))) in
-    omega arith
-  where
-    -- no earlier task has the tag, by the check of unique rows
-    earlier : (i j : ℕ) → i < countsOf f .tasks → j < i → taskAt (editionIn f) (drop (tasksAt (countsOf f)) f) i .tag ≡ taskAt (editionIn f) (drop (tasksAt (countsOf f)) f) j .tag → ⊥
-    earlier i j l m e =
-        let c : Counts = countsOf f in
-        let w = whole-facts f (h .none) in
-        let part : List ℕ = drop (tasksAt c) f in
-        let rows : List TaskRow = taskRowsOf f in
-        let tag : TaskRow → ℕ = λ v. v .tag in
-        let at = ap tag (task-read (editionIn f) (c .tasks) part i l (w .header .ranges .tasks)) in
-        let before = ap tag (task-read (editionIn f) (c .tasks) part j (omega arith) (w .header .ranges .tasks)) in
-        let new : tagNew rows i ≡ true = and-parts (tagNew rows i) (priorityNew rows i) (all-at (c .tasks) i _ (w .unique) l) .0 in
-        let off = not-true _ (all-at i j (λ k. not (eqb (taskOf rows i .tag) (taskOf rows k .tag))) new m) in
-        eqb-false (taskOf rows i .tag) (taskOf rows j .tag) off (at ∙ e ∙ sym before)
+    let w = whole-facts f (h .none) in
+    let n : ℕ = countsOf f .tasks in
+    let row : ℕ → TaskRow = taskOf (taskRowsOf f) in
+    once n (λ a b. row a .tag ≡ row b .tag) (λ a b s. sym s) (λ a b k m s. unique-facts n a b (taskRowsOf f) (w .unique) k m .tag s) i j l m
+    (rw (row-read f w i l, row-read f w j m) e)

@@ -5,8 +5,9 @@ ghost use mathlib.Core.Path.{_≡_};
 ghost use Prim.Native.Nat.{_≤_};
 ghost use lib.ListN.{length};
 ghost use Rattle.plan_layout.specs.Editions.{headerLength};
-ghost use Rattle.plan_layout.specs.Layout.{countsOf, rowsOf};
+ghost use Rattle.plan_layout.specs.Layout.{rowsOf};
 ghost use Rattle.plan_reading.specs.Checks.{countsCode, headerCode, rowsCode, checkCode};
+ghost use Rattle.plan_reading.specs.Inner.{HeaderPassed};
 
 pub mod checked;
 
@@ -43,7 +44,7 @@ fn header_code(file: &[u8]) -> u8
 
 // Checks 5 to 9, of a file that passed those before: the first that fails, 0 for none.
 fn rows_code(file: &[u8], c: Counts) -> u8
-    requires { ⌜ (headerCode (now file) ≡ 0) × (c ≡ countsOf (now file)) ⌝ }
+    requires { ⌜ HeaderPassed (now file) c ⌝ }
     ensures { λ r. ⌜ r ≡ rowsCode (now (file .entry)) ⌝ }
 {
     let at = plan_layout::names_at(c);
@@ -64,7 +65,7 @@ pub fn check(file: &[u8]) -> u8
 
 // The rows of a file that passed every check.
 pub fn load(file: &[u8], c: Counts) -> Rows
-    requires { ⌜ (headerCode (now file) ≡ 0) × (c ≡ countsOf (now file)) ⌝ }
+    requires { ⌜ HeaderPassed (now file) c ⌝ }
     ensures { λ r. ⌜ r ≡ rowsOf (now (file .entry)) ⌝ }
 {
     let n = folds::wide(c.tasks);

@@ -1,15 +1,26 @@
 -- What counts, rows and lengths that keep their rules have, and the laws of the numbers of names.
-use Rattle.folds.proofs.Ground.{ℕ, _+_, _-_, _*_, _/_, _<_, _≤_, Bool, true, false, cond, _&&_, not, _≡_, refl, sym, ap, _∙_, List, leb, ltb, eqb, length, getD, replicate, add-zero, add-assoc, arith, le-leb, ltb-true, ltb-false, leb-true, eq-eqb, ne-eqb, eqb-true, eqb-false, not-true}
+use Rattle.folds.proofs.Ground.{ℕ, _+_, _-_, _*_, _/_, _<_, _≤_, Bool, true, false, cond, _&&_, not, and-comm, true≢false, _≡_, refl, sym, ap, ap₂, _∙_, List, leb, ltb, eqb, length, getD, replicate, add-zero, add-assoc, arith, le-leb, ltb-true, ltb-false, leb-true, eq-eqb, eqb-true, eqb-false, not-true}
 use Rattle.sizes.specs.Sizes.{mostProcessors, mostTasks, mostResources, mostSections, mostNameBytes, mostSectionTicks}
-use Rattle.folds.proofs.Tests.{and-parts, code-zero, code-next, all-at, all-from}
+use Rattle.folds.proofs.Tests.{and-parts, is-not-true, code-zero, code-next, all-at, all-from}
+use Rattle.folds.specs.Below.{sumBelow}
 use Rattle.folds.specs.Bytes.{number}
 use Rattle.folds.proofs.RowLaws.{number-same}
-use Rattle.folds.proofs.Arrays.{by-eq, placed-at}
+use Rattle.folds.proofs.Arrays.{cell-eqb, placed-at}
 use Rattle.plan_rules.specs.declared.Counts.{Counts}
 use Rattle.plan_rules.specs.declared.TaskRow.{TaskRow}
 use Rattle.plan_rules.specs.declared.SectionRow.{SectionRow}
-use Rattle.plan_rules.specs.Rules.{taskOf, countsOk, taskOk, tasksOk, tagsOk, sectionOk, lengthOf, startOf, lengthsOk, sameBytes, differ, nameNew, namesDiffer, Tests, testsCode}
+use Rattle.plan_rules.specs.Rules.{taskOf, countsOk, taskOk, tasksOk, tagsOk, sectionOk, lengthOf, startOf, lengthsOk, sameBytes, differ, nameNew, namesDiffer, namesOk, tagNew, priorityNew, uniqueOk, Tests, testsCode}
 use Rattle.plan_rules.specs.Inner.{digestOf, digestsOf, numberNew, numbersDiffer}
+
+-- tests that hold together hold each
+pub test-rest : (a b : Bool) → (a && b) ≡ true → a ≡ true
+test-rest a b h = and-parts a b h .0
+
+pub test-last : (a b : Bool) → (a && b) ≡ true → b ≡ true
+test-last a b h = and-parts a b h .1
+
+-- what a row of tests says of the numbers in it: for `search`
+pub ruleset facts = (test-rest, test-last, leb-true, ltb-true, eqb-true)
 
 -- counts in their ranges
 pub record InRange (c : Counts) : Type 0 where
@@ -22,22 +33,7 @@ pub record InRange (c : Counts) : Type 0 where
   pub sections : c .sections ≤ mostSections
 
 pub counts-facts : (c : Counts) → countsOk c ≡ true → InRange c
-counts-facts c h =
-    let g = and-parts _ _ h in
-    let f = and-parts _ _ (g .0) in
-    let e = and-parts _ _ (f .0) in
-    let d = and-parts _ _ (e .0) in
-    let k = and-parts _ _ (d .0) in
-    let p = and-parts _ _ (k .0) in
-    record {
-      processor = leb-true _ _ (p .0);
-      processors = leb-true _ _ (p .1);
-      task = leb-true _ _ (k .1);
-      tasks = leb-true _ _ (d .1);
-      resource = leb-true _ _ (e .1);
-      resources = leb-true _ _ (f .1);
-      sections = leb-true _ _ (g .1);
-    }
+counts-facts c h = search facts
 
 -- a task that keeps its rule in a plan of p processors
 pub record Task (most p : ℕ) (t : TaskRow) : Type 0 where
@@ -48,18 +44,7 @@ pub record Task (most p : ℕ) (t : TaskRow) : Type 0 where
   pub period : t .execution ≤ t .period
 
 pub task-facts : (most p : ℕ) (t : TaskRow) → taskOk most p t ≡ true → Task most p t
-task-facts most p t h =
-    let e = and-parts _ _ h in
-    let d = and-parts _ _ (e .0) in
-    let c = and-parts _ _ (d .0) in
-    let b = and-parts _ _ (c .0) in
-    record {
-      processor = ltb-true _ _ (b .0);
-      tag = leb-true _ _ (b .1);
-      priority = leb-true _ _ (c .1);
-      execution = leb-true _ _ (d .1);
-      period = leb-true _ _ (e .1);
-    }
+task-facts most p t h = search facts
 
 pub task-at : (n most p i : ℕ) (tasks : List TaskRow) → tasksOk n most p tasks ≡ true → i < n → Task most p (taskOf tasks i)
 unfolding tasksOk
@@ -69,6 +54,41 @@ task-at n most p i tasks h l = task-facts most p (taskOf tasks i) (all-at n i (�
 pub tags-kept : (n most p : ℕ) (tasks : List TaskRow) → tasksOk n most p tasks ≡ true → tagsOk n most tasks ≡ true
 unfolding tagsOk
 tags-kept n most p tasks h = all-from n _ (λ i l. le-leb _ _ (task-at n most p i tasks h l .tag))
+
+-- tasks i and j have neither one tag, nor one priority on one processor
+pub record New (tasks : List TaskRow) (i j : ℕ) : Type 0 where
+  pub tag : taskOf tasks i .tag ≡ taskOf tasks j .tag → ⊥
+  pub priority : taskOf tasks i .processor ≡ taskOf tasks j .processor → taskOf tasks i .priority ≡ taskOf tasks j .priority → ⊥
+
+pub unique-facts : (n i j : ℕ) (tasks : List TaskRow) → uniqueOk n tasks ≡ true → i < n → j < i → New tasks i j
+unfolding uniqueOk tagNew priorityNew
+unique-facts n i j tasks h l m =
+    let row : ℕ → TaskRow = taskOf tasks in
+    let place : ℕ → Bool = λ k. eqb (row i .processor) (row k .processor) && eqb (row i .priority) (row k .priority) in
+    let both = all-at n i (λ k. tagNew tasks k && priorityNew tasks k) h l in
+    let tag = all-at i j (λ k. not (eqb (row i .tag) (row k .tag))) (test-rest (tagNew tasks i) _ both) m in
+    let priority = all-at i j (λ k. not (place k)) (test-last (tagNew tasks i) _ both) m in
+    record {
+      tag = eqb-false _ _ (not-true _ tag);
+      priority = λ p q. true≢false (sym (ap₂ _&&_ (eq-eqb _ _ p) (eq-eqb _ _ q)) ∙ not-true (place j) priority);
+    }
+
+-- what is unlike whatever came before it stands once
+pub once : (n : ℕ) (Like : ℕ → ℕ → Type 0) → ((i j : ℕ) → Like i j → Like j i) → ((i j : ℕ) → i < n → j < i → Like i j → ⊥)
+    → (i j : ℕ) → i < n → j < n → Like i j → i ≡ j
+once n Like turn new i j l m s =
+    let up : i ≤ j = ltb-false j i (is-not-true _ (λ b. new i j l (ltb-true j i b) s)) in
+    let down : j ≤ i = ltb-false i j (is-not-true _ (λ b. new j i m (ltb-true i j b) (turn i j s))) in
+    omega arith
+
+-- names that keep their rules
+pub record Names (r : ℕ) (lengths names : List ℕ) : Type 0 where
+  pub total : sumBelow r (lengthOf lengths) ≡ length names
+  pub ranges : lengthsOk r lengths ≡ true
+
+pub names-facts : (r : ℕ) (lengths names : List ℕ) → namesOk r lengths names ≡ true → Names r lengths names
+unfolding namesOk
+names-facts r lengths names h = search facts
 
 -- checks 5 to 9, all of which hold
 pub record Passed (t : Tests) : Type 0 where
@@ -103,29 +123,11 @@ pub record Section (n r : ℕ) (s : SectionRow) : Type 0 where
   pub high : s .length ≤ mostSectionTicks
 
 pub section-facts : (n r : ℕ) (s : SectionRow) → sectionOk n r s ≡ true → Section n r s
-section-facts n r s h =
-    let d = and-parts _ _ h in
-    let c = and-parts _ _ (d .0) in
-    let b = and-parts _ _ (c .0) in
-    record {
-      task = ltb-true _ _ (b .0);
-      resource = ltb-true _ _ (b .1);
-      low = leb-true _ _ (c .1);
-      high = leb-true _ _ (d .1);
-    }
+section-facts n r s h = search facts
 
 -- a processor and a priority below 256 as one number
 pub place-eqb : (p q a b : ℕ) → a < 256 → b < 256 → eqb (p * 256 + a) (q * 256 + b) ≡ (eqb p q && eqb a b)
-place-eqb p q a b la lb =
-    by-eq (λ (t : Bool). eqb (p * 256 + a) (q * 256 + b) ≡ (t && eqb a b)) p q
-    (λ e. by-eq (λ (t : Bool). eqb (p * 256 + a) (q * 256 + b) ≡ t) a b (λ f. eq-eqb (p * 256 + a) (q * 256 + b) (omega arith)) (λ d. ne-eqb (p * 256 + a) (q * 256 + b) (λ f. d (omega arith))))
-    (λ d. ne-eqb (p * 256 + a) (q * 256 + b) (λ f. d (omega arith)))
-
--- the names of the resources below i are passed, with this found of them; the next one starts at `at`
-pub record Walked (r : ℕ) (lengths : List ℕ) (at i : ℕ) (Found : Type 0) : Type 0 where
-  pub below : i ≤ r
-  pub start : at ≡ startOf lengths i
-  pub found : Found
+place-eqb p q a b la lb = cell-eqb 256 a b p q la lb ∙ and-comm (eqb a b) (eqb p q)
 
 -- a name length that keeps its rule
 pub record Length (l : ℕ) : Type 0 where
@@ -135,8 +137,7 @@ pub record Length (l : ℕ) : Type 0 where
 pub length-facts : (r i : ℕ) (lengths : List ℕ) → lengthsOk r lengths ≡ true → i < r → Length (lengthOf lengths i)
 unfolding lengthsOk
 length-facts r i lengths h l =
-    let a = and-parts (leb 1 (lengthOf lengths i)) (leb (lengthOf lengths i) mostNameBytes) (all-at r i _ h l) in
-    record { low = leb-true _ _ (a .0); high = leb-true _ _ (a .1) }
+    let a = all-at r i (λ k. leb 1 (lengthOf lengths k) && leb (lengthOf lengths k) mostNameBytes) h l in search facts
 
 -- the number of name i among those of r names
 pub digest-at : (r i : ℕ) (lengths names : List ℕ) → i < r → r ≤ mostResources → getD (digestsOf r lengths names) i 0 ≡ digestOf names (startOf lengths i) (lengthOf lengths i)
@@ -157,7 +158,13 @@ digest-same names a b len h e = go (ltb len 4) refl
         number-same 4 names (a + o) (b + o)
         (λ k m. ap (λ (n : ℕ). getD names n 0) (add-assoc a o k) ∙ same (o + k) (omega arith) ∙ sym (ap (λ (n : ℕ). getD names n 0) (add-assoc b o k)))
 
-    go : (t : Bool) → ltb len 4 ≡ t → cond t (getD names a 0 + 256 * getD names (a + len / 2) 0 + 65536 * getD names (a + (len - 1)) 0) (number 4 names a + 3 * number 4 names (a + (len - 4) / 2) + 5 * number 4 names (a + (len - 4))) ≡ cond t (getD names b 0 + 256 * getD names (b + len / 2) 0 + 65536 * getD names (b + (len - 1)) 0) (number 4 names b + 3 * number 4 names (b + (len - 4) / 2) + 5 * number 4 names (b + (len - 4)))
+    short : ℕ → ℕ
+    short at = getD names at 0 + 256 * getD names (at + len / 2) 0 + 65536 * getD names (at + (len - 1)) 0
+
+    long : ℕ → ℕ
+    long at = number 4 names at + 3 * number 4 names (at + (len - 4) / 2) + 5 * number 4 names (at + (len - 4))
+
+    go : (t : Bool) → ltb len 4 ≡ t → cond t (short a) (long a) ≡ cond t (short b) (long b)
     go true t = omega (arith, simp add-zero at (same 0 (omega arith)), same (len / 2) (omega arith), same (len - 1) (omega arith))
     go false t =
         let l : 4 ≤ len = ltb-false len 4 t in

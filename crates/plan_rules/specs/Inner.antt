@@ -1,6 +1,6 @@
 -- How the code tells names apart quickly, and what its private functions ask. No rule of document 01: equal names have equal numbers,
 -- and that is all that is used of them.
-use Prim.Native.Nat.{ℕ, _+_, _-_, _*_, _/_, _<_, _≤_}
+use Prim.Native.Nat.{ℕ, _+_, _-_, _*_, _/_, _^_, _<_, _≤_}
 use mathlib.Core.Bool.{Bool, true, cond, not}
 use mathlib.Core.List.{List}
 use mathlib.Core.Path.{_≡_}
@@ -29,6 +29,16 @@ numberNew l i = allBelow i (λ j. not (eqb (getD l i 0) (getD l j 0)))
 -- the first r numbers differ
 unfoldable pub numbersDiffer : ℕ → List ℕ → Bool
 numbersDiffer r l = allBelow r (numberNew l)
+
+-- r is the number that four bytes at `at` make
+pub record QuadRead (s : List ℕ) (at r : ℕ) : Type 0 where
+  pub read : r ≡ number 4 s at
+  pub small : r < 2 ^ 32
+
+-- t is the sum of r name lengths, each of which is a byte
+pub record LengthsAdded (r : ℕ) (lengths : List ℕ) (t : ℕ) : Type 0 where
+  pub sum : t ≡ sumBelow r (lengthOf lengths)
+  pub small : t ≤ mostResources * 255
 
 -- the name of resource i begins at `at`, behind those of the resources before it, and lies in the names' bytes
 pub record NameLies (lengths names : List ℕ) (i at : ℕ) : Type 0 where

@@ -4,10 +4,10 @@ ghost use mathlib.Core.Path.{_≡_};
 ghost use Prim.Native.Nat.{_+_, _≤_, _<_};
 ghost use lib.ListN.{length};
 ghost use Rattle.folds.specs.Below.{sumBelow};
-ghost use Rattle.folds.specs.Bytes.{number};
 ghost use Rattle.sizes.specs.Sizes.{mostResources};
 ghost use Rattle.plan_rules.specs.Rules.{lengthOf, lengthsOk, bytesOk, sameBytes, differ, namesDiffer, nameNew, namesOk};
-ghost use Rattle.plan_rules.specs.Inner.{digestOf, digestsOf, numberNew, numbersDiffer, NameLies, TwoNames, DigestLies, NamesFit};
+ghost use Rattle.plan_rules.specs.Inner.{digestOf, digestsOf, numberNew, numbersDiffer};
+ghost use Rattle.plan_rules.specs.Inner.{QuadRead, LengthsAdded, NameLies, TwoNames, DigestLies, NamesFit};
 
 // The range of a name's bytes.
 const FIRST_BYTE: u8 = 33;
@@ -17,7 +17,7 @@ const LAST_BYTE: u8 = 126;
 // The sum of the first r name lengths.
 fn total_length(lengths: [u8; sizes::RESOURCES], r: usize) -> usize
     requires { ⌜ r ≤ mostResources ⌝ }
-    ensures { λ t. ⌜ (t ≡ sumBelow r (lengthOf lengths)) × (t ≤ 4080) ⌝ }
+    ensures { λ t. ⌜ LengthsAdded r lengths t ⌝ }
 {
     let mut sum = 0;
     let mut i = 0;
@@ -110,7 +110,7 @@ fn name_is_new(lengths: [u8; sizes::RESOURCES], names: &[u8], i: usize, at: usiz
 // Four bytes as a number, low byte first.
 fn quad(s: &[u8], at: usize) -> u64
     requires { ⌜ at + 3 < length (now s) ⌝ }
-    ensures { λ r. ⌜ (r ≡ number 4 (now (s .entry)) at) × (r < 4294967296) ⌝ }
+    ensures { λ r. ⌜ QuadRead (now (s .entry)) at r ⌝ }
 {
     let low = folds::wide(s[at]) + 256 * folds::wide(s[at + 1]);
     let high = folds::wide(s[at + 2]) + 256 * folds::wide(s[at + 3]);

@@ -1,28 +1,39 @@
 -- What writing, reading back and copying come to, by the number of the refusal.
-use Rattle.folds.proofs.Ground.{ℕ, suc, _<_, _≤_, Bool, cond, _≡_, refl, sym, ap, _∙_, List, [], _∷_, _++_, leb, length, getD, take, drop, take-at, arith, eq-eqb, ne-eqb, le-leb, lt-leb, leb-true}
+use Rattle.folds.proofs.Ground.{ℕ, _-_, _<_, _≤_, _≡_, refl, sym, ap, _∙_, List, _++_, leb, length, getD, take, drop, take-at, sub-zero, arith, eq-eqb, ne-eqb, le-leb, lt-leb, leb-true}
 use Rattle.refusals.specs.Numbers.{noRoom}
-use Rattle.folds.proofs.Tests.{code-zero}
-use Rattle.folds.proofs.Arrays.{by-eq}
+use Rattle.folds.proofs.Tests.{code-zero, first-zero, then-zero}
 use Rattle.plan_rules.specs.declared.Counts.{Counts}
 use Rattle.plan_rules.specs.declared.Rows.{Rows}
 use Rattle.plan_layout.specs.Layout.{countsOf, rowsOf, namesOf, valuesCode}
 use Rattle.plan.specs.declared.Reading.{Reading}
 use Rattle.plan.specs.declared.ReadAnswer.the-variants.{Accepted}
 use Rattle.plan.specs.Acceptance.{refusal}
-use Rattle.plan.specs.Reading.{given, reading, refusedWith, countValues, readOutcome}
+use Rattle.plan.specs.Reading.{given, reading, refusedWith, readOutcome}
+use Rattle.plan.proofs.Laws.{by-code, told}
 use Rattle.plan_writing.specs.declared.WriteAnswer.{WriteAnswer}
 use Rattle.plan_writing.specs.declared.WriteAnswer.the-variants.{Written, Refused}
 use Rattle.plan_writing.specs.Encode.{fileLength, fileOf, writeCode, writing, written, writeOutcome, writingOutcome}
 use Rattle.plan_writing.specs.RoundTrip.{trimmed, readBack, readBackOutcome, copyCode, copying, copied, copyOutcome}
 use Rattle.plan_writing.proofs.RoundTrip.{file-holds, written-then-read, read-then-written}
 
-length-in : WriteAnswer → ℕ
-length-in (Written n) = n
-length-in (Refused k) = 0
+-- what it says of values that they are written
+pub record Clear (c : Counts) (rows : Rows) (names : List ℕ) (room : ℕ) : Type 0 where
+  pub values : valuesCode c rows names ≡ 0
+  pub fits : fileLength c names ≤ room
 
-number-in : WriteAnswer → ℕ
-number-in (Written n) = 0
-number-in (Refused k) = suc k
+-- and what the two answers say
+pub record WrittenAs (c : Counts) (rows : Rows) (names : List ℕ) (room n : ℕ) : Type 0 where
+  pub none : writeCode c rows names room ≡ 0
+  pub size : n ≡ fileLength c names
+
+pub record RefusedAs (c : Counts) (rows : Rows) (names : List ℕ) (room k : ℕ) : Type 0 where
+  pub code : writeCode c rows names room ≡ k
+  pub some : k ≡ 0 → ⊥
+
+-- what writing to a buffer comes to
+pub record Ended (c : Counts) (rows : Rows) (names l : List ℕ) (answer : WriteAnswer) (m : List ℕ) : Type 0 where
+  pub said : writing c rows names (length l) ≡ answer
+  pub buffer : written c rows names l ≡ m
 
 module _ (c : Counts) (rows : Rows) (names : List ℕ) where
   -- the number, by the test that fails
@@ -38,52 +49,49 @@ module _ (c : Counts) (rows : Rows) (names : List ℕ) where
   unfolding writeCode
   code-fits room e z l = rw (eq-eqb (valuesCode c rows names) 0 (sym e ∙ z), le-leb (fileLength c names) room l)
 
-  -- and back
-  pub code-clear : (room : ℕ) → writeCode c rows names room ≡ 0 → (valuesCode c rows names ≡ 0) × (fileLength c names ≤ room)
-  unfolding writeCode
-  code-clear room e =
-      by-eq (λ (b : Bool). cond b (cond (leb (fileLength c names) room) 0 noRoom) (valuesCode c rows names) ≡ 0 → (valuesCode c rows names ≡ 0) × (fileLength c names ≤ room)) (valuesCode c rows names) 0
-      (λ z h. (z, leb-true _ _ (code-zero (leb (fileLength c names) room) 0 9 h)))
-      (λ d h. absurd (d h))
-      e
-
   -- what the answer and the buffer then are
-  pub wrote : (l : List ℕ) → writeCode c rows names (length l) ≡ 0 → (writing c rows names (length l) ≡ Written (fileLength c names)) × (written c rows names l ≡ fileOf c rows names ++ drop (fileLength c names) l)
+  pub wrote : (l : List ℕ) → writeCode c rows names (length l) ≡ 0
+      → Ended c rows names l (Written (fileLength c names)) (fileOf c rows names ++ drop (fileLength c names) l)
   unfolding writing written
-  wrote l e = (rw (eq-eqb _ _ e), rw (eq-eqb _ _ e))
+  wrote l e = record { said = rw (eq-eqb _ _ e); buffer = rw (eq-eqb _ _ e) }
 
-  pub kept-back : {k : ℕ} (l : List ℕ) → writeCode c rows names (length l) ≡ k → (k ≡ 0 → ⊥) → (writing c rows names (length l) ≡ Refused k) × (written c rows names l ≡ l)
+  pub kept-back : {k : ℕ} (l : List ℕ) → writeCode c rows names (length l) ≡ k → (k ≡ 0 → ⊥) → Ended c rows names l (Refused k) l
   unfolding writing written
-  kept-back l e d = (rw (e, ne-eqb _ _ d), rw (e, ne-eqb _ _ d))
+  kept-back l e d = record { said = rw (e, ne-eqb _ _ d); buffer = rw (e, ne-eqb _ _ d) }
 
   pub writing-told : (room : ℕ) → writeOutcome (writing c rows names room) ≡ writingOutcome c rows names room
   unfolding writing
-  writing-told room =
-      by-eq
-      (λ (b : Bool). writeOutcome (cond b (Written (fileLength c names)) (Refused (writeCode c rows names room))) ≡ record { number = writeCode c rows names room; values = cond b (fileLength c names ∷ []) [] })
-      (writeCode c rows names room) 0 (λ z. rw z) (λ d. refl)
+  writing-told room = told writeOutcome _ _ (writeCode c rows names room) _ refl refl
 
-  -- what an answer tells of the number
-  pub was-written : {n : ℕ} (room : ℕ) → writing c rows names room ≡ Written n → (writeCode c rows names room ≡ 0) × (n ≡ fileLength c names)
-  unfolding writing length-in number-in
+  -- an answer and a buffer that it comes to are those that are ensured
+  pub ended-so : {l m m′ : List ℕ} {r r′ : WriteAnswer} → Ended c rows names l r m → r′ ≡ r → m′ ≡ m
+      → (r′ ≡ writing c rows names (length l)) × ((m′ ≡ written c rows names l) × (writeOutcome r′ ≡ writingOutcome c rows names (length l)))
+  ended-so {l} o p q =
+      let e = p ∙ sym (o .said) in (e, (q ∙ sym (o .buffer), ap writeOutcome e ∙ writing-told (length l)))
+
+  -- and back: what no refusal says, and what an answer tells of the number
+  pub code-clear : (room : ℕ) → writeCode c rows names room ≡ 0 → Clear c rows names room
+  unfolding writeCode
+  code-clear room e =
+      record {
+        values = first-zero (valuesCode c rows names) _ e;
+        fits = leb-true _ _ (code-zero (leb (fileLength c names) room) 0 9 (then-zero (valuesCode c rows names) _ e));
+      }
+
+  pub was-written : {n : ℕ} (room : ℕ) → writing c rows names room ≡ Written n → WrittenAs c rows names room n
+  unfolding writing
   was-written {n} room a =
-      by-eq (λ (b : Bool). cond b (Written (fileLength c names)) (Refused (writeCode c rows names room)) ≡ Written n → (writeCode c rows names room ≡ 0) × (n ≡ fileLength c names)) (writeCode c rows names room) 0
-      (λ z h. (z, sym (ap length-in h)))
-      (λ d h. let bad : suc (writeCode c rows names room) ≡ 0 = ap number-in h in let off : ⊥ = omega arith in absurd off)
-      a
+      by-code (λ (r : WriteAnswer). r) _ _ (writeCode c rows names room) _ a (λ z h. record { none = z; size = cc })
+      (λ d h. let bad : _≡_ {A = ℕ} 0 1 = cc in let off : ⊥ = omega arith in absurd off)
 
-  pub was-refused : {k : ℕ} (room : ℕ) → writing c rows names room ≡ Refused k → (writeCode c rows names room ≡ k) × (k ≡ 0 → ⊥)
-  unfolding writing number-in
+  pub was-refused : {k : ℕ} (room : ℕ) → writing c rows names room ≡ Refused k → RefusedAs c rows names room k
+  unfolding writing
   was-refused {k} room a =
-      by-eq (λ (b : Bool). cond b (Written (fileLength c names)) (Refused (writeCode c rows names room)) ≡ Refused k → (writeCode c rows names room ≡ k) × (k ≡ 0 → ⊥)) (writeCode c rows names room) 0
-      (λ z h. let bad : 0 ≡ suc k = ap number-in h in let off : ⊥ = omega arith in absurd off)
-      (λ d h. let e : suc (writeCode c rows names room) ≡ suc k = ap number-in h in (omega arith, λ z. d (omega arith)))
-      a
+      by-code (λ (r : WriteAnswer). r) _ _ (writeCode c rows names room) _ a
+      (λ z h. let bad : _≡_ {A = ℕ} 0 1 = cc in let off : ⊥ = omega arith in absurd off)
+      (λ d h. let same : writeCode c rows names room ≡ k = cc in record { code = same; some = λ z. d (same ∙ z) })
 
-  -- the front of the buffer is the file, and reading it gives the same plan
-  pub file-front : (l : List ℕ) → take (fileLength c names) (fileOf c rows names ++ drop (fileLength c names) l) ≡ fileOf c rows names
-  file-front l = take-at (fileOf c rows names) (drop (fileLength c names) l) (fileLength c names) (file-holds c rows names .size)
-
+  -- reading the file gives the same plan
   read-same : valuesCode c rows names ≡ 0 → reading (fileOf c rows names) ≡ record { answer = Accepted c; rows = trimmed c rows }
   unfolding given
   read-same e =
@@ -94,10 +102,14 @@ module _ (c : Counts) (rows : Rows) (names : List ℕ) where
   unfolding readBack
   back-written room e = rw (eq-eqb _ _ e)
 
-  -- a part that is read back, and is that file
-  pub back-same : {r : Reading} (room : ℕ) (part : List ℕ) → r ≡ reading part → part ≡ fileOf c rows names → writeCode c rows names room ≡ 0 → r ≡ readBack c rows names room
-  back-same room part h e k =
-      h ∙ ap reading e ∙ read-same (code-clear room k .0) ∙ sym (back-written room k)
+  -- the front of the buffer is the file, and is read back
+  pub back-same : {r : Reading} {n : ℕ} {m : List ℕ} (l : List ℕ)
+      → WrittenAs c rows names (length l) n → m ≡ written c rows names l → r ≡ reading (take (n - 0) m) → r ≡ readBack c rows names (length l)
+  back-same {r} {n} {m} l k e h =
+      let behind : List ℕ = drop (fileLength c names) l in
+      let whole = take-at (fileOf c rows names) behind (fileLength c names) (file-holds c rows names .size) in
+      let front : take (n - 0) m ≡ fileOf c rows names = rw (sub-zero, k .size, e, wrote l (k .none) .buffer) whole in
+      h ∙ ap reading front ∙ read-same (code-clear (length l) (k .none) .values) ∙ sym (back-written (length l) (k .none))
 
   pub back-refused : {k : ℕ} (room : ℕ) → writeCode c rows names room ≡ k → (k ≡ 0 → ⊥) → readBack c rows names room ≡ refusedWith k
   unfolding readBack
@@ -105,16 +117,29 @@ module _ (c : Counts) (rows : Rows) (names : List ℕ) where
 
   pub back-told : (room : ℕ) → readOutcome (readBack c rows names room .answer) ≡ readBackOutcome c rows names room
   unfolding readBack
-  back-told room =
-      by-eq
-      (λ (b : Bool). readOutcome ((cond b (record { answer = Accepted c; rows = trimmed c rows }) (refusedWith (writeCode c rows names room))) .answer) ≡ record { number = writeCode c rows names room; values = cond b (countValues c) [] })
-      (writeCode c rows names room) 0 (λ z. rw z) (λ d. refl)
+  back-told room = told (λ (r : Reading). readOutcome (r .answer)) _ _ (writeCode c rows names room) _ refl refl
+
+  -- an answer and a buffer that are those of reading back are what is ensured
+  pub back-so : {r : Reading} {m : List ℕ} (l : List ℕ) → r ≡ readBack c rows names (length l) → m ≡ written c rows names l
+      → (r ≡ readBack c rows names (length l)) × ((m ≡ written c rows names l) × (readOutcome (r .answer) ≡ readBackOutcome c rows names (length l)))
+  back-so l p q = (p, (q, ap (λ (r : Reading). readOutcome (r .answer)) p ∙ back-told (length l)))
+
+-- what is ensured of a copy
+abbrev Copy : List ℕ → List ℕ → WriteAnswer → List ℕ → Type 0
+Copy f l r m = (r ≡ copying f (length l)) × ((m ≡ copied f l) × (writeOutcome r ≡ copyOutcome f (length l)))
 
 -- copying a file that is refused, and one that is read
 module _ (f : List ℕ) where
-  pub copy-refused : {k : ℕ} (l : List ℕ) → refusal f ≡ k → (k ≡ 0 → ⊥) → (copying f (length l) ≡ Refused k) × (copied f l ≡ l)
+  copy-told : (room : ℕ) → writeOutcome (copying f room) ≡ copyOutcome f room
+  unfolding copying
+  copy-told room = told writeOutcome _ _ (copyCode f room) _ refl refl
+
+  copy-ended : {r : WriteAnswer} {m : List ℕ} (l : List ℕ) → r ≡ copying f (length l) → m ≡ copied f l → Copy f l r m
+  copy-ended l p q = (p, (q, ap writeOutcome p ∙ copy-told (length l)))
+
+  pub copy-refused : {k : ℕ} (l : List ℕ) → refusal f ≡ k → (k ≡ 0 → ⊥) → Copy f l (Refused k) l
   unfolding copying copied copyCode
-  copy-refused l e d = (simp (e, ne-eqb _ _ d), simp (e, ne-eqb _ _ d))
+  copy-refused l e d = copy-ended l (simp (e, ne-eqb _ _ d)) (simp (e, ne-eqb _ _ d))
 
   copy-length : ((i : ℕ) → getD f i 0 < 256) → refusal f ≡ 0 → fileLength (countsOf f) (namesOf f) ≡ length f
   copy-length b e =
@@ -125,20 +150,9 @@ module _ (f : List ℕ) where
   copy-code room b e = rw (eq-eqb _ _ (read-then-written f b e .accepted), eq-eqb _ _ e, copy-length b e)
 
   -- writing counts, rows and names that are those of the file
-  module _ (b : (i : ℕ) → getD f i 0 < 256) (e : refusal f ≡ 0) where
-    pub copy-buffer : {now : List ℕ} (c : Counts) (rows : Rows) (names l : List ℕ) → now ≡ written c rows names l → c ≡ countsOf f → rows ≡ rowsOf f → names ≡ namesOf f → now ≡ copied f l
-    unfolding written copied
-    copy-buffer c rows names l h counted rowed named =
-        h ∙ rw (counted, rowed, named, copy-code (length l) b e, copy-length b e, read-then-written f b e .file)
-
-    pub copy-answer : {r : WriteAnswer} (c : Counts) (rows : Rows) (names : List ℕ) (room : ℕ) → r ≡ writing c rows names room → c ≡ countsOf f → rows ≡ rowsOf f → names ≡ namesOf f → r ≡ copying f room
-    unfolding writing copying
-    copy-answer c rows names room h counted rowed named =
-        h ∙ rw (counted, rowed, named, copy-code room b e, copy-length b e)
-
-  pub copy-told : (room : ℕ) → writeOutcome (copying f room) ≡ copyOutcome f room
-  unfolding copying
-  copy-told room =
-      by-eq
-      (λ (b : Bool). writeOutcome (cond b (Written (length f)) (Refused (copyCode f room))) ≡ record { number = copyCode f room; values = cond b (length f ∷ []) [] })
-      (copyCode f room) 0 (λ z. rw z) (λ d. refl)
+  pub copy-so : ((i : ℕ) → getD f i 0 < 256) → refusal f ≡ 0 → {r : WriteAnswer} {m : List ℕ} (c : Counts) (rows : Rows) (names l : List ℕ)
+      → c ≡ countsOf f → rows ≡ rowsOf f → names ≡ namesOf f → r ≡ writing c rows names (length l) → m ≡ written c rows names l → Copy f l r m
+  unfolding writing written copying copied
+  copy-so b e c rows names l counted rowed named p q =
+      copy-ended l (p ∙ rw (counted, rowed, named, copy-code (length l) b e, copy-length b e))
+      (q ∙ rw (counted, rowed, named, copy-code (length l) b e, copy-length b e, read-then-written f b e .file))

@@ -1,18 +1,17 @@
 -- Laws of the writer: what stands at the front of a buffer after each part that is put, and the lengths of the parts.
-use Rattle.folds.proofs.Ground.{ℕ, _+_, _-_, _*_, _<_, _≤_, true, _≡_, ap, _∙_, List, _++_, leb, eqb, length, take, drop, length-append, arith, eqb-true, leb-true}
+use Rattle.folds.proofs.Ground.{ℕ, _+_, _-_, _*_, _<_, _≤_, true, _≡_, refl, ap, _∙_, List, _++_, leb, length, take, drop, length-append, zero-mul, arith, leb-true}
 use Rattle.sizes.specs.Sizes.{mostResources, mostNameBytes}
-use Rattle.folds.specs.Below.{sumBelow}
 use Rattle.folds.specs.Bytes.{bytesBelow}
-use Rattle.folds.proofs.Tests.{and-parts, all-at}
+use Rattle.folds.proofs.Tests.{all-at}
 use Rattle.folds.proofs.Figures.{sum-bound}
 use Rattle.folds.proofs.Parts.{put-part, put-length, bytes-length, bytes-step}
 use Rattle.folds.proofs.RowLaws.{row-length}
-use Rattle.plan_rules.specs.Rules.{taskOf, sectionOf, lengthOf, startOf, tagsOk, lengthsOk, namesOk}
+use Rattle.plan_rules.specs.Rules.{taskOf, sectionOf, lengthOf, startOf, tagsOk, namesOk}
 use Rattle.plan_rules.specs.declared.TaskRow.{TaskRow}
 use Rattle.plan_rules.specs.declared.SectionRow.{SectionRow}
 use Rattle.plan_rules.specs.declared.Counts.{Counts}
 use Rattle.plan_rules.specs.declared.Rows.{Rows}
-use Rattle.plan_rules.proofs.Laws.{InRange, counts-facts, length-facts}
+use Rattle.plan_rules.proofs.Laws.{InRange, counts-facts, length-facts, names-facts}
 use Rattle.plan_layout.specs.Editions.{edition1, formatOf}
 use Rattle.plan_layout.specs.Layout.{laid, resourceNumbers, sectionNumbers, valuesCode}
 use Rattle.plan_layout.specs.Inner.{taskWidth, resourceWidth, sectionWidth}
@@ -37,13 +36,24 @@ part-more {a} {l} {m} {y} {o} x k p f q s e h =
 pub rows-part : {a l m y : List ℕ} {o : ℕ} (w : ℕ) (f : ℕ → List ℕ) → ((k : ℕ) → length (f k) ≡ w) → (n p : ℕ) → Front a o l m → y ≡ bytesBelow n f ++ drop (n * w) (take (length m - o) (drop o m)) → o + n * w ≡ p → p ≤ length l → Front (a ++ bytesBelow n f) p l (take o m ++ (y ++ drop (length m - o) (drop o m)))
 rows-part w f each n p g q e h = part-more (bytesBelow n f) (n * w) p g q (bytes-length w f each n) e h
 
--- and x was row n of rows of w bytes
-pub rows-more : (w : ℕ) (f : ℕ → List ℕ) → ((k : ℕ) → length (f k) ≡ w) → (n : ℕ) {l m y : List ℕ} → Front (bytesBelow n f) (n * w) l m → y ≡ f n ++ drop w (take (length m - n * w) (drop (n * w) m)) → (n + 1) * w ≤ length l → Front (bytesBelow (n + 1) f) ((n + 1) * w) l (take (n * w) m ++ (y ++ drop (length m - n * w) (drop (n * w) m)))
-rows-more w f each n {l} {m} {y} p q h = put-front (bytes-step w f each n l m y (p .bytes) q) (bytes-length w f each (n + 1)) h
+-- i of n rows of w bytes are put at the front
+pub record Rowed (n w : ℕ) (f : ℕ → List ℕ) (l m : List ℕ) (i : ℕ) : Type 0 where
+  pub below : i ≤ n
+  pub front : Front (bytesBelow i f) (i * w) l m
 
--- all rows
-pub rows-all : (w : ℕ) (f : ℕ → List ℕ) (n i : ℕ) {l m : List ℕ} → i ≡ n → Front (bytesBelow i f) (i * w) l m → m ≡ bytesBelow n f ++ drop (n * w) l
-rows-all w f n i e p = rw (← e) (p .bytes)
+module _ {n w : ℕ} {f : ℕ → List ℕ} {l : List ℕ} where
+  pub rows-none : Rowed n w f l l 0
+  unfolding bytesBelow
+  rows-none = record { below = omega arith; front = rw zero-mul (put-front refl refl (omega arith)) }
+
+  -- a call was lent the rest, and put row i at the front of it
+  pub rows-more : {m y : List ℕ} {i : ℕ} → ((k : ℕ) → length (f k) ≡ w) → Rowed n w f l m i → y ≡ f i ++ drop w (take (length m - i * w) (drop (i * w) m))
+      → i < n → (i + 1) * w ≤ length l → Rowed n w f l (take (i * w) m ++ (y ++ drop (length m - i * w) (drop (i * w) m))) (i + 1)
+  rows-more {m} {y} {i} each p q h room =
+      record { below = omega arith; front = put-front (bytes-step w f each i l m y (p .front .bytes) q) (bytes-length w f each (i + 1)) room }
+
+  pub rows-all : {m : List ℕ} {i : ℕ} → Rowed n w f l m i → n ≤ i → m ≡ bytesBelow n f ++ drop (n * w) l
+  rows-all {m} {i} p h = let e : i ≡ n = omega arith in rw (← e) (p .front .bytes)
 
 -- how long the rows are
 pub task-length : (tasks : List TaskRow) (i : ℕ) → length (taskBytes edition1 tasks i) ≡ taskWidth
@@ -72,11 +82,9 @@ tag-at n most i tasks h l = leb-true _ _ (all-at n i (λ k. leb (taskOf tasks k 
 
 -- how much the names are
 names-length : (r : ℕ) (lengths names : List ℕ) → namesOk r lengths names ≡ true → length names ≤ r * mostNameBytes
-unfolding namesOk
 names-length r lengths names e =
-    let a = and-parts (eqb (sumBelow r (lengthOf lengths)) (length names)) _ e in
-    let b = and-parts (lengthsOk r lengths) _ (a .1) in
-    omega (arith, eqb-true (sumBelow r (lengthOf lengths)) (length names) (a .0), sum-bound r mostNameBytes (lengthOf lengths) (λ k l. length-facts r k lengths (b .0) l .high))
+    let n = names-facts r lengths names e in
+    omega (arith, sum-bound r mostNameBytes (lengthOf lengths) (λ k l. length-facts r k lengths (n .ranges) l .high))
 
 -- values that keep every rule, and how much they are
 pub record Sized (c : Counts) (rows : Rows) (names : List ℕ) : Type 0 where

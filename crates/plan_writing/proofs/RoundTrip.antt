@@ -1,19 +1,17 @@
 -- Demand 2: a file and the values that it holds. Both round trips go by what the file has at each place.
-use Rattle.folds.proofs.Ground.{ℕ, _+_, _<_, true, _≡_, refl, sym, ap, ap₂, subst, _∙_, List, _++_, append-assoc, eqb, length, getD, take, drop, replicate, length-append, length-drop, take-append-drop, drop-at, drop-drop, arith, lt-ltb, le-ltb, le-leb, eq-eqb, eqb-true}
+use Rattle.folds.proofs.Ground.{ℕ, _+_, _<_, _≡_, refl, sym, ap, ap₂, subst, _∙_, List, _++_, append-assoc, length, getD, take, drop, replicate, length-append, length-drop, take-append-drop, drop-at, drop-drop, arith, lt-ltb, le-ltb, le-leb, eq-eqb}
 use Rattle.sizes.specs.Sizes.{mostTasks, mostResources, mostSections}
-use Rattle.folds.specs.Below.{sumBelow}
 use Rattle.folds.specs.Bytes.{rowAt, rowBytes}
-use Rattle.folds.proofs.Tests.{all-at, and-parts}
 use Rattle.folds.proofs.Arrays.{placed-same}
 use Rattle.folds.proofs.RowLaws.{Bytes, solid, fields-back, fields-forth}
-use Rattle.plan_rules.specs.Rules.{noTask, noSection, lengthOf, startOf, taskOk, namesOk}
+use Rattle.plan_rules.specs.Rules.{noTask, noSection, lengthOf, startOf, namesOk}
 use Rattle.plan_rules.specs.declared.Counts.{Counts}
 use Rattle.plan_rules.specs.declared.Rows.{Rows}
 use Rattle.plan_rules.proofs.Laws.{InRange, counts-facts}
 use Rattle.plan_layout.specs.Editions.{Edition, Format, formatOf}
-use Rattle.plan_layout.specs.Layout.{laid, editionIn, headerIn, countsIn, countsOf, lengthSaid, tasksAt, resourcesAt, sectionsAt, namesAt, offsetsOk, headerNumbers, sectionNumbers, resourceNumbers, taskAt, taskSpare, startAt, lengthAt, resourceSpare, sectionAt, taskRows, lengthRows, sectionRows, taskRowsOk, lengthRowsOk, partsCode, rowsOf, namesOf}
+use Rattle.plan_layout.specs.Layout.{laid, editionIn, headerIn, countsIn, countsOf, lengthSaid, tasksAt, resourcesAt, sectionsAt, namesAt, offsetsOk, headerNumbers, sectionNumbers, resourceNumbers, taskAt, taskSpare, startAt, lengthAt, resourceSpare, sectionAt, taskRows, lengthRows, sectionRows, partsCode, rowsOf, namesOf}
 use Rattle.plan_layout.proofs.Editions.{faithful}
-use Rattle.plan_layout.proofs.Laws.{header-parts, task-read, length-read, section-read, start-read, tasks-kept, sections-kept}
+use Rattle.plan_layout.proofs.Laws.{header-parts, task-read, length-read, section-read, start-read, task-kept, resource-kept, tasks-kept, sections-kept}
 use Rattle.plan_reading.specs.Checks.{countsCode, headerCode, checkCode}
 use Rattle.plan_reading.specs.Plan.{namePart}
 use Rattle.plan_reading.proofs.Laws.{Header, Whole, whole-facts}
@@ -157,7 +155,6 @@ module _ (e : Edition) (part : List ℕ) (i : ℕ) where
 
 -- a file that passes every check holds the values that are read from it
 read-holds : (f : List ℕ) → Whole f → Holds f (countsOf f) (rowsOf f) (namesOf f)
-unfolding taskRowsOk lengthRowsOk
 read-holds f w =
     let h : Header f = w .header in
     let c : Counts = countsOf f in
@@ -167,16 +164,17 @@ read-holds f w =
     let resources : List ℕ = drop (resourcesAt c) f in
     let sections : List ℕ = drop (sectionsAt c) f in
     let size : length f ≡ fileLength c (namesOf f) = omega (arith, length-drop (namesAt c) f, h .ends) in
-    let spare : (i : ℕ) → i < c .tasks → taskSpare e tasks i ≡ 0 = λ i l. eqb-true _ _ (and-parts (taskOk (formatOf e .mostTag) (c .processors) (taskAt e tasks i)) _ (all-at (c .tasks) i _ (w .tasks) l) .1) in
-    let start : (i : ℕ) → i < c .resources → (eqb (startAt e resources i) (sumBelow i (lengthAt e resources)) ≡ true) × (eqb (resourceSpare e resources i) 0 ≡ true) = λ i l. and-parts (eqb (startAt e resources i) (sumBelow i (lengthAt e resources))) _ (all-at (c .resources) i _ (w .starts) l) in
     record {
       size = size;
       header = header-parts f ∙ rw (h .tasks-at, h .resources-at, h .sections-at, h .names-at, h .whole, size);
       stand = record {
-        task = λ i l. task-row e tasks i (spare i l) ∙ ap (formatOf e .taskNumbers) (sym (task-read e (c .tasks) tasks i l (g .tasks)));
+        task = λ i l.
+            task-row e tasks i (task-kept e (c .tasks) tasks (c .processors) i (w .tasks) l .spare)
+            ∙ ap (formatOf e .taskNumbers) (sym (task-read e (c .tasks) tasks i l (g .tasks)));
         resource = λ i l.
-            resource-row e resources i (eqb-true _ _ (start i l .1))
-            ∙ ap₂ resourceNumbers (eqb-true _ _ (start i l .0) ∙ sym (start-read e (c .resources) resources i (omega arith) (g .resources))) (sym (length-read e (c .resources) resources i l (g .resources)));
+            let row = resource-kept e (c .resources) resources i (w .starts) l in
+            resource-row e resources i (row .spare)
+            ∙ ap₂ resourceNumbers (row .start ∙ sym (start-read e (c .resources) resources i (omega arith) (g .resources))) (sym (length-read e (c .resources) resources i l (g .resources)));
         section = λ i l. section-row e sections i ∙ ap sectionNumbers (sym (section-read e (c .sections) sections i l (g .sections)));
       };
       rest = refl;

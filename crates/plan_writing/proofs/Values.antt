@@ -4,14 +4,13 @@ use Rattle.folds.specs.Bytes.{bytesBelow}
 use Rattle.folds.proofs.Tests.{all-from, all-same, is-not-true}
 use Rattle.folds.proofs.Figures.{sum-same}
 use Rattle.folds.proofs.RowLaws.{row-length}
-use Rattle.refusals.specs.Numbers.{wrongEdition, wrongCount, wrongTask}
 use Rattle.plan_rules.specs.Rules.{taskOf, sectionOf, lengthOf, startOf, countsOk, taskOk, sectionOk, tasksOk, tagsOk, uniqueOk, namesOk, sectionsOk, sumsOk, testsCode}
 use Rattle.plan_rules.specs.declared.TaskRow.{TaskRow}
 use Rattle.plan_rules.specs.declared.Counts.{Counts}
 use Rattle.plan_rules.specs.declared.Rows.{Rows}
 use Rattle.plan_rules.proofs.Laws.{InRange, counts-facts, tags-kept}
-use Rattle.plan_layout.specs.Editions.{Edition, formatOf, known}
-use Rattle.plan_layout.specs.Layout.{laid, tasksAt, resourcesAt, sectionsAt, namesAt, headerNumbers, sectionIn, sectionNumbers, resourceNumbers, taskAt, taskSpare, startAt, lengthAt, resourceSpare, sectionAt, taskRows, lengthRows, sectionRows, taskRowsOk, lengthRowsOk, sectionRowsOk, partsCode, fileCode, valuesTests, valuesCode}
+use Rattle.plan_layout.specs.Editions.{Edition, formatOf}
+use Rattle.plan_layout.specs.Layout.{laid, tasksAt, resourcesAt, sectionsAt, namesAt, headerNumbers, sectionIn, sectionNumbers, resourceNumbers, taskAt, taskSpare, startAt, lengthAt, resourceSpare, sectionAt, taskRows, lengthRows, sectionRows, taskRowsOk, lengthRowsOk, sectionRowsOk, partsCode, fileCode, valuesTests}
 use Rattle.plan_layout.proofs.Editions.{faithful}
 use Rattle.plan_layout.proofs.Laws.{task-read, length-read, section-read}
 use Rattle.plan_writing.specs.Encode.{headerBytes, taskBytes, resourceBytes, sectionBytes, fileLength, fileOf}
@@ -158,21 +157,3 @@ parts-values c rows names x {f} ok e =
 -- a tag that a row has no room for breaks 5
 pub tags-fail : (n most p : ℕ) (tasks : List TaskRow) → tagsOk n most tasks ≡ false → tasksOk n most p tasks ≡ false
 tags-fail n most p tasks e = is-not-true _ (λ k. true≢false (sym (tags-kept n most p tasks k) ∙ e))
-
-module _ (c : Counts) (rows : Rows) (names : List ℕ) where
-  pub values-edition : known (c .edition) ≡ false → valuesCode c rows names ≡ wrongEdition
-  unfolding valuesCode
-  values-edition e = rw e
-
-  module _ (edition : known (c .edition) ≡ true) where
-    pub values-counts : countsOk c ≡ false → valuesCode c rows names ≡ wrongCount
-    unfolding valuesCode
-    values-counts e = rw (edition, e)
-
-    pub values-tags : countsOk c ≡ true → tagsOk (c .tasks) (formatOf (laid c) .mostTag) (rows .tasks) ≡ false → valuesCode c rows names ≡ wrongTask
-    unfolding valuesCode
-    values-tags ok e = rw (edition, ok, tags-fail (c .tasks) (formatOf (laid c) .mostTag) (c .processors) (rows .tasks) e)
-
-    pub values-rows : countsOk c ≡ true → valuesCode c rows names ≡ testsCode (valuesTests c rows names)
-    unfolding valuesCode
-    values-rows ok = rw (edition, ok)

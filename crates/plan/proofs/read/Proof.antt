@@ -13,6 +13,11 @@ returns c =
     let e = c .refused .ensures ∙ sym (read-refused _ (c .before .before .check .ensures) (c .before .if1 .taken)) in
     (e, ap (λ (r : Reading). readOutcome (r .answer)) e ∙ given-told _)
 
+load-requires : tie.Need-load-requires
+load-requires c κs =
+    let i = c .before in
+    record { none = header-clear _ (none-failed _ (sym (i .before .check .ensures) ∙ i .if1 .left)); counts = c .counts-at .ensures }
+
 returns-2 : tie.Need-returns-2
 returns-2 c =
     let a = c .before .before .before in
@@ -26,5 +31,4 @@ read-spec =
     (tie.spec
     (λ c κs. search needs) (λ c κs. search needs) returns
     (λ c κs. whole-facts _ (none-failed _ (sym (c .before .check .ensures) ∙ c .if1 .left)) .header .long)
-    (λ c κs. (header-clear _ (none-failed _ (sym (c .before .before .check .ensures) ∙ c .before .if1 .left)), c .counts-at .ensures))
-    returns-2)
+    load-requires returns-2)

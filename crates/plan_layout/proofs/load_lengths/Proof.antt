@@ -45,7 +45,7 @@ returns : tie.Need-returns Inv-loop μ-loop
 unfolding lengthRowsOk lengthRows
 returns c =
     let l = c .before .loop in
-    (all-done _ (l .i) _ (omega arith) (l .inv .ok), placed-done _ (l .i) _ _ (omega arith) (l .inv .lengths))
+    record { ok = all-done _ (l .i) _ (omega arith) (l .inv .ok); lengths = placed-done _ (l .i) _ _ (omega arith) (l .inv .lengths) }
 
 pub load-lengths-spec : {M : Type 1} → statement M
 load-lengths-spec =

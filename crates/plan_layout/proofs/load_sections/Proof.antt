@@ -1,33 +1,27 @@
 -- The invariant: the rows passed are loaded.
-use Rattle.folds.proofs.Ground.{_≤_, _-_, _≡_, arith, needs}
-use Rattle.folds.specs.Bytes.{placedBelow}
-use Rattle.folds.proofs.Arrays.{placed-step, placed-done}
+use Rattle.folds.proofs.Ground.{_-_, replicate, arith, needs}
+use Rattle.sizes.specs.Sizes.{mostSections}
+use Rattle.plan_rules.specs.Rules.{noSection}
+use Rattle.plan_rules.proofs.Loops.{Placed, placed-none, placed-one, placed-all}
 use Rattle.plan_layout.specs.Editions.{edition1}
-use Rattle.plan_layout.specs.Layout.{sectionRows}
+use Rattle.plan_layout.specs.Layout.{sectionAt, sectionRows}
 use Rattle.plan_layout.proofs.load_sections.Statement.{statement}
 use Rattle.plan_layout.proofs.load_sections.Tie as tie
 
 abbrev Inv-loop : tie.InvT-loop
-Inv-loop part s rows₀ i₀ rows i = (i ≤ s) × (rows ≡ sectionRows edition1 i part)
+Inv-loop part s rows₀ i₀ rows i = Placed s (sectionAt edition1 part) (replicate mostSections noSection) rows i
 
 abbrev μ-loop : tie.MeasureT-loop
 μ-loop part s rows₀ i₀ rows i = s - i
 
-loop-holds : tie.Need-loop-holds Inv-loop μ-loop
-unfolding sectionRows placedBelow
-loop-holds c = (omega arith, rw (c .no-section .ensures))
-
-loop-again : tie.Need-loop-again Inv-loop μ-loop
-unfolding sectionRows
-loop-again c = (omega arith, placed-step _ _ _ (c .before .before .loop .inv .1) (c .section-at .ensures))
-
 returns : tie.Need-returns Inv-loop μ-loop
 unfolding sectionRows
-returns c = placed-done _ (c .before .loop .i) _ _ (omega arith) (c .before .loop .inv .1)
+returns c = placed-all (c .before .loop .inv) (omega arith)
 
 pub load-sections-spec : {M : Type 1} → statement M
 load-sections-spec =
     tie.close
     (tie.spec
-    Inv-loop μ-loop (λ c κs. search needs) loop-holds (λ c κs. omega arith) (λ c. omega arith) (λ c. omega arith)
-    (λ c. omega arith) (λ c. omega arith) loop-again returns)
+    Inv-loop μ-loop (λ c κs. search needs) (λ c. rw (c .no-section .ensures) placed-none) (λ c κs. omega arith) (λ c. omega arith)
+    (λ c. omega arith) (λ c. omega arith) (λ c. omega arith)
+    (λ c. placed-one (c .before .before .loop .inv) (omega arith) (c .section-at .ensures)) returns)

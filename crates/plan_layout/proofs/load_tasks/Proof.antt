@@ -1,33 +1,27 @@
 -- The invariant: the rows passed are loaded.
-use Rattle.folds.proofs.Ground.{_≤_, _-_, _≡_, arith, needs}
-use Rattle.folds.specs.Bytes.{placedBelow}
-use Rattle.folds.proofs.Arrays.{placed-step, placed-done}
+use Rattle.folds.proofs.Ground.{_-_, replicate, arith, needs}
+use Rattle.sizes.specs.Sizes.{mostTasks}
+use Rattle.plan_rules.specs.Rules.{noTask}
+use Rattle.plan_rules.proofs.Loops.{Placed, placed-none, placed-one, placed-all}
 use Rattle.plan_layout.specs.Editions.{edition1}
-use Rattle.plan_layout.specs.Layout.{taskRows}
+use Rattle.plan_layout.specs.Layout.{taskAt, taskRows}
 use Rattle.plan_layout.proofs.load_tasks.Statement.{statement}
 use Rattle.plan_layout.proofs.load_tasks.Tie as tie
 
 abbrev Inv-loop : tie.InvT-loop
-Inv-loop part n rows₀ i₀ rows i = (i ≤ n) × (rows ≡ taskRows edition1 i part)
+Inv-loop part n rows₀ i₀ rows i = Placed n (taskAt edition1 part) (replicate mostTasks noTask) rows i
 
 abbrev μ-loop : tie.MeasureT-loop
 μ-loop part n rows₀ i₀ rows i = n - i
 
-loop-holds : tie.Need-loop-holds Inv-loop μ-loop
-unfolding taskRows placedBelow
-loop-holds c = (omega arith, rw (c .no-task .ensures))
-
-loop-again : tie.Need-loop-again Inv-loop μ-loop
-unfolding taskRows
-loop-again c = (omega arith, placed-step _ _ _ (c .before .before .loop .inv .1) (c .task-at .ensures .0))
-
 returns : tie.Need-returns Inv-loop μ-loop
 unfolding taskRows
-returns c = placed-done _ (c .before .loop .i) _ _ (omega arith) (c .before .loop .inv .1)
+returns c = placed-all (c .before .loop .inv) (omega arith)
 
 pub load-tasks-spec : {M : Type 1} → statement M
 load-tasks-spec =
     tie.close
     (tie.spec
-    Inv-loop μ-loop (λ c κs. search needs) loop-holds (λ c κs. omega arith) (λ c. omega arith) (λ c. omega arith)
-    (λ c. omega arith) (λ c. omega arith) loop-again returns)
+    Inv-loop μ-loop (λ c κs. search needs) (λ c. rw (c .no-task .ensures) placed-none) (λ c κs. omega arith) (λ c. omega arith)
+    (λ c. omega arith) (λ c. omega arith) (λ c. omega arith)
+    (λ c. placed-one (c .before .before .loop .inv) (omega arith) (c .task-at .ensures .read)) returns)

@@ -7,7 +7,7 @@ use Rattle.plan_layout.proofs.resource_at.Tie as tie
 returns : tie.Need-returns
 returns c =
     let w = c .before .before .word-at .ensures in
-    record { start = w .0 ∙ sym (start-field _ _); small = w .1; length = sym (length-field _ _); spare = sym (resource-spare _ _) }
+    record { start = w .read ∙ sym (start-field _ _); small = w .small; length = sym (length-field _ _); spare = sym (resource-spare _ _) }
 
 pub resource-at-spec : {M : Type 1} → statement M
 resource-at-spec =

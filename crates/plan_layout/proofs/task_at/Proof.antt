@@ -6,10 +6,11 @@ use Rattle.plan_layout.proofs.task_at.Tie as tie
 
 returns : tie.Need-returns
 returns c =
-    let read = c .before .before .before in (
-      rw (c .half-at2 .ensures, c .before .half-at .ensures) (sym (task-fields _ _)),
-      omega (arith, read .shared-slice-known3 .given (read .before .before .before .args .i * 8 + 1)),
-    )
+    let row = c .before .before .before in
+    record {
+      read = rw (c .half-at2 .ensures, c .before .half-at .ensures) (sym (task-fields _ _));
+      tag = omega (arith, row .shared-slice-known3 .given (row .before .before .before .args .i * 8 + 1));
+    }
 
 pub task-at-spec : {M : Type 1} → statement M
 task-at-spec =

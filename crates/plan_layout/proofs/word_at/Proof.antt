@@ -2,9 +2,6 @@ use Rattle.folds.proofs.Ground.{arith, needs}
 use Rattle.folds.specs.Bytes.{number}
 use Rattle.plan_layout.proofs.word_at.Statement.{statement}
 use Rattle.plan_layout.proofs.word_at.Tie as tie
-use Rattle.plan_layout.proofs.word_at.Reads as reads
-use Rattle.plan_layout.proofs.word_at.Lts as lts
-use Rattle.folds.proofs.wide.Reads as wide-reads
 
 returns : tie.Need-returns
 unfolding number

@@ -1,8 +1,7 @@
 -- Each return is the branch of the definition.
-use Rattle.folds.proofs.Ground.{_≡_, ap, _∙_, needs}
+use Rattle.folds.proofs.Ground.{_≡_, needs}
 use Rattle.folds.proofs.Tests.{held, failed}
 use Rattle.plan_rules.specs.Rules.{countsOk}
-use Rattle.plan_rules.specs.declared.Counts.{Counts}
 use Rattle.plan_layout.specs.Editions.{known}
 use Rattle.plan_layout.specs.Layout.{countsOf, offsetsOk}
 use Rattle.plan_reading.specs.Checks.{countsCode}
@@ -11,18 +10,16 @@ use Rattle.plan_reading.proofs.counts_code.Tie as tie
 
 -- what each test says of the file
 edition-read : (c : tie.After-known) → c .known .result ≡ known (countsOf (c .before .before .before .args .file .now) .edition)
-edition-read c = c .known .ensures ∙ ap (λ (k : Counts). known (k .edition)) (c .before .counts-at .ensures)
+edition-read c = cc
 
 counts-read : (c : tie.After-counts-ok)
     → let k = c .before .before in c .counts-ok .result ≡ countsOk (countsOf (k .before .before .before .args .file .now))
-counts-read c = c .counts-ok .ensures ∙ ap countsOk (c .before .before .before .counts-at .ensures)
+counts-read c = rw (c .before .before .before .counts-at .ensures) at (c .counts-ok .ensures)
 
 offsets-read : (c : tie.After-offsets-ok)
     → let k = c .before .before .before .before in let f = k .before .before .before .args .file .now in
     c .offsets-ok .result ≡ offsetsOk (countsOf f) f
-offsets-read c =
-    let k = c .before .before .before .before in
-    c .offsets-ok .ensures ∙ ap (λ (n : Counts). offsetsOk n (k .before .before .before .args .file .now)) (k .before .counts-at .ensures)
+offsets-read c = cc
 
 returns : tie.Need-returns
 unfolding countsCode

@@ -1,9 +1,9 @@
 -- Each group is loaded from the part that begins at its offset.
-use Rattle.folds.proofs.Ground.{ℕ, _≡_, ap, ap₂, _∙_, drop, length-drop, arith, needs}
+use Rattle.folds.proofs.Ground.{_≡_, ap, _∙_, length-drop, arith, needs}
 use Rattle.folds.proofs.Parts.{part-rest}
 use Rattle.plan_rules.specs.declared.Counts.{Counts}
-use Rattle.plan_layout.specs.Editions.{edition1, headerLength}
-use Rattle.plan_layout.specs.Layout.{countsOf, resourcesAt, sectionsAt, taskRows, lengthRows, sectionRows, taskRowsOf, lengthsOf, sectionsOf}
+use Rattle.plan_layout.specs.Editions.{headerLength}
+use Rattle.plan_layout.specs.Layout.{countsOf, resourcesAt, sectionsAt, taskRowsOf, lengthsOf, sectionsOf}
 use Rattle.plan_reading.proofs.Laws.{Header, header-facts}
 use Rattle.plan_reading.proofs.load.Statement.{statement}
 use Rattle.plan_reading.proofs.load.Tie as tie
@@ -27,19 +27,19 @@ from-sections c = from-tasks (c .before .before)
 
 -- the header, and what was worked out from its counts
 header : (c : tie.After-sections-at) → Header (start c .args .file .now)
-header c = header-facts _ (start c .pre .0)
+header c = header-facts _ (start c .pre .none)
 
 tasks-said : (c : tie.After-sections-at) → numbers c .before .wide .result ≡ countsOf (start c .args .file .now) .tasks
-tasks-said c = numbers c .before .wide .ensures .same ∙ ap (λ (k : Counts). k .tasks) (start c .pre .1)
+tasks-said c = cc
 
 resources-said : (c : tie.After-sections-at) → numbers c .wide2 .result ≡ countsOf (start c .args .file .now) .resources
-resources-said c = numbers c .wide2 .ensures .same ∙ ap (λ (k : Counts). k .resources) (start c .pre .1)
+resources-said c = cc
 
 resources-begin : (c : tie.After-sections-at) → c .before .resources-at .result ≡ resourcesAt (countsOf (start c .args .file .now))
-resources-begin c = c .before .resources-at .ensures ∙ ap resourcesAt (start c .pre .1)
+resources-begin c = c .before .resources-at .ensures ∙ ap resourcesAt (start c .pre .counts)
 
 sections-begin : (c : tie.After-sections-at) → c .sections-at .result ≡ sectionsAt (countsOf (start c .args .file .now))
-sections-begin c = c .sections-at .ensures ∙ ap sectionsAt (start c .pre .1)
+sections-begin c = c .sections-at .ensures ∙ ap sectionsAt (start c .pre .counts)
 
 load-lengths-requires : tie.Need-load-lengths-requires
 load-lengths-requires c κs =
@@ -54,22 +54,20 @@ load-tasks-requires c κs =
 load-sections-requires : tie.Need-load-sections-requires
 load-sections-requires c κs =
     let s = from-tasks (c .before) in
-    let n = ap (λ (k : Counts). k .sections) (start s .pre .1) in
+    let n = ap (λ (k : Counts). k .sections) (start s .pre .counts) in
     simp (part-rest, length-drop) (omega (arith, header s .ranges .sections, header s .ends, sections-begin s))
 
 -- each group is the file's
 lengths-loaded : (c : tie.After-load-lengths) → c .load-lengths .result .lengths ≡ lengthsOf (start (from-lengths c) .args .file .now)
 lengths-loaded c =
-    let s = from-lengths c in
-    c .load-lengths .ensures .1 ∙ ap₂ (lengthRows edition1) (resources-said s) (part-rest (s .before .resources-at .result) (start s .args .file .now) ∙ ap (λ (n : ℕ). drop n (start s .args .file .now)) (resources-begin s))
+    let s = from-lengths c in cc (part-rest (s .before .resources-at .result) (start s .args .file .now), resources-said s, resources-begin s)
 
 tasks-loaded : (c : tie.After-load-tasks) → c .load-tasks .result ≡ taskRowsOf (start (from-tasks c) .args .file .now)
-tasks-loaded c = c .load-tasks .ensures ∙ ap₂ (taskRows edition1) (tasks-said (from-tasks c)) (part-rest headerLength (start (from-tasks c) .args .file .now))
+tasks-loaded c = let s = from-tasks c in cc (part-rest headerLength (start s .args .file .now), tasks-said s)
 
 sections-loaded : (c : tie.After-load-sections) → c .load-sections .result ≡ sectionsOf (start (from-sections c) .args .file .now)
 sections-loaded c =
-    let s = from-sections c in
-    c .load-sections .ensures ∙ ap₂ (sectionRows edition1) (ap (λ (k : Counts). k .sections) (start s .pre .1)) (part-rest (s .sections-at .result) (start s .args .file .now) ∙ ap (λ (n : ℕ). drop n (start s .args .file .now)) (sections-begin s))
+    let s = from-sections c in cc (part-rest (s .sections-at .result) (start s .args .file .now), sections-begin s)
 
 returns : tie.Need-returns
 returns c =

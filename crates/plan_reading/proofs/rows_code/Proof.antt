@@ -9,14 +9,14 @@ use Rattle.plan_reading.proofs.rows_code.Tie as tie
 -- they begin in the file
 names-inside : (c : tie.After-names-at) → c .names-at .result ≤ length (c .before .before .args .file .now)
 names-inside c =
-    let e = c .names-at .ensures ∙ ap namesAt (c .before .before .pre .1) in
-    omega (arith, header-facts _ (c .before .before .pre .0) .ends)
+    let e = c .names-at .ensures ∙ ap namesAt (c .before .before .pre .counts) in
+    omega (arith, header-facts _ (c .before .before .pre .none) .ends)
 
 file-code-requires : tie.Need-file-code-requires
 file-code-requires c κs =
     let a = c .before .before .before in
-    let h = header-facts _ (a .pre .0) in
-    rw (a .pre .1) (h .counts, h .ends)
+    let h = header-facts _ (a .pre .none) in
+    rw (a .pre .counts) (h .counts, h .ends)
 
 pub rows-code-spec : {M : Type 1} → statement M
 rows-code-spec =
@@ -24,4 +24,4 @@ rows-code-spec =
     (tie.spec
     (λ c κs. search needs) (λ c. omega (arith, names-inside c)) (λ c. omega (arith, names-inside c)) (λ c. search needs)
     file-code-requires
-    (λ c. rw (part-rest, c .before .before .names-at .ensures, c .before .before .before .before .pre .1) at (c .file-code .ensures)))
+    (λ c. rw (part-rest, c .before .before .names-at .ensures, c .before .before .before .before .pre .counts) at (c .file-code .ensures)))

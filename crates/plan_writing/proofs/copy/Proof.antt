@@ -5,8 +5,7 @@ use Rattle.plan_layout.specs.Layout.{countsOf, rowsOf, namesOf, namesAt}
 use Rattle.plan.specs.declared.Reading.{Reading}
 use Rattle.plan_reading.proofs.Laws.{whole-facts}
 use Rattle.plan.proofs.Laws.{none-failed, Got, got-plan, got-refusal}
-use Rattle.plan_writing.specs.Encode.{writeOutcome}
-use Rattle.plan_writing.proofs.Outcome.{copy-buffer, copy-answer, copy-refused, copy-told}
+use Rattle.plan_writing.proofs.Outcome.{copy-so, copy-refused}
 use Rattle.plan_writing.proofs.copy.Statement.{statement}
 use Rattle.plan_writing.proofs.copy.Tie as tie
 
@@ -33,19 +32,16 @@ names-got c = part-rest (c .names-at .result) (file c) ∙ ap (λ (n : ℕ). dro
 
 returns : tie.Need-returns
 returns c =
-    let p = c .before .before in
-    let w = p .write in
-    let q = p .before .before .before in
+    let w = c .before .before in
+    let q = w .before .before .before in
     let bytes : (i : ℕ) → getD (file q) i 0 < 256 = λ i. read-at q .before .before .shared-slice-known .given i .fits in
-    let buffer = copy-buffer (file q) bytes (got q .none) _ _ _ _ (w .ensures .1 .0) (got q .counts) (rows-got q) (names-got q) in
-    let answer = copy-answer (file q) bytes (got q .none) _ _ _ _ (w .ensures .0) (got q .counts) (rows-got q) (names-got q) in
-    (answer, (buffer, ap writeOutcome answer ∙ copy-told _ _))
+    copy-so (file q) bytes (got q .none) _ _ _ _ (got q .counts) (rows-got q) (names-got q) (w .write .ensures .0) (w .write .ensures .1 .0)
 
 returns-2 : tie.Need-returns-2
 returns-2 c =
-    let k = got-refusal _ _ (sym (ap (λ (x : Reading). x .answer) (c .before .before .before .read .ensures .0)) ∙ c .before .answer2 .given .1) in
-    let o = copy-refused _ _ (k .0) (k .1) in
-    (sym (o .0), (sym (o .1), ap writeOutcome (sym (o .0)) ∙ copy-told _ _))
+    let read = c .before .before .before .read .ensures .0 in
+    let k = got-refusal _ _ (sym (ap (λ (x : Reading). x .answer) read) ∙ c .before .answer2 .given .1) in
+    copy-refused _ _ (k .0) (k .1)
 
 pub copy-spec : {M : Type 1} → statement M
 copy-spec =

@@ -17,30 +17,7 @@ names-fit c κs =
 
 returns : tie.Need-returns
 unfolding headerBytes rowBytes digits
-returns c =
-    let p = c .before .before in
-    let e = p .before .before .before in
-    let d = e .before .before in
-    let s = d .before .before in
-    let r = s .before .before in
-    let k = r .before .before in
-    let o = k .before .before in
-    rw (
-      e .high5 .ensures,
-      e .before .low5 .ensures,
-      d .high4 .ensures,
-      d .before .low4 .ensures,
-      s .high3 .ensures,
-      s .before .low3 .ensures,
-      r .high2 .ensures,
-      r .before .low2 .ensures,
-      k .high .ensures,
-      k .before .low .ensures,
-      o .names-at .ensures,
-      o .before .sections-at .ensures,
-      o .before .before .resources-at .ensures,
-    )
-    at (p .put-bytes .ensures)
+returns c = cc
 
 pub put-header-spec : {M : Type 1} → statement M
 put-header-spec =

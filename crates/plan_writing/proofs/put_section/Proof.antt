@@ -6,10 +6,7 @@ use Rattle.plan_writing.proofs.put_section.Tie as tie
 
 returns : tie.Need-returns
 unfolding rowBytes digits
-returns c =
-    let p = c .before .before in
-    let h = p .before .before .before in
-    rw (h .high .ensures, h .before .low .ensures) at (p .put-bytes .ensures)
+returns c = cc
 
 pub put-section-spec : {M : Type 1} → statement M
 put-section-spec =

@@ -6,11 +6,7 @@ use Rattle.plan_writing.proofs.put_task.Tie as tie
 
 returns : tie.Need-returns
 unfolding rowBytes digits
-returns c =
-    let p = c .before .before in
-    let e = p .before .before .before in
-    let t = e .before .before in
-    rw (e .high2 .ensures, e .before .low2 .ensures, t .high .ensures, t .before .low .ensures) at (p .put-bytes .ensures)
+returns c = cc
 
 pub put-task-spec : {M : Type 1} → statement M
 put-task-spec =

@@ -1,37 +1,38 @@
 -- The front of the buffer is the file that was written, and reading it gives the same plan.
-use Rattle.folds.proofs.Ground.{_-_, _≡_, sym, ap, _∙_, take, sub-zero, arith, needs}
-use Rattle.plan.specs.declared.Reading.{Reading}
-use Rattle.plan.specs.Reading.{readOutcome}
-use Rattle.plan_writing.specs.Encode.{fileOf}
-use Rattle.plan_writing.proofs.Outcome.{was-written, was-refused, code-clear, wrote, file-front, back-same, back-refused, back-told}
+use Rattle.folds.proofs.Ground.{length, sym, _∙_, arith, needs}
+use Rattle.plan_writing.proofs.Outcome.{WrittenAs, was-written, was-refused, code-clear, back-same, back-refused, back-so}
 use Rattle.plan_writing.proofs.read_back.Statement.{statement}
 use Rattle.plan_writing.proofs.read_back.Tie as tie
+
+-- where the values were written, and that they were
+abbrev wrote-at : tie.After-answer → tie.After-write
+wrote-at c = let m = c .before .before in m .before .before
+
+abbrev begun : tie.After-write → tie.Start
+begun c = c .before .before .before .before
+
+as-written : (c : tie.After-answer)
+    → let a = begun (wrote-at c) .args in WrittenAs (a .c) (a .rows) (a .names .now) (length (a .buf .now)) (c .answer .given .0 .0)
+as-written c = was-written _ _ _ _ (sym (wrote-at c .write .ensures .0) ∙ c .answer .given .1)
 
 part-read-end : tie.Need-part-read-end
 part-read-end c =
     let a = c .before .before in
-    let w = a .before .before .before .before .write in
-    let k = was-written _ _ _ _ (sym (w .ensures .0) ∙ a .answer .given .1) in
-    omega (arith, k .1, code-clear _ _ _ _ (k .0) .1, w .kept .1 .1 .1 .0)
+    let k = as-written a in
+    omega (arith, k .size, code-clear _ _ _ _ (k .none) .fits, wrote-at a .write .kept)
 
 returns : tie.Need-returns
 returns c =
     let d = c .before .before .before .before in
-    let e = d .before .before .before .before in
-    let w = e .write in
-    let a = e .before .before .before .before .args in
-    let k = was-written _ _ _ _ (sym (w .ensures .0) ∙ d .answer .given .1) in
-    let front : take (d .answer .given .0 .0 - 0) (w .last .1 .1 .1 .0) ≡ fileOf (a .c) (a .rows) (a .names .now) = rw (sub-zero, k .1, w .ensures .1 .0, wrote _ _ _ _ (k .0) .1) (file-front _ _ _ _) in
-    let r = back-same _ _ _ _ _ (c .read .ensures .0) front (k .0) in
-    (r, (w .ensures .1 .0, ap (λ (x : Reading). readOutcome (x .answer)) r ∙ back-told _ _ _ _))
+    let buffer = wrote-at d .write .ensures .1 .0 in
+    back-so _ _ _ _ (back-same _ _ _ _ (as-written d) buffer (c .read .ensures .0)) buffer
 
 returns-2 : tie.Need-returns-2
 returns-2 c =
     let a = c .before .before in
     let w = a .before .before .before .before .write in
     let k = was-refused _ _ _ _ (sym (w .ensures .0) ∙ a .answer2 .given .1) in
-    let r = c .refused .ensures ∙ sym (back-refused _ _ _ _ (k .0) (k .1)) in
-    (r, (w .ensures .1 .0, ap (λ (x : Reading). readOutcome (x .answer)) r ∙ back-told _ _ _ _))
+    back-so _ _ _ _ (c .refused .ensures ∙ sym (back-refused _ _ _ _ (k .code) (k .some))) (w .ensures .1 .0)
 
 pub read-back-spec : {M : Type 1} → statement M
 read-back-spec =

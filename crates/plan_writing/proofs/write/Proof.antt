@@ -1,18 +1,17 @@
 -- Each return is the case of the definition; the length fits 16 bits, since the counts and the names do.
-use Rattle.folds.proofs.Ground.{ℕ, _+_, _<_, _≤_, sym, ap, _∙_, length, arith, needs}
+use Rattle.folds.proofs.Ground.{ℕ, _+_, _<_, _≤_, refl, sym, ap, _∙_, length, arith, needs}
 use Rattle.plan_rules.proofs.Laws.{tags-kept}
 use Rattle.plan_writing.specs.declared.WriteAnswer.the-variants.{Written}
-use Rattle.plan_writing.specs.Encode.{fileLength, writeOutcome}
+use Rattle.plan_writing.specs.Encode.{fileLength}
 use Rattle.plan_writing.proofs.Put.{sized}
-use Rattle.plan_writing.proofs.Outcome.{code-values, code-short, code-fits, wrote, kept-back, writing-told}
+use Rattle.plan_writing.proofs.Outcome.{code-values, code-short, code-fits, wrote, kept-back, ended-so}
 use Rattle.plan_writing.proofs.write.Statement.{statement}
 use Rattle.plan_writing.proofs.write.Tie as tie
 
 returns : tie.Need-returns
 returns c =
     let e = code-values _ _ _ _ (c .before .values-code .ensures) (c .if1 .taken) in
-    let o = kept-back _ _ _ _ e (c .if1 .taken) in
-    (sym (o .0), (sym (o .1), ap writeOutcome (sym (o .0)) ∙ writing-told _ _ _ _))
+    ended-so _ _ _ (kept-back _ _ _ _ e (c .if1 .taken)) refl refl
 
 returns-2 : tie.Need-returns-2
 returns-2 c =
@@ -20,8 +19,7 @@ returns-2 c =
     let a = v .before .before .before .args in
     let short : length (a .buf .now) < fileLength (a .c) (a .names .now) = omega (arith, c .before .names-at .ensures, c .if2 .taken) in
     let e = code-short _ _ _ _ (v .values-code .ensures) (c .before .before .if1 .left) short in
-    let o = kept-back _ _ _ _ e (λ z. omega arith) in
-    (sym (o .0), (sym (o .1), ap writeOutcome (sym (o .0)) ∙ writing-told _ _ _ _))
+    ended-so _ _ _ (kept-back _ _ _ _ e (λ z. omega arith)) refl refl
 
 put-file-requires : tie.Need-put-file-requires
 put-file-requires c κs =
@@ -44,9 +42,8 @@ returns-3 c =
     let a = v .before .before .before .args in
     let fits : fileLength (a .c) (a .names .now) ≤ length (a .buf .now) = omega (arith, n .names-at .ensures, i .if2 .left) in
     let e = code-fits _ _ _ _ (v .values-code .ensures) (n .before .if1 .left) fits in
-    let o = wrote _ _ _ _ e in
-    let r = ap (λ (k : ℕ). Written (k + length (a .names .now))) (n .names-at .ensures) ∙ sym (o .0) in
-    (r, (c .before .before .put-file .ensures ∙ sym (o .1), ap writeOutcome r ∙ writing-told _ _ _ _))
+    ended-so _ _ _ (wrote _ _ _ _ e) (ap (λ (k : ℕ). Written (k + length (a .names .now))) (n .names-at .ensures))
+    (c .before .before .put-file .ensures)
 
 pub write-spec : {M : Type 1} → statement M
 write-spec =

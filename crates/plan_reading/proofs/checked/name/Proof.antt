@@ -1,8 +1,7 @@
 -- The part from the name's start to its end lies in the file, as the checks of the resource rows gave.
-use Rattle.folds.proofs.Ground.{ℕ, _+_, _≤_, _≡_, ap, ap₂, _∙_, List, length, take, drop, length-drop, arith, needs}
+use Rattle.folds.proofs.Ground.{ℕ, _+_, _≤_, _≡_, ap, _∙_, length, length-drop, arith, needs}
 use Rattle.folds.proofs.Parts.{part-rest, part-span}
-use Rattle.plan_layout.specs.Editions.{edition1}
-use Rattle.plan_layout.specs.Layout.{countsOf, resourcesAt, namesAt, startAt, lengthAt}
+use Rattle.plan_layout.specs.Layout.{countsOf, resourcesAt, namesAt}
 use Rattle.plan_reading.specs.Plan.{namePart}
 use Rattle.plan_reading.proofs.Laws.{Named, startIn, lengthIn, name-facts, name-said, plan-resources}
 use Rattle.plan_reading.proofs.checked.name.Statement.{statement}
@@ -28,12 +27,10 @@ start c = rows c .before .before .before
 
 -- the row's start and length, said of the file
 start-said : (c : tie.After-resource-at) → c .resource-at .result .start ≡ startIn (start c .args .file .now) (start c .args .resource)
-start-said c =
-    c .resource-at .ensures .start ∙ ap₂ (startAt edition1) (part-rest (rows c .resources-at .result) (start c .args .file .now) ∙ ap (λ (n : ℕ). drop n (start c .args .file .now)) (begin (rows c))) (c .before .wide .ensures .same)
+start-said c = cc (part-rest (rows c .resources-at .result) (start c .args .file .now), begin (rows c))
 
 length-said : (c : tie.After-resource-at) → c .resource-at .result .length ≡ lengthIn (start c .args .file .now) (start c .args .resource)
-length-said c =
-    c .resource-at .ensures .length ∙ ap₂ (lengthAt edition1) (part-rest (rows c .resources-at .result) (start c .args .file .now) ∙ ap (λ (n : ℕ). drop n (start c .args .file .now)) (begin (rows c))) (c .before .wide .ensures .same)
+length-said c = cc (part-rest (rows c .resources-at .result) (start c .args .file .now), begin (rows c))
 
 names-begin : (c : tie.After-names-at) → c .names-at .result ≡ namesAt (countsOf (start (c .before) .args .file .now))
 names-begin c = c .names-at .ensures ∙ ap namesAt (rows (c .before) .before .counts-at .ensures)
@@ -41,8 +38,7 @@ names-begin c = c .names-at .ensures ∙ ap namesAt (rows (c .before) .before .c
 resource-at-requires : tie.Need-resource-at-requires
 resource-at-requires c κs =
     let s = c .before .before in
-    let n = asked (s .before .before .before) in
-    simp (part-rest, length-drop) (omega (arith, n .whole .header .ranges .resources, n .whole .header .ends, n .below, begin s, c .wide .ensures .same))
+    let n = asked (s .before .before .before) in simp (part-rest, length-drop) (omega (arith, n .whole .header, n .below, begin s))
 
 part-result-end : tie.Need-part-result-end
 part-result-end c =
@@ -56,11 +52,9 @@ returns c =
     let w = c .before in
     let n = w .before .before in
     let r = n .before in
-    let f : List ℕ = start r .args .file .now in
     let from : ℕ = n .names-at .result + r .resource-at .result .start in
-    name-said _ _ _ (asked (start r))
-    (part-span from (w .wide2 .result) f
-    ∙ ap₂ (λ (k : ℕ) (l : List ℕ). take k l) (w .wide2 .ensures .same ∙ length-said r) (ap₂ (λ (a b : ℕ). drop (a + b) f) (names-begin n) (start-said r)))
+    let span = part-span from (w .wide2 .result) (start r .args .file .now) in
+    name-said _ _ _ (asked (start r)) (span ∙ cc (w .wide2 .ensures .same, length-said r, names-begin n, start-said r))
 
 pub name-spec : {M : Type 1} → statement M
 name-spec =

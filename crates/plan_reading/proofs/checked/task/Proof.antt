@@ -14,7 +14,7 @@ task-at-requires c κs =
 
 returns : tie.Need-returns
 unfolding planOf
-returns c = rw (c .task-at .ensures .0, part-rest)
+returns c = rw (c .task-at .ensures .read, part-rest)
 
 pub task-spec : {M : Type 1} → statement M
 task-spec =

@@ -6,13 +6,14 @@ use Rattle.plan_rules.proofs.names.differs.Tie as tie
 
 returns : tie.Need-returns
 unfolding differ
-returns c =
-    simp (← c .before .before .wide .ensures .same, ← c .before .wide2 .ensures .same, ne-eqb _ _ (c .if1 .taken))
+returns c = let w = c .before in simp (← w .before .wide .ensures .same, ← w .wide2 .ensures .same, ne-eqb _ _ (c .if1 .taken))
 
 returns-2 : tie.Need-returns-2
 unfolding differ
 returns-2 c =
-    simp (← c .before .before .before .wide .ensures .same, ← c .before .before .wide2 .ensures .same, eq-eqb _ _ (c .before .if1 .left), c .same-bytes .ensures)
+    let i = c .before in
+    let w = i .before in
+    simp (← w .before .wide .ensures .same, ← w .wide2 .ensures .same, eq-eqb _ _ (i .if1 .left), c .same-bytes .ensures)
 
 pub differs-spec : {M : Type 1} → statement M
 differs-spec =

@@ -12,7 +12,7 @@ returns c =
 
 returns-2 : tie.Need-returns-2
 unfolding digestOf
-returns-2 c = rw (le-ltb _ _ (c .before .before .before .if1 .left), c .quad3 .ensures .0, c .before .quad2 .ensures .0, c .before .before .quad .ensures .0)
+returns-2 c = rw (le-ltb _ _ (c .before .before .before .if1 .left), c .quad3 .ensures .read, c .before .quad2 .ensures .read, c .before .before .quad .ensures .read)
 
 pub digest-of-spec : {M : Type 1} → statement M
 digest-of-spec =

@@ -25,9 +25,12 @@ loop-again : tie.Need-loop-again Inv-loop μ-loop
 loop-again c =
     record { below = omega arith; small = omega (arith, c .wide .ensures .low); sum = sum-step _ _ (c .before .before .loop .inv .sum) (c .wide .ensures .same) }
 
+returns : tie.Need-returns Inv-loop μ-loop
+returns c = record { sum = sum-done _ (c .before .loop .i) _ (omega arith) (c .before .loop .inv .sum); small = omega arith }
+
 pub total-length-spec : {M : Type 1} → statement M
 total-length-spec =
     tie.close
     (tie.spec
     Inv-loop μ-loop loop-holds (λ c. omega arith) (λ c κs. omega arith) (λ c. omega arith) (λ c. omega arith) (λ c. omega arith)
-    loop-again (λ c. (sum-done _ (c .before .loop .i) _ (omega arith) (c .before .loop .inv .sum), omega arith)))
+    loop-again returns)
