@@ -2,7 +2,7 @@
 use Rattle.folds.proofs.Ground.{arith, needs}
 use Rattle.print_text.proofs.TextLaws.{put-wider}
 use Rattle.print_lines.specs.declared.Word.the-variants.{Yes, No}
-use Rattle.print_sheet.specs.Rooms.{admittedRoom}
+use Rattle.print_sheet.specs.Inner.{admittedRoom}
 use Rattle.print_sheet.proofs.Laws.{either-text}
 use Rattle.print_sheet.proofs.put_admitted.Statement.{statement}
 use Rattle.print_sheet.proofs.put_admitted.Tie as tie

@@ -6,7 +6,7 @@ use Rattle.print_text.proofs.Turns.{PutBelow, turns-none, turns-more, turns-roo
 use Rattle.plan_reading.proofs.Laws.{valid-plan}
 use Rattle.analysis_equations.specs.Requirement.{admitted}
 use Rattle.print_sheet.specs.Sheet.{requirementAt, requirementLines}
-use Rattle.print_sheet.specs.Rooms.{requirementRoom}
+use Rattle.print_sheet.specs.Inner.{requirementRoom}
 use Rattle.print_sheet.specs.Inner.{passes}
 use Rattle.print_sheet.proofs.put_requirements.Statement.{statement}
 use Rattle.print_sheet.proofs.put_requirements.Tie as tie
