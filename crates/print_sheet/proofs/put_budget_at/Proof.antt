@@ -1,9 +1,11 @@
 -- There is a line where the processor uses the resource; budget and wait time are those of the table.
-use Rattle.folds.proofs.Ground.{_<_, _≡_, _∙_, arith, needs}
+use Rattle.folds.proofs.Ground.{_<_, _&&_, _≡_, _∙_, arith, needs}
 use Rattle.folds.proofs.Tests.{held, failed}
 use Rattle.sizes.specs.Sizes.{mostProcessors, mostResources}
 use Rattle.print_text.proofs.TextLaws.{put-wider}
+use Rattle.plan_reading.specs.Plan.{planOf}
 use Rattle.plan_reading.proofs.Laws.{valid-plan}
+use Rattle.analysis_equations.specs.Sharing.{usedOn, global}
 use Rattle.analysis_figures.proofs.Cells.{budget-of}
 use Rattle.print_sheet.specs.Inner.{budgetRoom}
 use Rattle.print_sheet.proofs.Laws.{line-out}
@@ -18,6 +20,10 @@ column c = c .before .before .before
 
 low : (a : tie.Start) → (a .args .k < mostProcessors) × (a .args .q < mostResources)
 low a = let v = valid-plan _ (a .pre .known .plan) in (omega arith, omega arith)
+
+-- whether there is a line
+told : (u : tie.After-uses) → let a = start (u .before) .args in u .uses .result ≡ (global (planOf (a .file .now)) (a .q) && usedOn (planOf (a .file .now)) (a .k) (a .q))
+told u = rw (u .before .wide .ensures .same) at (u .uses .ensures)
 
 budget-at-requires : tie.Need-budget-at-requires
 budget-at-requires c κs =
@@ -36,14 +42,15 @@ returns-2 c =
     let q = w .wide .ensures .same in
     let budget = b .budget-at .ensures ∙ budget-of _ _ (a .pre .known .figures) (b .before .wide2 .ensures .same) q (l .0) (l .1) in
     let line = put-wider budgetRoom (p .put-line .ensures) (omega arith) in
-    rw (rw q at (held (b .before .before .before .uses .ensures) (b .before .before .if1 .left))) (rw (budget, rw q at (m .wait-in .ensures .0)) at line)
+    let i = b .before .before in
+    rw (held (told (i .before)) (i .if1 .left)) (rw (budget, rw q at (m .wait-in .ensures .0)) at line)
 
 pub put-budget-at-spec : {M : Type 1} → statement M
 put-budget-at-spec =
     tie.close
     (tie.spec
     (λ c κs. search needs) (λ c κs. let l = low (start c) in (start c .pre .known, omega (arith, l .1)))
-    (λ c. let u = c .before in rw (rw (u .before .wide .ensures .same) at (failed (u .uses .ensures) (c .if1 .taken))) (line-out _ _ _))
+    (λ c. rw (failed (told (c .before)) (c .if1 .taken)) (line-out _ _ _))
     (λ c κs. search needs) budget-at-requires
     (λ c κs. let a = start (column (c .before)) in let l = low a in (a .pre .known, omega (arith, l .1)))
     (λ c. search needs) (λ c. search needs) (λ c. search needs)

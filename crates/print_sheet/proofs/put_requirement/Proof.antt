@@ -15,8 +15,7 @@ returns c =
     let p = c .before .before in
     let w = p .before .before .before .before in
     let k = w .before .before .before .before in
-    let a = k .before .before in
-    let found = a .args .found in
+    let found = k .before .before .args .found in
     let s : SFits w64 (found .tolerance) = record { sfits = w .before .before .struct-told .given .1 .1 .0 .1 } in
     let t : SFits w64 (found .slack) = record { sfits = w .before .struct-told2 .given .1 .1 .1 .0 .1 } in
     put-wider requirementRoom (rw (w .either .ensures, either-text (found .met) Met Unmet, toZ-ofZ s, toZ-ofZ t) at (p .put-line .ensures)) (omega arith)
