@@ -1,6 +1,6 @@
 -- When a resource has a name to print, how the code has the fields of a line, and how much room they take. None of this is a rule of
 -- document 01.
-use Prim.Native.Nat.{ℕ, suc, _+_, _<_}
+use Prim.Native.Nat.{ℕ, suc, _+_, _<_, _≤_}
 use mathlib.Core.List.{List, [], _∷_, _++_}
 use lib.ListN.{length}
 use Rattle.sizes.specs.Sizes.{mostNameBytes}
@@ -92,6 +92,16 @@ Asking f None others = others
 abbrev pub AllNamed : List ℕ → List Field → Type 0
 AllNamed f [] = Unit {0}
 AllNamed f (x ∷ fields) = Asking f x (AllNamed f fields)
+
+-- what a field asks, and room for it from `at` on
+pub record FieldFits (f l : List ℕ) (at : ℕ) (x : Field) : Type 0 where
+  pub named : Asking f x (Unit {0})
+  pub room : at + roomOf x ≤ length l
+
+-- the same of all fields
+pub record FieldsFit (f l : List ℕ) (at : ℕ) (fields : List Field) : Type 0 where
+  pub named : AllNamed f fields
+  pub room : at + roomsOf fields ≤ length l
 
 -- a line of fields put at `at`, in the room that is reckoned for it
 abbrev pub LinePut : (before now : List ℕ) → ℕ → List ℕ → List ℕ → List Field → ℕ → Type 0

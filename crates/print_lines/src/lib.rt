@@ -14,7 +14,7 @@ ghost use Rattle.print_text.specs.Buffers.{handed, bufferWith};
 ghost use Rattle.print_lines.specs.declared.Field.the-variants.{Number, Signed, Name, Says};
 ghost use Rattle.print_lines.specs.Lines.{mostLine, refusedLine, planLine, answerLine};
 ghost use Rattle.print_lines.specs.Inner.{Nameable, Names, fieldText, fieldsText, fourFields};
-ghost use Rattle.print_lines.specs.Inner.{roomOf, roomsOf, lineRoom, Asking, AllNamed, LinePut};
+ghost use Rattle.print_lines.specs.Inner.{roomOf, roomsOf, lineRoom, AllNamed, FieldFits, FieldsFit, LinePut};
 
 // A word in a line.
 pub enum Word {
@@ -102,7 +102,7 @@ fn put_word(buf: &mut [u8], at: usize, word: Word) -> usize
 
 // A field, after a space.
 fn put_field(buf: &mut [u8], at: usize, file: &[u8], field: Field) -> usize
-    requires { ⌜ (Asking (now file) field (Unit {0})) × (at + roomOf field ≤ length (now buf)) ⌝ }
+    requires { ⌜ FieldFits (now file) (now buf) at field ⌝ }
     ensures { λ r. ⌜ PutIn (now (buf .entry)) (now (buf .exit)) at (roomOf field) (fieldText (now (file .entry)) field) r ⌝ }
 {
     match field {
@@ -116,7 +116,7 @@ fn put_field(buf: &mut [u8], at: usize, file: &[u8], field: Field) -> usize
 
 // One field behind the other.
 fn put_fields(buf: &mut [u8], at: usize, file: &[u8], fields: [Field; FIELDS]) -> usize
-    requires { ⌜ (AllNamed (now file) fields) × (at + roomsOf fields ≤ length (now buf)) ⌝ }
+    requires { ⌜ FieldsFit (now file) (now buf) at fields ⌝ }
     ensures { λ r. ⌜ PutIn (now (buf .entry)) (now (buf .exit)) at (roomsOf fields) (fieldsText (now (file .entry)) fields) r ⌝ }
 {
     let mut end = at;

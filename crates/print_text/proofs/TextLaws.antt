@@ -142,33 +142,14 @@ pub decimal-first : (n : ℕ) → 0 < n → n < 10 ^ 20 → 49 ≤ getD (decimal
 decimal-first n h l = digits-first 19 n h l
 
 -- examples
-pub quoted-bus : quoted "bus" ≡ 98 ∷ 117 ∷ 115 ∷ []
-quoted-bus = refl
-
-pub decimal-0 : decimal 0 ≡ quoted "0"
-unfolding placesTo decimals
-decimal-0 = refl
-
-pub decimal-65535 : decimal 65535 ≡ quoted "65535"
-unfolding placesTo decimals
-decimal-65535 = refl
-
-pub decimal-largest : decimal 18446744073709551615 ≡ quoted "18446744073709551615"
-unfolding placesTo decimals
-decimal-largest = refl
-
-pub value-65535 : valueOf (quoted "65535") ≡ 65535
-unfolding valueFrom
-value-65535 = refl
-
-pub signed-below-zero : signed (negsuc 3) ≡ quoted "-4"
-unfolding placesTo decimals
-signed-below-zero = refl
-
-pub signed-lowest : signed (negsuc 9223372036854775807) ≡ quoted "-9223372036854775808"
-unfolding placesTo decimals
-signed-lowest = refl
-
-pub signed-above : signed (pos 17) ≡ quoted "17"
-unfolding placesTo decimals
-signed-above = refl
+pub text-examples :
+    (quoted "bus" ≡ 98 ∷ 117 ∷ 115 ∷ [])
+    × (decimal 0 ≡ quoted "0")
+    × (decimal 65535 ≡ quoted "65535")
+    × (decimal 18446744073709551615 ≡ quoted "18446744073709551615")
+    × (valueOf (quoted "65535") ≡ 65535)
+    × (signed (pos 17) ≡ quoted "17")
+    × (signed (negsuc 3) ≡ quoted "-4")
+    × (signed (negsuc 9223372036854775807) ≡ quoted "-9223372036854775808")
+unfolding placesTo decimals valueFrom
+text-examples = (refl, refl, refl, refl, refl, refl, refl, refl)

@@ -10,13 +10,17 @@ put-answer-spec =
     tie.close
     (tie.spec
     (λ c. search needs) (λ c. search needs) (λ c κs. search needs)
-    (λ c κs. let i = c .before .before .before in rw (c .four .ensures) ((rw (i .enum-told .given .1) at (i .before .before .before .before .pre .0), tt), search needs))
+    (λ c κs. let i = c .before .before .before in
+      rw (c .four .ensures) ((rw (i .enum-told .given .1) at (i .before .before .before .before .pre .0), tt), search needs))
     (λ c. search needs) (λ c. search needs) (λ c. search needs) (λ c. search needs) (λ c κs. search needs)
-    (λ c κs. let i = c .before .before .before .before in rw (c .four2 .ensures) ((rw (i .answer .given .1) at (i .before .before .before .before .pre .0), tt), search needs))
+    (λ c κs. let i = c .before .before .before .before in
+      rw (c .four2 .ensures) ((rw (i .answer .given .1) at (i .before .before .before .before .pre .0), tt), search needs))
     (λ c. search needs) (λ c. search needs) (λ c. search needs) (λ c κs. search needs)
-    (λ c κs. let i = c .before .before .before .before in rw (c .four3 .ensures) ((rw (i .answer2 .given .1) at (i .before .before .before .before .pre .0), tt), search needs))
+    (λ c κs. let i = c .before .before .before .before in
+      rw (c .four3 .ensures) ((rw (i .answer2 .given .1) at (i .before .before .before .before .pre .0), tt), search needs))
     (λ c. search needs) (λ c. search needs) (λ c κs. search needs)
-    (λ c κs. let i = c .before .before .before in rw (c .four4 .ensures) ((rw (i .enum-told2 .given .1) at (i .before .before .before .before .pre .0), tt), search needs))
+    (λ c κs. let i = c .before .before .before in
+      rw (c .four4 .ensures) ((rw (i .enum-told2 .given .1) at (i .before .before .before .before .pre .0), tt), search needs))
     (λ c. search needs) (λ c. search needs) (λ c. search needs) (λ c. search needs) (λ c κs. search needs)
     (λ c κs. rw (c .four5 .ensures) (tt, search needs)) (λ c. search needs) (λ c κs. search needs) (λ c. search needs)
     (λ c. let p = c .before .before in let f = p .before in let i = f .before .before .before in

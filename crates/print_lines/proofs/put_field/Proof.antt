@@ -17,13 +17,14 @@ put-field-spec =
     tie.close
     (tie.spec
     (λ c. search needs)
-    (λ c κs. let i = c .before .before in omega (arith, rw (i .field .given .1) at (i .before .before .before .before .pre .1)))
+    (λ c κs. let i = c .before .before in omega (arith, rw (i .field .given .1) at (i .before .before .before .before .pre .room)))
     (λ c. search needs)
-    (λ c κs. let i = c .before .before in omega (arith, rw (i .field2 .given .1) at (i .before .before .before .before .pre .1)))
+    (λ c κs. let i = c .before .before in omega (arith, rw (i .field2 .given .1) at (i .before .before .before .before .pre .room)))
     (λ c. search needs)
-    (λ c κs. let i = c .before .before in let h = rw (i .field3 .given .1) at (i .before .before .before .before .pre) in (h .0 .0, omega (arith, h .1)))
+    (λ c κs. let i = c .before .before in let h = rw (i .field3 .given .1) at (i .before .before .before .before .pre) in
+      (h .named .0, omega (arith, h .room)))
     (λ c. search needs)
-    (λ c κs. let i = c .before .before in omega (arith, rw (i .field4 .given .1) at (i .before .before .before .before .pre .1)))
+    (λ c κs. let i = c .before .before in omega (arith, rw (i .field4 .given .1) at (i .before .before .before .before .pre .room)))
     (λ c. search needs) (λ c. search needs)
     (λ c. let p = c .before .before in rw (p .before .before .before .field .given .1) (p .put-number .ensures))
     (λ c. search needs) returns-2 (λ c. search needs)

@@ -27,7 +27,7 @@ first c =
 put-field-requires : tie.Need-put-field-requires Inv-loop μ-loop
 put-field-requires c κs =
     let s = first (c .before .before) in
-    (left-first _ _ _ _ s, omega (arith, s .room, s .long, start (c .before .before) .pre .1))
+    record { named = left-first _ _ _ _ s; room = omega (arith, s .room, s .long, start (c .before .before) .pre .room) }
 
 loop-again : tie.Need-loop-again Inv-loop μ-loop
 loop-again c =
@@ -44,5 +44,5 @@ pub put-fields-spec : {M : Type 1} → statement M
 put-fields-spec =
     tie.close
     (tie.spec
-    Inv-loop μ-loop (λ c. (omega arith, left-all _ _ _ _ (c .before .before .pre .0))) (λ c. omega arith) (λ c. omega arith) put-field-requires
+    Inv-loop μ-loop (λ c. (omega arith, left-all _ _ _ _ (c .before .before .pre .named))) (λ c. omega arith) (λ c. omega arith) put-field-requires
     (λ c. omega arith) (λ c. omega arith) loop-again (λ c. omega arith) returns)

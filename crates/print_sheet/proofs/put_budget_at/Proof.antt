@@ -22,7 +22,8 @@ low : (a : tie.Start) → (a .args .k < mostProcessors) × (a .args .q < mostRes
 low a = let v = valid-plan _ (a .pre .known .plan) in (omega arith, omega arith)
 
 -- whether there is a line
-told : (u : tie.After-uses) → let a = start (u .before) .args in u .uses .result ≡ (global (planOf (a .file .now)) (a .q) && usedOn (planOf (a .file .now)) (a .k) (a .q))
+told : (u : tie.After-uses) → let a = start (u .before) .args in let p = planOf (a .file .now) in
+    u .uses .result ≡ (global p (a .q) && usedOn p (a .k) (a .q))
 told u = rw (u .before .wide .ensures .same) at (u .uses .ensures)
 
 budget-at-requires : tie.Need-budget-at-requires

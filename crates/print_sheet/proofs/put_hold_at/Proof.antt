@@ -59,6 +59,6 @@ put-hold-at-spec =
     (λ c. rw (hold-none _ (valid (start (c .before .before))) _ _ (told (c .before)) (c .if1 .taken)) (line-out _ _ _))
     (λ c κs. search needs) longest-of-requires (λ c. search needs) (λ c. search needs) (λ c. search needs) (λ c. search needs)
     (λ c. search needs)
-    (λ c κs. let m = c .before .before .before .before .before in let h = start (m .before .before .before .before) .pre in
+    (λ c κs. let s = c .before .before .before in let i = s .before .before .before .before in let h = start (i .before .before) .pre in
       ((record { plan = h .known .plan; below = h .resource }, tt), omega (arith, h .room)))
     (λ c. search needs) returns-2)

@@ -20,8 +20,8 @@ returns c =
     let p = c .before .before in
     let e = p .before .before .before in
     let g = e .before in
-    let line = rw (e .either .ensures, either-text (g .is-global .result) Global Local, g .is-global .ensures, g .before .wide .ensures .same) at (p .put-line .ensures) in
-    put-wider resourceRoom line (omega arith)
+    let word = either-text (g .is-global .result) Global Local in
+    put-wider resourceRoom (rw (e .either .ensures, word, g .is-global .ensures, g .before .wide .ensures .same) at (p .put-line .ensures)) (omega arith)
 
 pub put-resource-spec : {M : Type 1} → statement M
 put-resource-spec =

@@ -20,7 +20,8 @@ put-below : {l m n : List ℕ} {at e f k : ℕ} (z : ℤ) → ltZ z (pos 0) ≡ 
 put-below (pos a) t h p q = absurd (not-suc-le-zero (ltb-true a 0 t))
 put-below (negsuc a) t h p q = put-in-then (put-in 1 p (omega arith)) (rw h at q)
 
-put-not-below : {l m : List ℕ} {at e : ℕ} (z : ℤ) → T (nonNeg z) → PutIn l m at mostDigits (decimal (natAbs z)) e → PutIn l m at mostSigned (signed z) e
+put-not-below : {l m : List ℕ} {at e : ℕ} (z : ℤ) → T (nonNeg z) → PutIn l m at mostDigits (decimal (natAbs z)) e
+    → PutIn l m at mostSigned (signed z) e
 put-not-below (pos a) t p = put-wider mostSigned p (omega arith)
 put-not-below (negsuc a) t p = absurd t
 
