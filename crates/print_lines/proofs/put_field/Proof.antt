@@ -22,7 +22,7 @@ put-field-spec =
     (λ c κs. let i = c .before .before in omega (arith, rw (i .field2 .given .1) at (i .before .before .before .before .pre .room)))
     (λ c. search needs)
     (λ c κs. let i = c .before .before in let h = rw (i .field3 .given .1) at (i .before .before .before .before .pre) in
-      (h .named .0, omega (arith, h .room)))
+    (h .named .0, omega (arith, h .room)))
     (λ c. search needs)
     (λ c κs. let i = c .before .before in omega (arith, rw (i .field4 .given .1) at (i .before .before .before .before .pre .room)))
     (λ c. search needs) (λ c. search needs)

@@ -10,4 +10,4 @@ put-name-spec =
     (tie.spec
     (λ c. search needs) (λ c κs. search needs) (λ c κs. search needs) (λ c κs. search needs) (λ c. search needs)
     (λ c. let d = c .before .before in let n = d .before in let name = n .name .ensures in
-      put-in-then (put-in 1 (n .before .before .before .before .put .ensures) (omega arith)) (rw (name .0) at (put-in _ (d .put2 .ensures) (name .1)))))
+    put-in-then (put-in 1 (n .before .before .before .before .put .ensures) (omega arith)) (rw (name .0) at (put-in _ (d .put2 .ensures) (name .1)))))

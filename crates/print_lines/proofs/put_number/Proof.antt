@@ -10,4 +10,4 @@ put-number-spec =
     (tie.spec
     (λ c. search needs) (λ c κs. search needs) (λ c κs. search needs) (λ c. search needs)
     (λ c. let d = c .before .before in
-      put-in-then (put-in 1 (d .before .before .before .before .put .ensures) (omega arith)) (d .put-decimal .ensures)))
+    put-in-then (put-in 1 (d .before .before .before .before .put .ensures) (omega arith)) (d .put-decimal .ensures)))

@@ -11,4 +11,4 @@ put-signed-spec =
     (tie.spec
     (λ c. search needs) (λ c κs. search needs) (λ c κs. search needs) (λ c. search needs)
     (λ c. let d = c .before .before in let p = d .before .before .before .before in
-      put-in-then (put-in 1 (p .put .ensures) (omega arith)) (put-held signed _ (p .before .before .before .before .fits .z) (d .put-signed .ensures))))
+    put-in-then (put-in 1 (p .put .ensures) (omega arith)) (put-held signed _ (p .before .before .before .before .fits .z) (d .put-signed .ensures))))

@@ -11,4 +11,4 @@ refused-line-spec =
     (λ c. search needs) (λ c κs. search needs) (λ c. search needs) (λ c. search needs) (λ c. search needs) (λ c κs. search needs)
     (λ c. search needs)
     (λ c. let h = c .before .before in let e = h .before in
-      rw (front-part (e .before .before .before .before .put-refused .ensures .put)) at (h .hand-over .ensures)))
+    rw (front-part (e .before .before .before .before .put-refused .ensures .put)) at (h .hand-over .ensures)))

@@ -14,4 +14,4 @@ put-admitted-spec =
     (λ c κs. search needs) (λ c. search needs) (λ c. search needs)
     (λ c κs. rw (c .before .before .before .either .ensures) (tt, search needs)) (λ c. search needs)
     (λ c. let p = c .before .before in let w = p .before .before .before .before in
-      put-wider admittedRoom (rw (w .either .ensures, either-text (w .before .before .args .yes) Yes No) at (p .put-line .ensures)) (omega arith)))
+    put-wider admittedRoom (rw (w .either .ensures, either-text (w .before .before .args .yes) Yes No) at (p .put-line .ensures)) (omega arith)))

@@ -56,5 +56,5 @@ put-budget-at-spec =
     (λ c κs. let a = start (column (c .before)) in let l = low a in (a .pre .known, omega (arith, l .1)))
     (λ c. search needs) (λ c. search needs) (λ c. search needs)
     (λ c κs. let m = c .before .before in let h = start (column (m .before .before)) .pre in
-      ((record { plan = h .known .plan; below = h .resource }, tt), omega (arith, h .room)))
+    ((record { plan = h .known .plan; below = h .resource }, tt), omega (arith, h .room)))
     (λ c. search needs) returns-2)

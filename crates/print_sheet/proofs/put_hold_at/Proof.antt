@@ -60,5 +60,5 @@ put-hold-at-spec =
     (λ c κs. search needs) longest-of-requires (λ c. search needs) (λ c. search needs) (λ c. search needs) (λ c. search needs)
     (λ c. search needs)
     (λ c κs. let s = c .before .before .before in let i = s .before .before .before .before in let h = start (i .before .before) .pre in
-      ((record { plan = h .known .plan; below = h .resource }, tt), omega (arith, h .room)))
+    ((record { plan = h .known .plan; below = h .resource }, tt), omega (arith, h .room)))
     (λ c. search needs) returns-2)

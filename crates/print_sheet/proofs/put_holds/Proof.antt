@@ -25,5 +25,5 @@ put-holds-spec =
     (λ c. let k = c .before in let h = k .before .before .before .before .pre in turns-none (valid-plan _ (h .known .plan) .tasks) (h .room))
     (λ c κs. let room = turns-room (c .before .before .loop .inv) (omega arith) in search needs) (λ c. omega arith) (λ c. omega arith)
     (λ c. let p = c .before .before in
-      turns-more (p .before .before .before .loop .inv) (omega arith) (p .put-holds-of .ensures) (c .before .buf .given))
+    turns-more (p .before .before .before .loop .inv) (omega arith) (p .put-holds-of .ensures) (c .before .buf .given))
     (λ c. omega arith) (λ c. turns-done (c .before .loop .inv) (omega arith)))
