@@ -73,7 +73,12 @@ pub record Ready (f figures l : List ℕ) (at most : ℕ) : Type 0 where
   pub known : Known f figures
   pub room : at + most ≤ length l
 
--- the same, and one of n processors or tasks
+-- such a plan and table, and a resource that the table has a place for
+pub record Column (f figures : List ℕ) (q : ℕ) : Type 0 where
+  pub known : Known f figures
+  pub resource : q < mostResources
+
+-- the first, and one of n processors or tasks
 pub record ReadyOf (f figures l : List ℕ) (at most n i : ℕ) : Type 0 where
   pub known : Known f figures
   pub room : at + most ≤ length l
@@ -97,6 +102,11 @@ pub record Row (f figures terms l : List ℕ) (at i : ℕ) : Type 0 where
   pub prepared : Prepared f figures terms
   pub room : at + requirementRoom ≤ length l
   pub task : i < planOf f .tasks
+
+-- both tables, and room for all requirements
+pub record Rows (f figures terms l : List ℕ) (at : ℕ) : Type 0 where
+  pub prepared : Prepared f figures terms
+  pub room : at + requirementsRoom ≤ length l
 
 -- whether a task passes: it asks for nothing, or what it asks is met
 abbrev pub passes : List ℕ → ℕ → Bool

@@ -11,17 +11,14 @@ ghost use Prim.Native.Nat.{_+_, _≤_, _<_};
 ghost use lib.ListN.{length};
 ghost use Rattle.print_text.specs.Text.{PutIn};
 ghost use Rattle.plan_reading.specs.Plan.{planOf, Checked};
-ghost use Rattle.sizes.specs.Sizes.{mostResources};
 ghost use Rattle.analysis_equations.specs.Sharing.{usedOn, global};
-ghost use Rattle.analysis_figures.specs.Figures.{Known};
-ghost use Rattle.analysis_requirements.specs.Terms.{Prepared};
 ghost use Rattle.print_sheet.specs.Sheet.{requirementLine, admittedLine, resourceAt, budgetAt, holdLineAt};
 ghost use Rattle.print_sheet.specs.Sheet.{resourceLines, budgetLinesOf, budgetLines, holdLinesOf, holdLines, figureLines, verdictLines};
 ghost use Rattle.print_sheet.specs.Sheet.{planSheet, mostSheet, sheetLine, sheetIn};
 ghost use Rattle.print_sheet.specs.Inner.{resourceRoom, budgetRoom, holdRoom, requirementRoom, admittedRoom};
 ghost use Rattle.print_sheet.specs.Inner.{resourcesRoom, budgetsOfRoom, budgetsRoom, holdsOfRoom, holdsRoom};
-ghost use Rattle.print_sheet.specs.Inner.{figuresRoom, requirementsRoom, verdictRoom};
-ghost use Rattle.print_sheet.specs.Inner.{Ready, ReadyOf, Cell, CellOf, Row, RowPut, RowsPut, AsideSheet};
+ghost use Rattle.print_sheet.specs.Inner.{figuresRoom, verdictRoom};
+ghost use Rattle.print_sheet.specs.Inner.{Ready, ReadyOf, Column, Cell, CellOf, Row, Rows, RowPut, RowsPut, AsideSheet};
 
 // A buffer as long as this has room for every sheet.
 pub const SHEET: usize = 131072;
@@ -66,7 +63,7 @@ fn put_resources(buf: &mut [u8], at: usize, file: &[u8], figures: &[u16]) -> usi
 
 // Whether q is global and processor k uses it: whether one of its tasks has a hold time of q.
 fn uses(file: &[u8], figures: &[u16], k: u8, q: usize) -> bool
-    requires { ⌜ (Known (now file) (now figures)) × (q < mostResources) ⌝ }
+    requires { ⌜ Column (now file) (now figures) q ⌝ }
     ensures { λ r. ⌜ r ≡ (global (planOf (now (file .entry))) q && usedOn (planOf (now (file .entry))) k q) ⌝ }
 {
     let counts = plan_reading::checked::counts(file);
@@ -256,7 +253,7 @@ fn put_requirements(
     figures: &[u16],
     terms: &[u16],
 ) -> Required
-    requires { ⌜ (Prepared (now file) (now figures) (now terms)) × (at + requirementsRoom ≤ length (now buf)) ⌝ }
+    requires { ⌜ Rows (now file) (now figures) (now terms) (now buf) at ⌝ }
     ensures { λ r. ⌜ RowsPut (now (file .entry)) (now (buf .entry)) (now (buf .exit)) at r ⌝ }
 {
     let counts = plan_reading::checked::counts(file);

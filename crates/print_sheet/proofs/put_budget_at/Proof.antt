@@ -26,12 +26,6 @@ told : (u : tie.After-uses) → let a = start (u .before) .args in let p = planO
     u .uses .result ≡ (global p (a .q) && usedOn p (a .k) (a .q))
 told u = rw (u .before .wide .ensures .same) at (u .uses .ensures)
 
-budget-at-requires : tie.Need-budget-at-requires
-budget-at-requires c κs =
-    let a = start (column c) in
-    let l = low a in
-    record { long = a .pre .known .figures .long; row = omega (arith, l .0); resource = omega (arith, l .1) }
-
 returns-2 : tie.Need-returns-2
 returns-2 c =
     let p = c .before .before in
@@ -50,10 +44,10 @@ pub put-budget-at-spec : {M : Type 1} → statement M
 put-budget-at-spec =
     tie.close
     (tie.spec
-    (λ c κs. search needs) (λ c κs. let l = low (start c) in (start c .pre .known, omega (arith, l .1)))
+    (λ c κs. search needs) (λ c κs. let l = low (start c) in search needs)
     (λ c. rw (failed (told (c .before)) (c .if1 .taken)) (line-out _ _ _))
-    (λ c κs. search needs) budget-at-requires
-    (λ c κs. let a = start (column (c .before)) in let l = low a in (a .pre .known, omega (arith, l .1)))
+    (λ c κs. search needs) (λ c κs. let l = low (start (column c)) in search needs)
+    (λ c κs. let a = start (column (c .before)) in let l = low a in search needs)
     (λ c. search needs) (λ c. search needs) (λ c. search needs)
     (λ c κs. let m = c .before .before in let h = start (column (m .before .before)) .pre in
     ((record { plan = h .known .plan; below = h .resource }, tt), omega (arith, h .room)))

@@ -55,7 +55,7 @@ put-hold-at-spec =
     tie.close
     (tie.spec
     (λ c κs. search needs)
-    (λ c κs. let a = start c in let l = low a in record { long = a .pre .known .figures .long; row = l .0; resource = omega (arith, l .1) })
+    (λ c κs. let l = low (start c) in search needs)
     (λ c. rw (hold-none _ (valid (start (c .before .before))) _ _ (told (c .before)) (c .if1 .taken)) (line-out _ _ _))
     (λ c κs. search needs) longest-of-requires (λ c. search needs) (λ c. search needs) (λ c. search needs) (λ c. search needs)
     (λ c. search needs)

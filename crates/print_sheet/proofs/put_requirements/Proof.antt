@@ -27,7 +27,7 @@ unfolding allBelow
 loop-holds c =
     let s = c .before .before .before in
     let h = s .before .before .before .pre in
-    record { put = turns-none (valid-plan _ (h .0 .known .plan) .tasks) (h .1); all = refl }
+    record { put = turns-none (valid-plan _ (h .prepared .known .plan) .tasks) (h .room); all = refl }
 
 loop-again : tie.Need-loop-again Inv-loop μ-loop
 loop-again c =

@@ -27,7 +27,7 @@ start w = w .before .before .before .before
 loop-holds : tie.Need-loop-holds Inv-loop μ-loop
 unfolding anyBelow
 loop-holds c =
-    let v = valid-plan _ (start c .pre .0 .plan) in
+    let v = valid-plan _ (start c .pre .known .plan) in
     record { turn = omega arith; count = c .wide .ensures .same ∙ c .before .counts .ensures .tasks; few = omega arith; none = refl }
 
 -- what is tested in a turn
@@ -36,13 +36,13 @@ test : (c : tie.After-hold-at Inv-loop μ-loop) → let l = c .before .before .b
 test c =
     let l = c .before .before .before in
     let h = start (l .before) .pre in
-    rw (c .before .task .ensures, c .hold-at .ensures, h .0 .figures .hold (l .loop .i) (start (l .before) .args .q) (omega arith) (h .1))
+    rw (c .before .task .ensures, c .hold-at .ensures, h .known .figures .hold (l .loop .i) (start (l .before) .args .q) (omega arith) (h .resource))
 
 returns : tie.Need-returns Inv-loop μ-loop
 returns c =
     let h = c .before .before in
     let l = h .before .before .before in
-    let v = valid-plan _ (start (l .before) .pre .0 .plan) in
+    let v = valid-plan _ (start (l .before) .pre .known .plan) in
     sym (used-held _ v _ _ ∙ any-at _ (l .loop .i) _ (omega arith) (sym (test h) ∙ c .if1 .taken))
 
 loop-again : tie.Need-loop-again Inv-loop μ-loop
@@ -54,7 +54,7 @@ loop-again c =
 returns-2 : tie.Need-returns-2 Inv-loop μ-loop
 returns-2 c =
     let l = c .before in
-    any-done _ (l .loop .i) _ (omega arith) (l .loop .inv .none) ∙ sym (used-held _ (valid-plan _ (start (l .before) .pre .0 .plan)) _ _)
+    any-done _ (l .loop .i) _ (omega arith) (l .loop .inv .none) ∙ sym (used-held _ (valid-plan _ (start (l .before) .pre .known .plan)) _ _)
 
 pub uses-spec : {M : Type 1} → statement M
 uses-spec =
