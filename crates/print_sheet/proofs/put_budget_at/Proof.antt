@@ -48,7 +48,4 @@ put-budget-at-spec =
     (λ c. rw (failed (told (c .before)) (c .if1 .taken)) (line-out _ _ _))
     (λ c κs. search needs) (λ c κs. let l = low (start (column c)) in search needs)
     (λ c κs. let a = start (column (c .before)) in let l = low a in search needs)
-    (λ c. search needs) (λ c. search needs) (λ c. search needs)
-    (λ c κs. let m = c .before .before in let h = start (column (m .before .before)) .pre in
-    ((record { plan = h .known .plan; below = h .resource }, tt), omega (arith, h .room)))
-    (λ c. search needs) returns-2)
+    (λ c. search needs) (λ c. search needs) (λ c. search needs) (λ c κs. search needs) (λ c. search needs) returns-2)

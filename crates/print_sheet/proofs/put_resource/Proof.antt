@@ -8,13 +8,6 @@ use Rattle.print_sheet.proofs.Laws.{either-text}
 use Rattle.print_sheet.proofs.put_resource.Statement.{statement}
 use Rattle.print_sheet.proofs.put_resource.Tie as tie
 
-put-line-requires : tie.Need-put-line-requires
-put-line-requires c κs =
-    let e = c .before .before in
-    let w = e .before .before in
-    let h = w .before .before .before .before .pre in
-    rw (e .either .ensures) ((record { plan = h .known .plan; below = h .resource }, tt), omega (arith, h .room))
-
 returns : tie.Need-returns
 returns c =
     let p = c .before .before in
@@ -29,4 +22,4 @@ put-resource-spec =
     (tie.spec
     (λ c κs. search needs)
     (λ c κs. let h = c .before .before .before .before .pre in let v = valid-plan _ (h .known .plan) in (h .known, omega arith))
-    (λ c κs. search needs) (λ c. search needs) put-line-requires (λ c. search needs) returns)
+    (λ c κs. search needs) (λ c. search needs) (λ c κs. rw (c .before .before .either .ensures) (search needs)) (λ c. search needs) returns)
