@@ -60,11 +60,7 @@ module _ (p : Plan) where
   hold-budget i q l u g =
       rw g (max-where-at (p .tasks) i (userOn p (processorOf p i) q) (λ j. holdTime p j q) l (rw (eq-eqb (processorOf p i) (processorOf p i) refl) u))
 
-  -- a budget is 0 exactly when none uses q or q is local
-  pub budget-local : (k q : ℕ) → global p q ≡ false → budget p k q ≡ 0
-  unfolding budget
-  budget-local k q g = rw g
-
+  -- a budget is 0 where none uses q
   pub budget-unused : (k q : ℕ) → usedOn p k q ≡ false → budget p k q ≡ 0
   unfolding budget usedOn
   budget-unused k q off =
@@ -257,14 +253,6 @@ module _ (p : Plan) (v : Valid p) where
   pub budget-low : (k q : ℕ) → usedOn p k q ≡ true → global p q ≡ true → 1 ≤ budget p k q
   budget-low k q u g =
       used-out p k q (1 ≤ budget p k q) u (λ i l e t. rw (← e) (omega (arith, hold-low i q t, hold-budget p i q l t g)))
-
-  pub budget-zero : (k q : ℕ) → eqb (budget p k q) 0 ≡ not (global p q && usedOn p k q)
-  budget-zero k q = go (global p q) (usedOn p k q) refl refl
-    where
-      go : (g u : Bool) → global p q ≡ g → usedOn p k q ≡ u → eqb (budget p k q) 0 ≡ not (g && u)
-      go true true e f = ne-eqb (budget p k q) 0 (λ z. omega (arith, budget-low k q f e))
-      go true false e f = eq-eqb (budget p k q) 0 (budget-unused p k q f)
-      go false u e f = eq-eqb (budget p k q) 0 (budget-local p k q e)
 
   pub budget-high : (k q : ℕ) → budget p k q ≤ mostBudget
   unfolding budget

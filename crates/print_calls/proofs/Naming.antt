@@ -16,7 +16,7 @@ use Rattle.machine_state.specs.Shows.{shows}
 use Rattle.machine.specs.Replies.{stateRefusal, callRefusal, reply}
 use Rattle.machine_calls.specs.declared.CallBytes.{CallBytes}
 use Rattle.machine_calls.specs.Calls.{callOf, callIn}
-use Rattle.print_lines.specs.Naming.{Nameable, Names}
+use Rattle.print_lines.specs.Inner.{Nameable, Names}
 
 module _ (p : Plan) (m : View) (tag q : ℕ) where
   request-below : requestCode p m tag q ≡ 0 → q < p .resources

@@ -9,27 +9,12 @@ pub plan-example : planLine (record { edition = 1; processors = 2; tasks = 2; re
 unfolding placesTo decimals
 plan-example = refl
 
-module _ (f : List ℕ) (bus : namePart f 0 ≡ quoted "bus") where
-  pub granted-example : answerLine f 20 0 Granted ≡ quoted "granted 20 bus\n"
-  unfolding placesTo decimals
-  granted-example = rw bus
-
-  pub waits-example : answerLine f 10 0 (Waits 0 3) ≡ quoted "waits 10 bus 0 3\n"
-  unfolding placesTo decimals
-  waits-example = rw bus
-
-  pub next-example : answerLine f 10 0 (Next 20) ≡ quoted "released 10 bus to 20\n"
-  unfolding placesTo decimals
-  next-example = rw bus
-
-  pub free-example : answerLine f 10 0 Free ≡ quoted "released 10 bus free\n"
-  unfolding placesTo decimals
-  free-example = rw bus
-
-  pub tick-example : answerLine f 0 0 (Ticked 1 1) ≡ quoted "tick 1 1\n"
-  unfolding placesTo decimals
-  tick-example = refl
-
-  pub refused-example : answerLine f 20 0 (Refused 16) ≡ quoted "refused 16\n"
-  unfolding placesTo decimals
-  refused-example = refl
+pub answer-examples : (f : List ℕ) → namePart f 0 ≡ quoted "bus" →
+    (answerLine f 20 0 Granted ≡ quoted "granted 20 bus\n")
+    × (answerLine f 10 0 (Waits 0 3) ≡ quoted "waits 10 bus 0 3\n")
+    × (answerLine f 10 0 (Next 20) ≡ quoted "released 10 bus to 20\n")
+    × (answerLine f 10 0 Free ≡ quoted "released 10 bus free\n")
+    × (answerLine f 0 0 (Ticked 1 1) ≡ quoted "tick 1 1\n")
+    × (answerLine f 20 0 (Refused 16) ≡ quoted "refused 16\n")
+unfolding placesTo decimals
+answer-examples f bus = rw bus (refl, refl, refl, refl, refl, refl)

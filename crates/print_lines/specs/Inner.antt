@@ -1,14 +1,31 @@
--- How the code has the fields of a line, and how much room they take. None of this is a rule of document 01.
-use Prim.Native.Nat.{ℕ, _+_}
+-- When a resource has a name to print, how the code has the fields of a line, and how much room they take. None of this is a rule of
+-- document 01.
+use Prim.Native.Nat.{ℕ, suc, _+_, _<_, _≤_}
 use mathlib.Core.List.{List, [], _∷_, _++_}
-use Rattle.print_text.specs.Text.{quoted, decimal, signed, PutIn}
 use lib.ListN.{length}
-use Rattle.plan_reading.specs.Plan.{namePart}
+use Rattle.sizes.specs.Sizes.{mostNameBytes}
+use Rattle.print_text.specs.Text.{quoted, mostDigits, mostSigned, decimal, signed, PutIn}
+use Rattle.plan_reading.specs.Plan.{planOf, namePart, Checked}
+use Rattle.machine_rules.specs.declared.Answer.{Answer}
+use Rattle.machine_rules.specs.declared.Answer.the-variants.{Granted, Waits, Next, Free as Freed, Ticked, Refused}
 use Rattle.print_lines.specs.declared.Word.{Word}
 use Rattle.print_lines.specs.declared.Word.the-variants.{To, Free, Global, Local, Met, Unmet, Yes, No}
 use Rattle.print_lines.specs.declared.Field.{Field}
 use Rattle.print_lines.specs.declared.Field.the-variants.{Number, Signed, Name, Says, None}
-use Rattle.print_lines.specs.Naming.{Nameable}
+
+-- a plan in which resource q has a name
+pub record Nameable (f : List ℕ) (q : ℕ) : Type 0 where
+  pub plan : Checked f
+  pub below : q < planOf f .resources
+
+-- an answer that names a resource is one of such a plan
+abbrev pub Names : List ℕ → ℕ → Answer → Type 0
+Names f q Granted = Nameable f q
+Names f q (Waits ahead most) = Nameable f q
+Names f q (Next tag) = Nameable f q
+Names f q Freed = Nameable f q
+Names f q (Ticked cuts grants) = Unit {0}
+Names f q (Refused k) = Unit {0}
 
 -- what a word says
 abbrev pub wordText : Word → List ℕ
@@ -34,16 +51,24 @@ abbrev pub fieldsText : List ℕ → List Field → List ℕ
 fieldsText f [] = []
 fieldsText f (x ∷ fields) = fieldText f x ++ fieldsText f fields
 
+-- fields of which at most the first four are there
+abbrev pub fourFields : Field → Field → Field → Field → List Field
+fourFields a b c d = a ∷ b ∷ c ∷ d ∷ None ∷ None ∷ None ∷ None ∷ []
+
 -- a line of fields; where the fields are written out it computes to the same bytes as `lineText` of their texts
 abbrev pub fieldsLine : List ℕ → List ℕ → List Field → List ℕ
 fieldsLine f word fields = word ++ fieldsText f fields ++ quoted "\n"
 
+-- the most bytes of a word
+abbrev pub mostWord : ℕ
+mostWord = 6
+
 -- the most bytes that a field takes, with the space before it
 abbrev pub roomOf : Field → ℕ
-roomOf (Number n) = 21
-roomOf (Signed z) = 22
-roomOf (Name q) = 13
-roomOf (Says w) = 7
+roomOf (Number n) = suc mostDigits
+roomOf (Signed z) = suc mostSigned
+roomOf (Name q) = suc mostNameBytes
+roomOf (Says w) = suc mostWord
 roomOf None = 0
 
 -- those of all fields
@@ -67,6 +92,16 @@ Asking f None others = others
 abbrev pub AllNamed : List ℕ → List Field → Type 0
 AllNamed f [] = Unit {0}
 AllNamed f (x ∷ fields) = Asking f x (AllNamed f fields)
+
+-- what a field asks, and room for it from `at` on
+pub record FieldFits (f l : List ℕ) (at : ℕ) (x : Field) : Type 0 where
+  pub named : Asking f x (Unit {0})
+  pub room : at + roomOf x ≤ length l
+
+-- the same of all fields
+pub record FieldsFit (f l : List ℕ) (at : ℕ) (fields : List Field) : Type 0 where
+  pub named : AllNamed f fields
+  pub room : at + roomsOf fields ≤ length l
 
 -- a line of fields put at `at`, in the room that is reckoned for it
 abbrev pub LinePut : (before now : List ℕ) → ℕ → List ℕ → List ℕ → List Field → ℕ → Type 0

@@ -7,6 +7,10 @@ use Rattle.plan_reading.specs.Plan.{namePart}
 use Rattle.machine_rules.specs.declared.Answer.{Answer}
 use Rattle.machine_rules.specs.declared.Answer.the-variants.{Granted, Waits, Next, Free, Ticked, Refused}
 
+-- no line of an answer, a plan or a refusal is longer
+abbrev pub mostLine : ℕ
+mostLine = 96
+
 -- texts, each after a space
 abbrev pub spaced : List (List ℕ) → List ℕ
 spaced [] = []

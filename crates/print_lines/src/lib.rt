@@ -12,9 +12,9 @@ ghost use lib.ListN.{length};
 ghost use Rattle.print_text.specs.Text.{PutIn};
 ghost use Rattle.print_text.specs.Buffers.{handed, bufferWith};
 ghost use Rattle.print_lines.specs.declared.Field.the-variants.{Number, Signed, Name, Says};
-ghost use Rattle.print_lines.specs.Lines.{refusedLine, planLine, answerLine};
-ghost use Rattle.print_lines.specs.Naming.{Nameable, Names};
-ghost use Rattle.print_lines.specs.Inner.{fieldText, fieldsText, roomOf, roomsOf, lineRoom, Asking, AllNamed, LinePut};
+ghost use Rattle.print_lines.specs.Lines.{mostLine, refusedLine, planLine, answerLine};
+ghost use Rattle.print_lines.specs.Inner.{Nameable, Names, fieldText, fieldsText, fourFields};
+ghost use Rattle.print_lines.specs.Inner.{roomOf, roomsOf, lineRoom, AllNamed, FieldFits, FieldsFit, LinePut};
 
 // A word in a line.
 pub enum Word {
@@ -43,6 +43,9 @@ pub const FIELDS: usize = 8;
 // No field more.
 pub const NONE: Field = Field::None;
 
+// A buffer as long as this has room for every line of an answer, a plan or a refusal.
+pub const LINE: usize = 96;
+
 // One of two words.
 pub fn either(first: bool, yes: Word, no: Word) -> Field
     ensures { λ r. ⌜ r ≡ Says (cond first yes no) ⌝ }
@@ -55,8 +58,8 @@ pub fn either(first: bool, yes: Word, no: Word) -> Field
 
 // A space and a number.
 fn put_number(buf: &mut [u8], at: usize, n: u64) -> usize
-    requires { ⌜ at + 21 ≤ length (now buf) ⌝ }
-    ensures { λ r. ⌜ PutIn (now (buf .entry)) (now (buf .exit)) at 21 (fieldText [] (Number n)) r ⌝ }
+    requires { ⌜ at + roomOf (Number n) ≤ length (now buf) ⌝ }
+    ensures { λ r. ⌜ PutIn (now (buf .entry)) (now (buf .exit)) at (roomOf (Number n)) (fieldText [] (Number n)) r ⌝ }
 {
     let a = print_text::put(buf, at, b" ");
     print_text::put_decimal(buf, a, n)
@@ -64,8 +67,8 @@ fn put_number(buf: &mut [u8], at: usize, n: u64) -> usize
 
 // A space and a number that may be below zero.
 fn put_signed(buf: &mut [u8], at: usize, z: i64) -> usize
-    requires { ⌜ at + 22 ≤ length (now buf) ⌝ }
-    ensures { λ r. ⌜ PutIn (now (buf .entry)) (now (buf .exit)) at 22 (fieldText [] (Signed z)) r ⌝ }
+    requires { ⌜ at + roomOf (Signed z) ≤ length (now buf) ⌝ }
+    ensures { λ r. ⌜ PutIn (now (buf .entry)) (now (buf .exit)) at (roomOf (Signed z)) (fieldText [] (Signed z)) r ⌝ }
 {
     let a = print_text::put(buf, at, b" ");
     print_text::put_signed(buf, a, z)
@@ -73,8 +76,8 @@ fn put_signed(buf: &mut [u8], at: usize, z: i64) -> usize
 
 // A space and the name of a resource.
 fn put_name(buf: &mut [u8], at: usize, file: &[u8], resource: u8) -> usize
-    requires { ⌜ (Nameable (now file) resource) × (at + 13 ≤ length (now buf)) ⌝ }
-    ensures { λ r. ⌜ PutIn (now (buf .entry)) (now (buf .exit)) at 13 (fieldText (now (file .entry)) (Name resource)) r ⌝ }
+    requires { ⌜ (Nameable (now file) resource) × (at + roomOf (Name resource) ≤ length (now buf)) ⌝ }
+    ensures { λ r. ⌜ PutIn (now (buf .entry)) (now (buf .exit)) at (roomOf (Name resource)) (fieldText (now (file .entry)) (Name resource)) r ⌝ }
 {
     let a = print_text::put(buf, at, b" ");
     print_text::put(buf, a, plan_reading::checked::name(file, resource))
@@ -82,8 +85,8 @@ fn put_name(buf: &mut [u8], at: usize, file: &[u8], resource: u8) -> usize
 
 // A space and a word.
 fn put_word(buf: &mut [u8], at: usize, word: Word) -> usize
-    requires { ⌜ at + 7 ≤ length (now buf) ⌝ }
-    ensures { λ r. ⌜ PutIn (now (buf .entry)) (now (buf .exit)) at 7 (fieldText [] (Says word)) r ⌝ }
+    requires { ⌜ at + roomOf (Says word) ≤ length (now buf) ⌝ }
+    ensures { λ r. ⌜ PutIn (now (buf .entry)) (now (buf .exit)) at (roomOf (Says word)) (fieldText [] (Says word)) r ⌝ }
 {
     match word {
         Word::To => print_text::put(buf, at, b" to"),
@@ -99,7 +102,7 @@ fn put_word(buf: &mut [u8], at: usize, word: Word) -> usize
 
 // A field, after a space.
 fn put_field(buf: &mut [u8], at: usize, file: &[u8], field: Field) -> usize
-    requires { ⌜ (Asking (now file) field (Unit {0})) × (at + roomOf field ≤ length (now buf)) ⌝ }
+    requires { ⌜ FieldFits (now file) (now buf) at field ⌝ }
     ensures { λ r. ⌜ PutIn (now (buf .entry)) (now (buf .exit)) at (roomOf field) (fieldText (now (file .entry)) field) r ⌝ }
 {
     match field {
@@ -113,7 +116,7 @@ fn put_field(buf: &mut [u8], at: usize, file: &[u8], field: Field) -> usize
 
 // One field behind the other.
 fn put_fields(buf: &mut [u8], at: usize, file: &[u8], fields: [Field; FIELDS]) -> usize
-    requires { ⌜ (AllNamed (now file) fields) × (at + roomsOf fields ≤ length (now buf)) ⌝ }
+    requires { ⌜ FieldsFit (now file) (now buf) at fields ⌝ }
     ensures { λ r. ⌜ PutIn (now (buf .entry)) (now (buf .exit)) at (roomsOf fields) (fieldsText (now (file .entry)) fields) r ⌝ }
 {
     let mut end = at;
@@ -144,8 +147,8 @@ pub fn put_line(
 
 // "refused N".
 pub fn put_refused(buf: &mut [u8], at: usize, number: u8) -> usize
-    requires { ⌜ at + 96 ≤ length (now buf) ⌝ }
-    ensures { λ r. ⌜ PutIn (now (buf .entry)) (now (buf .exit)) at 96 (refusedLine number) r ⌝ }
+    requires { ⌜ at + mostLine ≤ length (now buf) ⌝ }
+    ensures { λ r. ⌜ PutIn (now (buf .entry)) (now (buf .exit)) at mostLine (refusedLine number) r ⌝ }
 {
     let code = Field::Number(number as u64);
     put_line(
@@ -162,21 +165,28 @@ pub fn refused_line(number: u8, out: &mut [u8]) -> Handed
     ensures { λ r. ⌜ r ≡ handed (refusedLine number) (length (now (out .entry))) ⌝ }
     ensures { λ r. ⌜ now (out .exit) ≡ bufferWith (refusedLine number) (now (out .entry)) ⌝ }
 {
-    let mut line = [0u8; 96];
+    let mut line = [0u8; LINE];
     let end = put_refused(&mut line, 0, number);
     print_text::hand_over(&line[0..end], out)
 }
 
 // "plan P N R S".
 pub fn put_plan(buf: &mut [u8], at: usize, counts: Counts) -> usize
-    requires { ⌜ at + 96 ≤ length (now buf) ⌝ }
-    ensures { λ r. ⌜ PutIn (now (buf .entry)) (now (buf .exit)) at 96 (planLine counts) r ⌝ }
+    requires { ⌜ at + mostLine ≤ length (now buf) ⌝ }
+    ensures { λ r. ⌜ PutIn (now (buf .entry)) (now (buf .exit)) at mostLine (planLine counts) r ⌝ }
 {
     let p = Field::Number(counts.processors as u64);
     let n = Field::Number(counts.tasks as u64);
     let r = Field::Number(counts.resources as u64);
     let s = Field::Number(counts.sections as u64);
     put_line(buf, at, b"", b"plan", [p, n, r, s, NONE, NONE, NONE, NONE])
+}
+
+// The fields of a line that has at most four.
+fn four(a: Field, b: Field, c: Field, d: Field) -> [Field; FIELDS]
+    ensures { λ r. ⌜ r ≡ fourFields a b c d ⌝ }
+{
+    [a, b, c, d, NONE, NONE, NONE, NONE]
 }
 
 // The line of an answer.
@@ -188,63 +198,31 @@ pub fn put_answer(
     resource: u8,
     answer: Answer,
 ) -> usize
-    requires { ⌜ (Names (now file) resource answer) × (at + 96 ≤ length (now buf)) ⌝ }
-    ensures { λ r. ⌜ PutIn (now (buf .entry)) (now (buf .exit)) at 96 (answerLine (now (file .entry)) tag resource answer) r ⌝ }
+    requires { ⌜ (Names (now file) resource answer) × (at + mostLine ≤ length (now buf)) ⌝ }
+    ensures { λ r. ⌜ PutIn (now (buf .entry)) (now (buf .exit)) at mostLine (answerLine (now (file .entry)) tag resource answer) r ⌝ }
 {
     let tag = Field::Number(tag as u64);
     let name = Field::Name(resource);
     match answer {
-        Answer::Granted => {
-            put_line(
-                buf,
-                at,
-                file,
-                b"granted",
-                [tag, name, NONE, NONE, NONE, NONE, NONE, NONE],
-            )
-        }
+        Answer::Granted => put_line(buf, at, file, b"granted", four(tag, name, NONE, NONE)),
         Answer::Waits(ahead, most) => {
             let ahead = Field::Number(ahead as u64);
             let limit = Field::Number(most as u64);
-            put_line(
-                buf,
-                at,
-                file,
-                b"waits",
-                [tag, name, ahead, limit, NONE, NONE, NONE, NONE],
-            )
+            put_line(buf, at, file, b"waits", four(tag, name, ahead, limit))
         }
         Answer::Next(next) => {
             let to = Field::Says(Word::To);
             let next = Field::Number(next as u64);
-            put_line(
-                buf,
-                at,
-                file,
-                b"released",
-                [tag, name, to, next, NONE, NONE, NONE, NONE],
-            )
+            put_line(buf, at, file, b"released", four(tag, name, to, next))
         }
         Answer::Free => {
             let free = Field::Says(Word::Free);
-            put_line(
-                buf,
-                at,
-                file,
-                b"released",
-                [tag, name, free, NONE, NONE, NONE, NONE, NONE],
-            )
+            put_line(buf, at, file, b"released", four(tag, name, free, NONE))
         }
         Answer::Ticked(cuts, grants) => {
             let cuts = Field::Number(cuts as u64);
             let grants = Field::Number(grants as u64);
-            put_line(
-                buf,
-                at,
-                file,
-                b"tick",
-                [cuts, grants, NONE, NONE, NONE, NONE, NONE, NONE],
-            )
+            put_line(buf, at, file, b"tick", four(cuts, grants, NONE, NONE))
         }
         Answer::Refused(code) => put_refused(buf, at, code),
     }

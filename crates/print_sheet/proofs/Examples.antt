@@ -5,22 +5,12 @@ use Rattle.print_text.specs.Text.{quoted, placesTo, decimals}
 use Rattle.plan_reading.specs.Plan.{namePart}
 use Rattle.print_sheet.specs.Sheet.{resourceLine, budgetLine, holdLine, requirementLine, admittedLine}
 
-module _ (f : List ℕ) (bus : namePart f 0 ≡ quoted "bus") where
-  pub resource-example : resourceLine f 0 true ≡ quoted "resource bus global\n"
-  resource-example = rw bus
-
-  pub budget-example : budgetLine f 1 0 3 2 ≡ quoted "budget 1 bus 3 2\n"
-  unfolding placesTo decimals
-  budget-example = rw bus
-
-  pub hold-example : holdLine f 10 0 2 0 3 ≡ quoted "hold 10 bus 2 0 3\n"
-  unfolding placesTo decimals
-  hold-example = rw bus
-
--- C7's slack is -4
-pub requirement-example : requirementLine 10 (record { blocking1 = 0; blocking2 = 4; tolerance = pos 0; slack = negsuc 3; side = 0; met = false }) ≡ quoted "requirement 10 0 4 0 -4 0 unmet\n"
+-- the slack of the requirement, C7's, is -4
+pub sheet-examples : (f : List ℕ) → namePart f 0 ≡ quoted "bus" →
+    (resourceLine f 0 true ≡ quoted "resource bus global\n")
+    × (budgetLine f 1 0 3 2 ≡ quoted "budget 1 bus 3 2\n")
+    × (holdLine f 10 0 2 0 3 ≡ quoted "hold 10 bus 2 0 3\n")
+    × (requirementLine 10 (record { blocking1 = 0; blocking2 = 4; tolerance = pos 0; slack = negsuc 3; side = 0; met = false }) ≡ quoted "requirement 10 0 4 0 -4 0 unmet\n")
+    × (admittedLine true ≡ quoted "admitted yes\n")
 unfolding placesTo decimals
-requirement-example = refl
-
-pub admitted-example : admittedLine true ≡ quoted "admitted yes\n"
-admitted-example = refl
+sheet-examples f bus = rw bus (refl, refl, refl, refl, refl)

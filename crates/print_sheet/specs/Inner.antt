@@ -1,34 +1,112 @@
--- What the private functions of this crate are given, and what one of them gives. None of this is a rule.
-use Prim.Native.Nat.{ℕ, _+_, _<_, _≤_}
+-- How much room the lines of a sheet take, what the private functions of this crate are given, and what some of them give. None of this
+-- is a rule.
+use Prim.Native.Nat.{ℕ, _+_, _*_, _<_, _≤_}
 use mathlib.Core.Bool.{Bool, _||_, not}
 use mathlib.Core.List.{List}
 use mathlib.Core.Path.{_≡_}
 use lib.ListN.{length}
+use Rattle.sizes.specs.Sizes.{mostProcessors, mostTasks, mostResources}
+use Rattle.print_text.specs.declared.Handed.{Handed}
 use Rattle.print_text.specs.Text.{PutIn}
+use Rattle.print_text.specs.Buffers.{handed, bufferWith}
 use Rattle.plan_reading.specs.Plan.{planOf}
 use Rattle.analysis_equations.specs.Requirement.{asks, met, admitted}
 use Rattle.analysis_figures.specs.Figures.{Known}
 use Rattle.analysis_requirements.specs.Terms.{Prepared}
 use Rattle.print_sheet.specs.declared.Required.{Required}
-use Rattle.print_sheet.specs.Sheet.{requirementAt, requirementLines}
-use Rattle.print_sheet.specs.Rooms.{requirementRoom, requirementsRoom}
+use Rattle.print_sheet.specs.Sheet.{requirementAt, requirementLines, planSheet, mostSheet}
+
+-- the most bytes of the line of a resource
+abbrev pub resourceRoom : ℕ
+resourceRoom = 32
+
+-- of a processor and a resource
+abbrev pub budgetRoom : ℕ
+budgetRoom = 96
+
+-- of a task and a resource
+abbrev pub holdRoom : ℕ
+holdRoom = 104
+
+-- of a requirement
+abbrev pub requirementRoom : ℕ
+requirementRoom = 160
+
+-- of the last line
+abbrev pub admittedRoom : ℕ
+admittedRoom = 16
+
+-- the most bytes of the lines of all resources
+abbrev pub resourcesRoom : ℕ
+resourcesRoom = mostResources * resourceRoom
+
+-- of the budgets of one processor
+abbrev pub budgetsOfRoom : ℕ
+budgetsOfRoom = mostResources * budgetRoom
+
+-- of all budgets
+abbrev pub budgetsRoom : ℕ
+budgetsRoom = mostProcessors * budgetsOfRoom
+
+-- of the hold times of one task
+abbrev pub holdsOfRoom : ℕ
+holdsOfRoom = mostResources * holdRoom
+
+-- of all hold times
+abbrev pub holdsRoom : ℕ
+holdsRoom = mostTasks * holdsOfRoom
+
+-- of budgets and hold times
+abbrev pub figuresRoom : ℕ
+figuresRoom = budgetsRoom + holdsRoom
+
+-- of all requirements
+abbrev pub requirementsRoom : ℕ
+requirementsRoom = mostTasks * requirementRoom
+
+-- of those and the last line
+abbrev pub verdictRoom : ℕ
+verdictRoom = requirementsRoom + admittedRoom
 
 -- a checked plan with the table of its figures, and so much room from `at` on
 pub record Ready (f figures l : List ℕ) (at most : ℕ) : Type 0 where
   pub known : Known f figures
   pub room : at + most ≤ length l
 
--- the same, and a resource of the plan
+-- such a plan and table, and a resource that the table has a place for
+pub record Column (f figures : List ℕ) (q : ℕ) : Type 0 where
+  pub known : Known f figures
+  pub resource : q < mostResources
+
+-- the first, and one of n processors or tasks
+pub record ReadyOf (f figures l : List ℕ) (at most n i : ℕ) : Type 0 where
+  pub known : Known f figures
+  pub room : at + most ≤ length l
+  pub row : i < n
+
+-- the first, and a resource of the plan
 pub record Cell (f figures l : List ℕ) (at most q : ℕ) : Type 0 where
   pub known : Known f figures
   pub room : at + most ≤ length l
   pub resource : q < planOf f .resources
 
--- the same with the table of terms, and a task of the plan
+-- that, and one of n processors or tasks
+pub record CellOf (f figures l : List ℕ) (at most n i q : ℕ) : Type 0 where
+  pub known : Known f figures
+  pub room : at + most ≤ length l
+  pub row : i < n
+  pub resource : q < planOf f .resources
+
+-- a checked plan with both its tables, room for a requirement, and a task of the plan
 pub record Row (f figures terms l : List ℕ) (at i : ℕ) : Type 0 where
   pub prepared : Prepared f figures terms
   pub room : at + requirementRoom ≤ length l
   pub task : i < planOf f .tasks
+
+-- both tables, and room for all requirements
+pub record Rows (f figures terms l : List ℕ) (at : ℕ) : Type 0 where
+  pub prepared : Prepared f figures terms
+  pub room : at + requirementsRoom ≤ length l
 
 -- whether a task passes: it asks for nothing, or what it asks is met
 abbrev pub passes : List ℕ → ℕ → Bool
@@ -39,9 +117,16 @@ pub record PutAll (before now : List ℕ) (at room : ℕ) (text : List ℕ) (ok 
   pub put : PutIn before now at room text (r .end)
   pub all : r .all ≡ ok
 
--- that of task i, and of all tasks
+-- that of task i
 abbrev pub RowPut : List ℕ → ℕ → (before now : List ℕ) → ℕ → Required → Type 0
 RowPut f i before now at r = PutAll before now at requirementRoom (requirementAt f i) (passes f i) r
 
+-- that of all tasks
 abbrev pub RowsPut : List ℕ → (before now : List ℕ) → ℕ → Required → Type 0
 RowsPut f before now at r = PutAll before now at requirementsRoom (requirementLines f) (admitted (planOf f)) r
+
+-- a sheet that was put together aside and handed over
+pub record AsideSheet (f before now : List ℕ) (r : Handed) : Type 0 where
+  pub line : r ≡ handed (planSheet f) (length before)
+  pub buffer : now ≡ bufferWith (planSheet f) before
+  pub within : r .length ≤ mostSheet

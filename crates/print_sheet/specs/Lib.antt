@@ -1,3 +1,2 @@
 pub mod Sheet
-pub mod Rooms
 pub mod Inner

@@ -5,20 +5,20 @@ use print_lines::NONE;
 use print_lines::Word;
 use print_lines::put_line;
 use print_text::Handed;
+ghost use mathlib.Core.Bool.{_&&_};
 ghost use mathlib.Core.Path.{_≡_};
 ghost use Prim.Native.Nat.{_+_, _≤_, _<_};
 ghost use lib.ListN.{length};
 ghost use Rattle.print_text.specs.Text.{PutIn};
-ghost use Rattle.print_text.specs.Buffers.{handed, bufferWith};
 ghost use Rattle.plan_reading.specs.Plan.{planOf, Checked};
-ghost use Rattle.analysis_requirements.specs.Terms.{Prepared};
+ghost use Rattle.analysis_equations.specs.Sharing.{usedOn, global};
 ghost use Rattle.print_sheet.specs.Sheet.{requirementLine, admittedLine, resourceAt, budgetAt, holdLineAt};
 ghost use Rattle.print_sheet.specs.Sheet.{resourceLines, budgetLinesOf, budgetLines, holdLinesOf, holdLines, figureLines, verdictLines};
 ghost use Rattle.print_sheet.specs.Sheet.{planSheet, mostSheet, sheetLine, sheetIn};
-ghost use Rattle.print_sheet.specs.Rooms.{resourceRoom, budgetRoom, holdRoom, requirementRoom, admittedRoom};
-ghost use Rattle.print_sheet.specs.Rooms.{resourcesRoom, budgetsOfRoom, budgetsRoom, holdsOfRoom, holdsRoom};
-ghost use Rattle.print_sheet.specs.Rooms.{figuresRoom, requirementsRoom, verdictRoom};
-ghost use Rattle.print_sheet.specs.Inner.{Ready, Cell, Row, RowPut, RowsPut};
+ghost use Rattle.print_sheet.specs.Inner.{resourceRoom, budgetRoom, holdRoom, requirementRoom, admittedRoom};
+ghost use Rattle.print_sheet.specs.Inner.{resourcesRoom, budgetsOfRoom, budgetsRoom, holdsOfRoom, holdsRoom};
+ghost use Rattle.print_sheet.specs.Inner.{figuresRoom, verdictRoom};
+ghost use Rattle.print_sheet.specs.Inner.{Ready, ReadyOf, Column, Cell, CellOf, Row, Rows, RowPut, RowsPut, AsideSheet};
 
 // A buffer as long as this has room for every sheet.
 pub const SHEET: usize = 131072;
@@ -61,16 +61,35 @@ fn put_resources(buf: &mut [u8], at: usize, file: &[u8], figures: &[u16]) -> usi
     end
 }
 
-// "budget K NAME B W", where processor k uses q and q is global: where it has a budget on q.
+// Whether q is global and processor k uses it: whether one of its tasks has a hold time of q.
+fn uses(file: &[u8], figures: &[u16], k: u8, q: usize) -> bool
+    requires { ⌜ Column (now file) (now figures) q ⌝ }
+    ensures { λ r. ⌜ r ≡ (global (planOf (now (file .entry))) q && usedOn (planOf (now (file .entry))) k q) ⌝ }
+{
+    let counts = plan_reading::checked::counts(file);
+    let n = folds::wide(counts.tasks);
+    let mut i = 0;
+    while i < n {
+        let row = plan_reading::checked::task(file, i);
+        let hold = analysis_figures::hold_at(figures, i, q);
+        if (row.processor == k) & (hold != 0) {
+            return true;
+        }
+        i += 1;
+    }
+    false
+}
+
+// "budget K NAME B W", where processor k uses q and q is global.
 fn put_budget_at(buf: &mut [u8], at: usize, file: &[u8], figures: &[u16], k: u8, q: u8) -> usize
-    requires { ⌜ (Cell (now file) (now figures) (now buf) at budgetRoom q) × (k < planOf (now file) .processors) ⌝ }
+    requires { ⌜ CellOf (now file) (now figures) (now buf) at budgetRoom (planOf (now file) .processors) k q ⌝ }
     ensures { λ r. ⌜ PutIn (now (buf .entry)) (now (buf .exit)) at budgetRoom (budgetAt (now (file .entry)) k q) r ⌝ }
 {
     let column = folds::wide(q);
-    let budget = analysis_figures::budget_at(figures, folds::wide(k), column);
-    if budget == 0 {
+    if !uses(file, figures, k, column) {
         return at;
     }
+    let budget = analysis_figures::budget_at(figures, folds::wide(k), column);
     let wait = analysis_figures::wait_in(file, figures, k, column);
     let core = Field::Number(k as u64);
     let name = Field::Name(q);
@@ -87,7 +106,7 @@ fn put_budget_at(buf: &mut [u8], at: usize, file: &[u8], figures: &[u16], k: u8,
 
 // The lines of processor k.
 fn put_budgets_of(buf: &mut [u8], at: usize, file: &[u8], figures: &[u16], k: u8) -> usize
-    requires { ⌜ (Ready (now file) (now figures) (now buf) at budgetsOfRoom) × (k < planOf (now file) .processors) ⌝ }
+    requires { ⌜ ReadyOf (now file) (now figures) (now buf) at budgetsOfRoom (planOf (now file) .processors) k ⌝ }
     ensures { λ r. ⌜ PutIn (now (buf .entry)) (now (buf .exit)) at budgetsOfRoom (budgetLinesOf (now (file .entry)) k) r ⌝ }
 {
     let counts = plan_reading::checked::counts(file);
@@ -117,7 +136,7 @@ fn put_budgets(buf: &mut [u8], at: usize, file: &[u8], figures: &[u16]) -> usize
 
 // "hold TAG NAME H FELLOWS LONGEST", where task i has a section on q and q is global: where it has a hold time.
 fn put_hold_at(buf: &mut [u8], at: usize, file: &[u8], figures: &[u16], i: usize, q: u8) -> usize
-    requires { ⌜ (Cell (now file) (now figures) (now buf) at holdRoom q) × (i < planOf (now file) .tasks) ⌝ }
+    requires { ⌜ CellOf (now file) (now figures) (now buf) at holdRoom (planOf (now file) .tasks) i q ⌝ }
     ensures { λ r. ⌜ PutIn (now (buf .entry)) (now (buf .exit)) at holdRoom (holdLineAt (now (file .entry)) i q) r ⌝ }
 {
     let column = folds::wide(q);
@@ -143,7 +162,7 @@ fn put_hold_at(buf: &mut [u8], at: usize, file: &[u8], figures: &[u16], i: usize
 
 // The lines of task i.
 fn put_holds_of(buf: &mut [u8], at: usize, file: &[u8], figures: &[u16], i: usize) -> usize
-    requires { ⌜ (Ready (now file) (now figures) (now buf) at holdsOfRoom) × (i < planOf (now file) .tasks) ⌝ }
+    requires { ⌜ ReadyOf (now file) (now figures) (now buf) at holdsOfRoom (planOf (now file) .tasks) i ⌝ }
     ensures { λ r. ⌜ PutIn (now (buf .entry)) (now (buf .exit)) at holdsOfRoom (holdLinesOf (now (file .entry)) i) r ⌝ }
 {
     let counts = plan_reading::checked::counts(file);
@@ -234,7 +253,7 @@ fn put_requirements(
     figures: &[u16],
     terms: &[u16],
 ) -> Required
-    requires { ⌜ (Prepared (now file) (now figures) (now terms)) × (at + requirementsRoom ≤ length (now buf)) ⌝ }
+    requires { ⌜ Rows (now file) (now figures) (now terms) (now buf) at ⌝ }
     ensures { λ r. ⌜ RowsPut (now (file .entry)) (now (buf .entry)) (now (buf .exit)) at r ⌝ }
 {
     let counts = plan_reading::checked::counts(file);
@@ -301,9 +320,7 @@ fn put_plan_sheet(buf: &mut [u8], file: &[u8]) -> usize
 // The sheet of a checked plan by way of a buffer of its own, for a lent one that may be too short for it.
 fn sheet_aside(file: &[u8], out: &mut [u8]) -> Handed
     requires { ⌜ Checked (now file) ⌝ }
-    ensures { λ r. ⌜ r ≡ handed (planSheet (now (file .entry))) (length (now (out .entry))) ⌝ }
-    ensures { λ r. ⌜ now (out .exit) ≡ bufferWith (planSheet (now (file .entry))) (now (out .entry)) ⌝ }
-    ensures { λ r. ⌜ r .length ≤ mostSheet ⌝ }
+    ensures { λ r. ⌜ AsideSheet (now (file .entry)) (now (out .entry)) (now (out .exit)) r ⌝ }
 {
     let mut buf = [0u8; SHEET];
     let end = put_plan_sheet(&mut buf, file);

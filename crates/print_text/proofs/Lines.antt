@@ -1,5 +1,6 @@
 -- Texts at the front of a lent buffer: one that is too short for them, and one that is long enough.
-use Rattle.folds.proofs.Ground.{ℕ, _-_, _<_, _≤_, Bool, true, false, cond, _≡_, refl, sym, ap, _∙_, List, [], _++_, leb, eqb, length, take, drop, zero-add, arith, leb-true, le-leb, lt-leb, eq-eqb, ne-eqb}
+use Rattle.folds.proofs.Ground.{ℕ, _-_, _<_, _≤_, Bool, true, false, cond, _≡_, refl, sym, ap, _∙_, List, [], leb, length, take, drop, zero-add, arith, leb-true, le-leb, lt-leb, eq-eqb, ne-eqb}
+use Rattle.refusals.specs.Numbers.{noRoom}
 use Rattle.print_text.specs.declared.Handed.{Handed}
 use Rattle.print_text.specs.Text.{Put}
 use Rattle.print_text.specs.Buffers.{handed, bufferWith, handedUnless, bufferUnless}
@@ -10,7 +11,7 @@ pub front-part : {l m text : List ℕ} {e : ℕ} → Put l m 0 text e → take (
 front-part {m = m} {e = e} p = ap (λ (k : ℕ). take k m) (let z : e - 0 ≡ e = omega arith in z) ∙ put-front p
 
 module _ (text l : List ℕ) where
-  pub short-line : length l < length text → (record { refusal = 10; length = 0 } ≡ handed text (length l)) × (l ≡ bufferWith text l)
+  pub short-line : length l < length text → (record { refusal = noRoom; length = 0 } ≡ handed text (length l)) × (l ≡ bufferWith text l)
   unfolding handed bufferWith
   short-line h = (rw (lt-leb _ _ h), rw (lt-leb _ _ h))
 
@@ -20,21 +21,21 @@ module _ (text l : List ℕ) where
 
 -- a line is no longer than the buffer that it is for, nor than its text
 module _ (text : List ℕ) (n : ℕ) {r : Handed} (e : r ≡ handed text n) where
-  pub line-fits : r .length ≤ n
+  line-both : (r .length ≤ n) × (r .length ≤ length text)
   unfolding handed
-  line-fits = rw e (go (leb (length text) n) refl)
+  line-both = rw e (go (leb (length text) n) refl)
     where
-      go : (b : Bool) → leb (length text) n ≡ b → (cond {A = Handed} b (record { refusal = 0; length = length text }) (record { refusal = 10; length = 0 })) .length ≤ n
-      go true e = leb-true _ _ e
-      go false e = omega arith
+      go : (b : Bool) → leb (length text) n ≡ b
+          → let h = cond {A = Handed} b (record { refusal = 0; length = length text }) (record { refusal = noRoom; length = 0 }) in
+          (h .length ≤ n) × (h .length ≤ length text)
+      go true e = (leb-true _ _ e, omega arith)
+      go false e = (omega arith, omega arith)
+
+  pub line-fits : r .length ≤ n
+  line-fits = line-both .0
 
   pub line-short : r .length ≤ length text
-  unfolding handed
-  line-short = rw e (go (leb (length text) n))
-    where
-      go : (b : Bool) → (cond {A = Handed} b (record { refusal = 0; length = length text }) (record { refusal = 10; length = 0 })) .length ≤ length text
-      go true = omega arith
-      go false = omega arith
+  line-short = line-both .1
 
 -- a number that comes before the 10, or none
 module _ {code k : ℕ} (e : code ≡ k) (text l : List ℕ) where

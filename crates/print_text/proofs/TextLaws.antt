@@ -4,7 +4,7 @@ use lib.IntN.{ℤ, pos, negsuc}
 use mir.Syntax.{w64}
 use mir.Val.{SFits, toZ, ofZ}
 use mir.Facts.{toZ-ofZ}
-use Rattle.print_text.specs.Text.{quoted, placesTo, decimals, decimal, signed, textBelow, valueFrom, valueOf, Put, PutIn}
+use Rattle.print_text.specs.Text.{quoted, placesTo, decimals, decimal, signed, valueFrom, valueOf, Put, PutIn}
 
 -- what a buffer holds up to where a text ends, and from there on; the place may lie behind the buffer's end too
 front : (at : ℕ) (l a : List ℕ) → take (at + length a) (take at l ++ (a ++ drop (at + length a) l)) ≡ take at l ++ a
@@ -18,22 +18,6 @@ behind (suc at) k [] a =
     rw (drop-nil (suc at + length a), append-nil, drop-nil) (drop-of-length-le a {i = suc at + length a + k} (omega arith))
 behind (suc at) k (x ∷ l) a = rw (suc-add, suc-add) (behind at k l a)
 
--- no text
-pub put-none : (l : List ℕ) (at : ℕ) → Put l l at [] at
-put-none l at = record { held = rw add-zero (sym (take-append-drop at l)); ends = sym (add-zero at) }
-
--- one text and then another where it ends. `put-then (put-then p q) r` is of `a ++ b ++ c`, `put-then p (put-then q r)` of
--- `a ++ (b ++ c)`
-pub put-then : {l m n a b : List ℕ} {at e f : ℕ} → Put l m at a e → Put m n e b f → Put l n at (a ++ b) f
-put-then {l} {m} {n} {a} {b} {at} {e} {f} p q =
-    let k : at + length a + length b ≡ at + length (a ++ b) = omega (arith, length-append a b) in
-    let t : take e m ≡ take at l ++ a = rw (p .ends, p .held) (front at l a) in
-    let d : drop (e + length b) m ≡ drop (at + length (a ++ b)) l = rw (p .ends, p .held, ← k) (behind at (length b) l a) in
-    record {
-      held = q .held ∙ rw (t, d) (append-assoc (take at l) a _ ∙ ap (λ (r : List ℕ). take at l ++ r) (sym (append-assoc a b _)));
-      ends = q .ends ∙ rw (p .ends) k;
-    }
-
 -- what a buffer holds up to where the text ends, behind that, and its length
 pub put-front : {l m a : List ℕ} {at e : ℕ} → Put l m at a e → take e m ≡ take at l ++ a
 put-front {l} {m} {a} {at} p = rw (p .ends, p .held) (front at l a)
@@ -46,6 +30,21 @@ put-length {l} {m} {a} {at} p h =
     ap length (p .held) ∙ length-append (take at l) (a ++ drop (at + length a) l)
     ∙ omega (arith, length-append a (drop (at + length a) l), length-take-le at l (omega arith), length-drop (at + length a) l)
 
+-- no text
+pub put-none : (l : List ℕ) (at : ℕ) → Put l l at [] at
+put-none l at = record { held = rw add-zero (sym (take-append-drop at l)); ends = sym (add-zero at) }
+
+-- one text and then another where it ends. `put-then (put-then p q) r` is of `a ++ b ++ c`, `put-then p (put-then q r)` of
+-- `a ++ (b ++ c)`
+pub put-then : {l m n a b : List ℕ} {at e f : ℕ} → Put l m at a e → Put m n e b f → Put l n at (a ++ b) f
+put-then {l} {m} {n} {a} {b} {at} {e} {f} p q =
+    let k : at + length a + length b ≡ at + length (a ++ b) = omega (arith, length-append a b) in
+    let d : drop (e + length b) m ≡ drop (at + length (a ++ b)) l = rw (p .ends, p .held, ← k) (behind at (length b) l a) in
+    record {
+      held = q .held ∙ rw (put-front p, d) (append-assoc (take at l) a _ ∙ ap (λ (r : List ℕ). take at l ++ r) (sym (append-assoc a b _)));
+      ends = q .ends ∙ rw (p .ends) k;
+    }
+
 -- the same with the room that they take
 pub put-in : {l m a : List ℕ} {at e : ℕ} (room : ℕ) → Put l m at a e → length a ≤ room → PutIn l m at room a e
 put-in room p h = record { put = p; within = omega (arith, p .ends) }
@@ -55,15 +54,6 @@ put-wider more p h = record { put = p .put; within = omega (arith, p .within) }
 
 pub put-in-then : {l m n a b : List ℕ} {at e f r s : ℕ} → PutIn l m at r a e → PutIn m n e s b f → PutIn l n at (r + s) (a ++ b) f
 put-in-then p q = record { put = put-then (p .put) (q .put); within = omega (arith, p .within, q .within) }
-
--- the texts of the numbers below one more, and of none
-pub below-more : (n : ℕ) (text : ℕ → List ℕ) → textBelow (suc n) text ≡ textBelow n text ++ text n
-unfolding textBelow
-below-more n text = refl
-
-pub below-none : (text : ℕ → List ℕ) → textBelow 0 text ≡ []
-unfolding textBelow
-below-none text = refl
 
 -- the text of an integer, as the machine has it
 pub put-held : {l m : List ℕ} {at e room : ℕ} (text : ℤ → List ℕ) (z : ℤ) → SFits w64 z → PutIn l m at room (text (toZ w64 (ofZ w64 z))) e → PutIn l m at room (text z) e
@@ -107,13 +97,6 @@ pub digits-length : (k n : ℕ) → length (decimals k n) ≡ k
 unfolding decimals
 digits-length zero n = refl
 digits-length (suc k) n = omega (arith, length-append (decimals k (n / 10)) ((48 + n % 10) ∷ []), digits-length k (n / 10))
-
--- how long a number is in decimal
-pub decimal-length : (n : ℕ) → length (decimal n) ≤ 20
-decimal-length n = rw digits-length (places-high 19 n)
-
-pub decimal-some : (n : ℕ) → 1 ≤ length (decimal n)
-decimal-some n = rw digits-length (places-low 19 n)
 
 -- a digit read after others
 value-last : (so d : ℕ) (text : List ℕ) → valueFrom so (text ++ (d ∷ [])) ≡ valueFrom so text * 10 + (d - 48)
@@ -159,33 +142,14 @@ pub decimal-first : (n : ℕ) → 0 < n → n < 10 ^ 20 → 49 ≤ getD (decimal
 decimal-first n h l = digits-first 19 n h l
 
 -- examples
-pub quoted-bus : quoted "bus" ≡ 98 ∷ 117 ∷ 115 ∷ []
-quoted-bus = refl
-
-pub decimal-0 : decimal 0 ≡ quoted "0"
-unfolding placesTo decimals
-decimal-0 = refl
-
-pub decimal-65535 : decimal 65535 ≡ quoted "65535"
-unfolding placesTo decimals
-decimal-65535 = refl
-
-pub decimal-largest : decimal 18446744073709551615 ≡ quoted "18446744073709551615"
-unfolding placesTo decimals
-decimal-largest = refl
-
-pub value-65535 : valueOf (quoted "65535") ≡ 65535
-unfolding valueFrom
-value-65535 = refl
-
-pub signed-below-zero : signed (negsuc 3) ≡ quoted "-4"
-unfolding placesTo decimals
-signed-below-zero = refl
-
-pub signed-lowest : signed (negsuc 9223372036854775807) ≡ quoted "-9223372036854775808"
-unfolding placesTo decimals
-signed-lowest = refl
-
-pub signed-above : signed (pos 17) ≡ quoted "17"
-unfolding placesTo decimals
-signed-above = refl
+pub text-examples :
+    (quoted "bus" ≡ 98 ∷ 117 ∷ 115 ∷ [])
+    × (decimal 0 ≡ quoted "0")
+    × (decimal 65535 ≡ quoted "65535")
+    × (decimal 18446744073709551615 ≡ quoted "18446744073709551615")
+    × (valueOf (quoted "65535") ≡ 65535)
+    × (signed (pos 17) ≡ quoted "17")
+    × (signed (negsuc 3) ≡ quoted "-4")
+    × (signed (negsuc 9223372036854775807) ≡ quoted "-9223372036854775808")
+unfolding placesTo decimals valueFrom
+text-examples = (refl, refl, refl, refl, refl, refl, refl, refl)

@@ -2,7 +2,7 @@
 -- `count`, which is at most `most`, and there is room for so many.
 use Rattle.folds.proofs.Ground.{ℕ, _+_, _*_, _<_, _≤_, _≡_, refl, _∙_, List, length, suc-mul, mul-le-mul-right, add-one, arith}
 use Rattle.print_text.specs.Text.{textBelow, Put, PutIn}
-use Rattle.print_text.proofs.TextLaws.{below-more, below-none, put-none, put-then}
+use Rattle.print_text.proofs.TextLaws.{put-none, put-then}
 
 -- what is in a buffer after n turns
 pub record PutBelow (before now : List ℕ) (at width most count n : ℕ) (text : ℕ → List ℕ) (end : ℕ) : Type 0 where
@@ -16,9 +16,10 @@ pub record PutBelow (before now : List ℕ) (at width most count n : ℕ) (text 
 module _ {l : List ℕ} {at width most count : ℕ} {text : ℕ → List ℕ} where
   -- before the first turn
   pub turns-none : count ≤ most → at + most * width ≤ length l → PutBelow l l at width most count 0 text at
+  unfolding textBelow
   turns-none h r =
       record {
-        put = rw (below-none text) (put-none l at);
+        put = put-none l at;
         within = omega arith;
         long = refl;
         turn = omega arith;
@@ -34,9 +35,10 @@ module _ {l : List ℕ} {at width most count : ℕ} {text : ℕ → List ℕ} wh
         omega (arith, s .within, s .long, s .room, suc-mul n width, mul-le-mul-right width g)
 
     pub turns-more : {k : List ℕ} {f : ℕ} → n < count → PutIn m k e width (text n) f → length k ≡ length m → PutBelow l k at width most count (n + 1) text f
+    unfolding textBelow
     turns-more h p b =
         record {
-          put = rw (add-one n, below-more n text) (put-then (s .put) (p .put));
+          put = rw (add-one n) (put-then (s .put) (p .put));
           within = rw add-one (omega (arith, s .within, p .within, suc-mul n width));
           long = b ∙ s .long;
           turn = omega arith;

@@ -4,11 +4,12 @@ use mathlib.Core.Bool.{cond}
 use mathlib.Core.List.{List, _++_}
 use lib.Dec.{leb, eqb}
 use lib.ListN.{length, drop}
+use Rattle.refusals.specs.Numbers.{noRoom}
 use Rattle.print_text.specs.declared.Handed.{Handed}
 
 -- a text for a buffer of n bytes: its length, or 10, buffer too short
 unfoldable pub handed : List ℕ → ℕ → Handed
-handed text n = cond (leb (length text) n) (record { refusal = 0; length = length text }) (record { refusal = 10; length = 0 })
+handed text n = cond (leb (length text) n) (record { refusal = 0; length = length text }) (record { refusal = noRoom; length = 0 })
 
 -- the text at the front of the buffer, and what lies behind as it was; the whole buffer as it was where it is too short
 unfoldable pub bufferWith : List ℕ → List ℕ → List ℕ

@@ -28,9 +28,17 @@ unfoldable pub decimals : ℕ → ℕ → List ℕ
 decimals zero n = []
 decimals (suc k) n = decimals k (n / 10) ++ ((48 + n % 10) ∷ [])
 
--- a number of 64 bits in decimal, with no zero before it: such a number has at most 20 digits
+-- the most digits of a number of 64 bits
+abbrev pub mostDigits : ℕ
+mostDigits = 20
+
+-- the most bytes of a signed one, which may have a minus
+abbrev pub mostSigned : ℕ
+mostSigned = suc mostDigits
+
+-- a number of 64 bits in decimal, with no zero before it
 abbrev pub decimal : ℕ → List ℕ
-decimal n = decimals (placesTo 19 n) n
+decimal n = decimals (placesTo (mostDigits - 1) n) n
 
 -- a whole number in decimal, with a minus before one below zero: `negsuc n` is -(n + 1)
 abbrev pub signed : ℤ → List ℕ

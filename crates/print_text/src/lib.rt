@@ -6,8 +6,9 @@ ghost use mathlib.Core.Bool.{true};
 ghost use lib.IntN.{pos, natAbs};
 ghost use lib.Signed.{ltZ};
 ghost use lib.ListN.{length};
-ghost use Rattle.print_text.specs.Text.{placesTo, decimal, signed, Put, PutIn};
+ghost use Rattle.print_text.specs.Text.{mostDigits, mostSigned, decimal, signed, Put, PutIn};
 ghost use Rattle.print_text.specs.Buffers.{handed, bufferWith};
+ghost use Rattle.print_text.specs.Inner.{Digits};
 
 // A text in a lent buffer: its length, or the refusal 10 where the buffer is too short for it.
 pub struct Handed {
@@ -28,9 +29,9 @@ pub fn put(buf: &mut [u8], at: usize, text: &[u8]) -> usize
     at + k
 }
 
-// How many digits a number has.
+// How many digits a number has in decimal.
 fn places(n: u64) -> usize
-    ensures { λ r. ⌜ (r ≡ placesTo 19 n) × (1 ≤ r) × (r ≤ 20) ⌝ }
+    ensures { λ r. ⌜ Digits n r ⌝ }
 {
     let mut count = 1;
     let mut rest = n;
@@ -43,8 +44,8 @@ fn places(n: u64) -> usize
 
 // A number in decimal.
 pub fn put_decimal(buf: &mut [u8], at: usize, n: u64) -> usize
-    requires { ⌜ at + 20 ≤ length (now buf) ⌝ }
-    ensures { λ r. ⌜ PutIn (now (buf .entry)) (now (buf .exit)) at 20 (decimal n) r ⌝ }
+    requires { ⌜ at + mostDigits ≤ length (now buf) ⌝ }
+    ensures { λ r. ⌜ PutIn (now (buf .entry)) (now (buf .exit)) at mostDigits (decimal n) r ⌝ }
 {
     let count = places(n);
     let mut rest = n;
@@ -67,8 +68,8 @@ fn below_zero(z: i64) -> u64
 
 // A number in decimal, with a minus where it is below zero.
 pub fn put_signed(buf: &mut [u8], at: usize, z: i64) -> usize
-    requires { ⌜ at + 21 ≤ length (now buf) ⌝ }
-    ensures { λ r. ⌜ PutIn (now (buf .entry)) (now (buf .exit)) at 21 (signed z) r ⌝ }
+    requires { ⌜ at + mostSigned ≤ length (now buf) ⌝ }
+    ensures { λ r. ⌜ PutIn (now (buf .entry)) (now (buf .exit)) at mostSigned (signed z) r ⌝ }
 {
     if z < 0 {
         let a = put(buf, at, b"-");
@@ -83,7 +84,7 @@ pub fn hand_over(line: &[u8], out: &mut [u8]) -> Handed
 {
     if out.len() < line.len() {
         return Handed {
-            refusal: 10,
+            refusal: refusals::NO_ROOM,
             length: 0,
         };
     }

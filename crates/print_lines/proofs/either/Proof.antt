@@ -1,5 +1,4 @@
 -- One word or the other.
-use Rattle.folds.proofs.Ground.{needs}
 use Rattle.print_lines.proofs.either.Statement.{statement}
 use Rattle.print_lines.proofs.either.Tie as tie
 

@@ -1,28 +1,10 @@
 -- Each field in its way.
-use Rattle.folds.proofs.Ground.{_≡_, [], arith, needs}
+use Rattle.folds.proofs.Ground.{[], arith, needs}
 use Rattle.print_text.proofs.TextLaws.{put-in, put-none, put-held}
 use Rattle.print_lines.specs.declared.Field.the-variants.{Signed}
 use Rattle.print_lines.specs.Inner.{fieldText}
 use Rattle.print_lines.proofs.put_field.Statement.{statement}
 use Rattle.print_lines.proofs.put_field.Tie as tie
-
-put-number-requires : tie.Need-put-number-requires
-put-number-requires c κs =
-    let i = c .before .before in omega (arith, rw (i .field .given .1) at (i .before .before .before .before .pre .1))
-
-put-signed-requires : tie.Need-put-signed-requires
-put-signed-requires c κs =
-    let i = c .before .before in omega (arith, rw (i .field2 .given .1) at (i .before .before .before .before .pre .1))
-
-put-name-requires : tie.Need-put-name-requires
-put-name-requires c κs =
-    let i = c .before .before in
-    let h = rw (i .field3 .given .1) at (i .before .before .before .before .pre) in
-    (h .0 .0, omega (arith, h .1))
-
-put-word-requires : tie.Need-put-word-requires
-put-word-requires c κs =
-    let i = c .before .before in omega (arith, rw (i .field4 .given .1) at (i .before .before .before .before .pre .1))
 
 returns-2 : tie.Need-returns-2
 returns-2 c =
@@ -34,8 +16,16 @@ pub put-field-spec : {M : Type 1} → statement M
 put-field-spec =
     tie.close
     (tie.spec
-    (λ c. search needs) put-number-requires (λ c. search needs) put-signed-requires (λ c. search needs) put-name-requires
-    (λ c. search needs) put-word-requires (λ c. search needs) (λ c. search needs)
+    (λ c. search needs)
+    (λ c κs. let i = c .before .before in omega (arith, rw (i .field .given .1) at (i .before .before .before .before .pre .room)))
+    (λ c. search needs)
+    (λ c κs. let i = c .before .before in omega (arith, rw (i .field2 .given .1) at (i .before .before .before .before .pre .room)))
+    (λ c. search needs)
+    (λ c κs. let i = c .before .before in let h = rw (i .field3 .given .1) at (i .before .before .before .before .pre) in
+    (h .named .0, omega (arith, h .room)))
+    (λ c. search needs)
+    (λ c κs. let i = c .before .before in omega (arith, rw (i .field4 .given .1) at (i .before .before .before .before .pre .room)))
+    (λ c. search needs) (λ c. search needs)
     (λ c. let p = c .before .before in rw (p .before .before .before .field .given .1) (p .put-number .ensures))
     (λ c. search needs) returns-2 (λ c. search needs)
     (λ c. let p = c .before .before in rw (p .before .before .before .field3 .given .1) (p .put-name .ensures))

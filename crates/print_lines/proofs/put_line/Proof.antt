@@ -7,11 +7,11 @@ use Rattle.print_lines.proofs.put_line.Tie as tie
 returns : tie.Need-returns
 returns c =
     let e = c .before .before in
-    let f = e .before .before .before .before .before in
+    let b = e .before in
+    let f = b .before .before .before .before in
     let w = f .before .before .before .before in
-    let b = w .before .before .before in
-    let a = b .before .before in
-    let word = put-in (length (a .args .word .now)) (w .put .ensures) (omega arith) in
+    let a = w .before .before .before .before in
+    let word = put-in (length (a .before .args .word .now)) (w .put .ensures) (omega arith) in
     put-in-then (put-in-then word (f .put-fields .ensures)) (put-in 1 (e .put2 .ensures) (omega arith))
 
 pub put-line-spec : {M : Type 1} → statement M

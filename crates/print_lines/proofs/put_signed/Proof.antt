@@ -5,13 +5,10 @@ use Rattle.print_text.proofs.TextLaws.{put-in, put-in-then, put-held}
 use Rattle.print_lines.proofs.put_signed.Statement.{statement}
 use Rattle.print_lines.proofs.put_signed.Tie as tie
 
-returns : tie.Need-returns
-returns c =
-    let d = c .before .before in
-    let p = d .before .before .before .before in
-    let a = p .before .before .before .before in
-    put-in-then (put-in 1 (p .put .ensures) (omega arith)) (put-held signed _ (a .fits .z) (d .put-signed .ensures))
-
 pub put-signed-spec : {M : Type 1} → statement M
 put-signed-spec =
-    tie.close (tie.spec (λ c. search needs) (λ c κs. search needs) (λ c κs. search needs) (λ c. search needs) returns)
+    tie.close
+    (tie.spec
+    (λ c. search needs) (λ c κs. search needs) (λ c κs. search needs) (λ c. search needs)
+    (λ c. let d = c .before .before in let p = d .before .before .before .before in
+    put-in-then (put-in 1 (p .put .ensures) (omega arith)) (put-held signed _ (p .before .before .before .before .fits .z) (d .put-signed .ensures))))

@@ -1,51 +1,51 @@
--- The table has 0 exactly where there is no line.
-use Rattle.folds.proofs.Ground.{arith, needs}
+-- There is a line where the processor uses the resource; budget and wait time are those of the table.
+use Rattle.folds.proofs.Ground.{_<_, _&&_, _≡_, _∙_, arith, needs}
+use Rattle.folds.proofs.Tests.{held, failed}
+use Rattle.sizes.specs.Sizes.{mostProcessors, mostResources}
 use Rattle.print_text.proofs.TextLaws.{put-wider}
-use Rattle.print_sheet.specs.Rooms.{budgetRoom}
-use Rattle.print_sheet.proofs.Laws.{budget-place, budget-out, budget-in}
+use Rattle.plan_reading.specs.Plan.{planOf}
+use Rattle.plan_reading.proofs.Laws.{valid-plan}
+use Rattle.analysis_equations.specs.Sharing.{usedOn, global}
+use Rattle.analysis_figures.proofs.Cells.{budget-of}
+use Rattle.print_sheet.specs.Inner.{budgetRoom}
+use Rattle.print_sheet.proofs.Laws.{line-out}
 use Rattle.print_sheet.proofs.put_budget_at.Statement.{statement}
 use Rattle.print_sheet.proofs.put_budget_at.Tie as tie
 
-budget-at-requires : tie.Need-budget-at-requires
-budget-at-requires c κs =
-    let w = c .before in
-    let h = w .before .before .before .before .pre in
-    budget-place _ _ (h .0 .known) _ (h .0 .resource) (w .wide .ensures .same) _ (h .1) (c .wide2 .ensures .same)
+abbrev start : tie.After-wide → tie.Start
+start w = w .before .before .before .before
 
-returns : tie.Need-returns
-returns c =
-    let b = c .before in
-    let w = b .before .before in
-    let h = w .before .before .before .before .pre in
-    budget-out _ _ (h .0 .known) _ (h .0 .resource) (w .wide .ensures .same) _ (h .1) (b .before .wide2 .ensures .same) (b .budget-at .ensures) _ _ (c .if1 .taken)
+abbrev column : tie.After-wide2 → tie.After-wide
+column c = c .before .before .before
 
-wait-in-requires : tie.Need-wait-in-requires
-wait-in-requires c κs =
-    let b = c .before in
-    let w = b .before .before in
-    let h = w .before .before .before .before .pre in
-    (h .0 .known, budget-place _ _ (h .0 .known) _ (h .0 .resource) (w .wide .ensures .same) _ (h .1) (b .before .wide2 .ensures .same) .resource)
+low : (a : tie.Start) → (a .args .k < mostProcessors) × (a .args .q < mostResources)
+low a = let v = valid-plan _ (a .pre .known .plan) in (omega arith, omega arith)
 
-put-line-requires : tie.Need-put-line-requires
-put-line-requires c κs =
-    let b = c .before .before .before .before in
-    let w = b .before .before in
-    let h = w .before .before .before .before .pre .0 in
-    ((record { plan = h .known .plan; below = h .resource }, tt), omega (arith, h .room))
+-- whether there is a line
+told : (u : tie.After-uses) → let a = start (u .before) .args in let p = planOf (a .file .now) in
+    u .uses .result ≡ (global p (a .q) && usedOn p (a .k) (a .q))
+told u = rw (u .before .wide .ensures .same) at (u .uses .ensures)
 
 returns-2 : tie.Need-returns-2
 returns-2 c =
     let p = c .before .before in
-    let i = p .before .before .before .before in
-    let b = i .before in
-    let w = b .before .before in
-    let h = w .before .before .before .before .pre in
-    budget-in _ _ (h .0 .known) _ (h .0 .resource) (w .wide .ensures .same) _ (h .1) (b .before .wide2 .ensures .same) (b .budget-at .ensures) (i .if1 .left)
-    (p .before .before .before .wait-in .ensures .0) (put-wider budgetRoom (p .put-line .ensures) (omega arith))
+    let m = p .before .before .before in
+    let b = m .before in
+    let w = column (b .before) in
+    let a = start w in
+    let l = low a in
+    let q = w .wide .ensures .same in
+    let budget = b .budget-at .ensures ∙ budget-of _ _ (a .pre .known .figures) (b .before .wide2 .ensures .same) q (l .0) (l .1) in
+    let line = put-wider budgetRoom (p .put-line .ensures) (omega arith) in
+    let i = b .before .before in
+    rw (held (told (i .before)) (i .if1 .left)) (rw (budget, rw q at (m .wait-in .ensures .0)) at line)
 
 pub put-budget-at-spec : {M : Type 1} → statement M
 put-budget-at-spec =
     tie.close
     (tie.spec
-    (λ c κs. search needs) (λ c κs. search needs) budget-at-requires returns wait-in-requires (λ c. search needs) (λ c. search needs) (λ c. search needs) put-line-requires
-    (λ c. search needs) returns-2)
+    (λ c κs. search needs) (λ c κs. let l = low (start c) in search needs)
+    (λ c. rw (failed (told (c .before)) (c .if1 .taken)) (line-out _ _ _))
+    (λ c κs. search needs) (λ c κs. let l = low (start (column c)) in search needs)
+    (λ c κs. let a = start (column (c .before)) in let l = low a in search needs)
+    (λ c. search needs) (λ c. search needs) (λ c. search needs) (λ c κs. search needs) (λ c. search needs) returns-2)

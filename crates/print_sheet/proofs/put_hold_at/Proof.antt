@@ -1,36 +1,40 @@
 -- The table has 0 exactly where there is no line.
-use Rattle.folds.proofs.Ground.{arith, needs}
+use Rattle.folds.proofs.Ground.{_<_, _≡_, _∙_, arith, needs}
+use Rattle.sizes.specs.Sizes.{mostTasks, mostResources}
 use Rattle.print_text.proofs.TextLaws.{put-wider}
-use Rattle.print_sheet.specs.Rooms.{holdRoom}
-use Rattle.print_sheet.proofs.Laws.{sharer, hold-place, hold-global, hold-out, hold-in}
+use Rattle.plan_reading.specs.Plan.{planOf, Valid}
+use Rattle.plan_reading.proofs.Laws.{valid-plan}
+use Rattle.analysis_equations.specs.HoldTimes.{holdAt}
+use Rattle.analysis_figures.proofs.Cells.{hold-of}
+use Rattle.print_sheet.specs.Inner.{holdRoom}
+use Rattle.print_sheet.proofs.Laws.{line-out, hold-none, hold-some, hold-global, hold-is}
 use Rattle.print_sheet.proofs.put_hold_at.Statement.{statement}
 use Rattle.print_sheet.proofs.put_hold_at.Tie as tie
 
-hold-at-requires : tie.Need-hold-at-requires
-hold-at-requires c κs =
-    let h = c .before .before .before .before .pre in
-    hold-place _ _ (h .0 .known) _ (h .0 .resource) (c .wide .ensures .same) _ (h .1)
+abbrev start : tie.After-wide → tie.Start
+start w = w .before .before .before .before
 
-returns : tie.Need-returns
-returns c =
-    let w = c .before .before in
-    let h = w .before .before .before .before .pre in
-    hold-out _ _ (h .0 .known) _ (h .0 .resource) (w .wide .ensures .same) _ (h .1) (c .before .hold-at .ensures) _ _ (c .if1 .taken)
+valid : (a : tie.Start) → Valid (planOf (a .args .file .now))
+valid a = valid-plan _ (a .pre .known .plan)
+
+low : (a : tie.Start) → (a .args .i < mostTasks) × (a .args .q < mostResources)
+low a = let v = valid a in (omega arith, omega arith)
+
+-- what the table says
+told : (h : tie.After-hold-at) → let a = start (h .before) .args in h .hold-at .result ≡ holdAt (planOf (a .file .now)) (a .i) (a .q)
+told h =
+    let a = start (h .before) in
+    let l = low a in
+    h .hold-at .ensures ∙ hold-of _ _ (a .pre .known .figures) (h .before .wide .ensures .same) (l .0) (l .1)
 
 longest-of-requires : tie.Need-longest-of-requires
 longest-of-requires c κs =
     let i = c .before in
     let w = i .before .before in
-    let h = w .before .before .before .before .pre in
-    let e = w .wide .ensures .same in
-    sharer _ _ (h .0 .known) _ (h .0 .resource) e _ (h .1) (hold-global _ _ (h .0 .known) _ (h .0 .resource) e _ (h .1) (i .before .hold-at .ensures) (i .if1 .left))
-
-put-line-requires : tie.Need-put-line-requires
-put-line-requires c κs =
-    let m = c .before .before .before .before .before in
-    let w = m .before .before .before .before in
-    let h = w .before .before .before .before .pre .0 in
-    ((record { plan = h .known .plan; below = h .resource }, tt), omega (arith, h .room))
+    let a = start w in
+    let l = low a in
+    let g = hold-global _ (valid a) _ _ (told (i .before)) (i .if1 .left) in
+    record { known = a .pre .known; task = a .pre .row; resource = omega (arith, l .1); shared = rw (w .wide .ensures .same) g }
 
 returns-2 : tie.Need-returns-2
 returns-2 c =
@@ -39,13 +43,22 @@ returns-2 c =
     let m = s .before .before .before in
     let i = m .before .before in
     let w = i .before .before in
-    let h = w .before .before .before .before .pre in
-    hold-in _ _ (h .0 .known) _ (h .0 .resource) (w .wide .ensures .same) _ (h .1) (i .before .hold-at .ensures) (i .if1 .left) (m .before .task .ensures)
-    (m .longest-of .ensures .0) (m .longest-of .ensures .1) (put-wider holdRoom (p .put-line .ensures) (omega arith))
+    let v = valid (start w) in
+    let q = w .wide .ensures .same in
+    let t = told (i .before) in
+    let wait = rw q at (m .longest-of .ensures) in
+    let line = put-wider holdRoom (p .put-line .ensures) (omega arith) in
+    rw (hold-some _ v _ _ t (i .if1 .left)) (rw (hold-is _ v _ _ t (i .if1 .left), m .before .task .ensures, wait .0, wait .1) at line)
 
 pub put-hold-at-spec : {M : Type 1} → statement M
 put-hold-at-spec =
     tie.close
     (tie.spec
-    (λ c κs. search needs) hold-at-requires returns (λ c κs. search needs) longest-of-requires (λ c. search needs) (λ c. search needs)
-    (λ c. search needs) (λ c. search needs) (λ c. search needs) put-line-requires (λ c. search needs) returns-2)
+    (λ c κs. search needs)
+    (λ c κs. let l = low (start c) in search needs)
+    (λ c. rw (hold-none _ (valid (start (c .before .before))) _ _ (told (c .before)) (c .if1 .taken)) (line-out _ _ _))
+    (λ c κs. search needs) longest-of-requires (λ c. search needs) (λ c. search needs) (λ c. search needs) (λ c. search needs)
+    (λ c. search needs)
+    (λ c κs. let s = c .before .before .before in let i = s .before .before .before .before in let h = start (i .before .before) .pre in
+    ((record { plan = h .known .plan; below = h .resource }, tt), omega (arith, h .room)))
+    (λ c. search needs) returns-2)

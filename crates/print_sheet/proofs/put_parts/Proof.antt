@@ -13,7 +13,9 @@ returns c =
     let f = v .before .before .before .before in
     let r = f .before .before .before .before in
     let a = r .before .before .before .before in
-    put-wider mostSheet (put-in-then (put-in-then (put-in-then (plan-counts _ (a .before .counts .result) (a .before .counts .ensures) (a .put-plan .ensures)) (r .put-resources .ensures)) (f .put-figures .ensures)) (v .put-verdict .ensures)) (omega arith)
+    let plan = plan-counts _ (a .before .counts .result) (a .before .counts .ensures) (a .put-plan .ensures) in
+    let figures = put-in-then (put-in-then plan (r .put-resources .ensures)) (f .put-figures .ensures) in
+    put-wider mostSheet (put-in-then figures (v .put-verdict .ensures)) (omega arith)
 
 pub put-parts-spec : {M : Type 1} → statement M
 put-parts-spec =

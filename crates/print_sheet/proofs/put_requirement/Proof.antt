@@ -5,7 +5,7 @@ use mir.Val.{SFits}
 use mir.Facts.{toZ-ofZ}
 use Rattle.print_text.proofs.TextLaws.{put-wider}
 use Rattle.print_lines.specs.declared.Word.the-variants.{Met, Unmet}
-use Rattle.print_sheet.specs.Rooms.{requirementRoom}
+use Rattle.print_sheet.specs.Inner.{requirementRoom}
 use Rattle.print_sheet.proofs.Laws.{either-text}
 use Rattle.print_sheet.proofs.put_requirement.Statement.{statement}
 use Rattle.print_sheet.proofs.put_requirement.Tie as tie
@@ -15,8 +15,7 @@ returns c =
     let p = c .before .before in
     let w = p .before .before .before .before in
     let k = w .before .before .before .before in
-    let a = k .before .before in
-    let found = a .args .found in
+    let found = k .before .before .args .found in
     let s : SFits w64 (found .tolerance) = record { sfits = w .before .before .struct-told .given .1 .1 .0 .1 } in
     let t : SFits w64 (found .slack) = record { sfits = w .before .struct-told2 .given .1 .1 .1 .0 .1 } in
     put-wider requirementRoom (rw (w .either .ensures, either-text (found .met) Met Unmet, toZ-ofZ s, toZ-ofZ t) at (p .put-line .ensures)) (omega arith)

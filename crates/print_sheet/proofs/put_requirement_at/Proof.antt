@@ -1,33 +1,34 @@
 -- The table of terms tells whether the task asks.
-use Rattle.folds.proofs.Ground.{_<_, _∙_, arith, needs}
+use Rattle.folds.proofs.Ground.{_<_, _≡_, _∙_, arith, needs}
+use Rattle.sizes.specs.Sizes.{mostTasks}
+use Rattle.plan_reading.specs.Plan.{planOf}
 use Rattle.plan_reading.proofs.Laws.{valid-plan}
+use Rattle.analysis_equations.specs.Blocking.{globalCount}
 use Rattle.print_sheet.proofs.Laws.{requirement-out, requirement-in}
 use Rattle.print_sheet.proofs.put_requirement_at.Statement.{statement}
 use Rattle.print_sheet.proofs.put_requirement_at.Tie as tie
 
-low : (a : tie.Start) → a .args .i < 64
-low a = omega (arith, valid-plan _ (a .pre .prepared .known .plan) .tasks, a .pre .task)
+abbrev start : tie.After-shared-slice-known3 → tie.Start
+start s = s .before .before .before .before
 
-returns : tie.Need-returns
-returns c =
-    let n = c .before in
-    let b = n .before .before in
-    let a = b .before .before .before in
-    requirement-out _ _ (n .count-at .ensures ∙ a .pre .prepared .terms .count _ (low a)) _ _ (c .if1 .taken)
+low : (a : tie.Start) → a .args .i < mostTasks
+low a = let v = valid-plan _ (a .pre .prepared .known .plan) in omega arith
+
+-- what the table says
+told : (n : tie.After-count-at) → let a = start (n .before) .args in n .count-at .result ≡ globalCount (planOf (a .file .now)) (a .i)
+told n = let a = start (n .before) in n .count-at .ensures ∙ a .pre .prepared .terms .count _ (low a)
 
 returns-2 : tie.Need-returns-2
 returns-2 c =
     let p = c .before .before in
     let r = p .before .before .before in
-    let n = r .before .before in
-    let b = n .before .before in
-    let a = b .before .before .before in
-    requirement-in _ _ (n .count-at .ensures ∙ a .pre .prepared .terms .count _ (low a)) (r .before .if1 .left) (p .before .before .task .ensures)
-    (r .requirement-of .ensures) (p .put-requirement .ensures)
+    let i = r .before in
+    requirement-in _ _ (told (i .before)) (i .if1 .left) (p .before .before .task .ensures) (r .requirement-of .ensures) (p .put-requirement .ensures)
 
 pub put-requirement-at-spec : {M : Type 1} → statement M
 put-requirement-at-spec =
     tie.close
     (tie.spec
-    (λ c κs. let a = c .before .before .before .before in (a .pre .prepared .terms .long, low a)) returns (λ c κs. search needs)
-    (λ c κs. search needs) (λ c κs. search needs) (λ c. search needs) returns-2)
+    (λ c κs. (start c .pre .prepared .terms .long, low (start c)))
+    (λ c. requirement-out _ _ (told (c .before)) _ _ (c .if1 .taken))
+    (λ c κs. search needs) (λ c κs. search needs) (λ c κs. search needs) (λ c. search needs) returns-2)

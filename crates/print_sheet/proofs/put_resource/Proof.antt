@@ -3,33 +3,23 @@ use Rattle.folds.proofs.Ground.{arith, needs}
 use Rattle.print_text.proofs.TextLaws.{put-wider}
 use Rattle.plan_reading.proofs.Laws.{valid-plan}
 use Rattle.print_lines.specs.declared.Word.the-variants.{Global, Local}
-use Rattle.print_sheet.specs.Rooms.{resourceRoom}
+use Rattle.print_sheet.specs.Inner.{resourceRoom}
 use Rattle.print_sheet.proofs.Laws.{either-text}
 use Rattle.print_sheet.proofs.put_resource.Statement.{statement}
 use Rattle.print_sheet.proofs.put_resource.Tie as tie
-
-is-global-requires : tie.Need-is-global-requires
-is-global-requires c κs =
-    let h = c .before .before .before .before .pre in
-    (h .known, omega (arith, c .wide .ensures .same, h .resource, valid-plan _ (h .known .plan) .resources))
-
-put-line-requires : tie.Need-put-line-requires
-put-line-requires c κs =
-    let e = c .before .before in
-    let w = e .before .before in
-    let h = w .before .before .before .before .pre in
-    rw (e .either .ensures) ((record { plan = h .known .plan; below = h .resource }, tt), omega (arith, h .room))
 
 returns : tie.Need-returns
 returns c =
     let p = c .before .before in
     let e = p .before .before .before in
-    let g = e .before .is-global in
-    let line = rw (e .either .ensures, either-text (g .result) Global Local, g .ensures, e .before .before .wide .ensures .same) at (p .put-line .ensures) in
-    put-wider resourceRoom line (omega arith)
+    let g = e .before in
+    let word = either-text (g .is-global .result) Global Local in
+    put-wider resourceRoom (rw (e .either .ensures, word, g .is-global .ensures, g .before .wide .ensures .same) at (p .put-line .ensures)) (omega arith)
 
 pub put-resource-spec : {M : Type 1} → statement M
 put-resource-spec =
     tie.close
     (tie.spec
-    (λ c κs. search needs) is-global-requires (λ c κs. search needs) (λ c. search needs) put-line-requires (λ c. search needs) returns)
+    (λ c κs. search needs)
+    (λ c κs. let h = c .before .before .before .before .pre in let v = valid-plan _ (h .known .plan) in (h .known, omega arith))
+    (λ c κs. search needs) (λ c. search needs) (λ c κs. rw (c .before .before .either .ensures) (search needs)) (λ c. search needs) returns)

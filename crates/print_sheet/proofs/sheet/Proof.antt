@@ -2,50 +2,44 @@
 -- buffer of its own.
 use Rattle.folds.proofs.Ground.{sym, _∙_, arith, needs}
 use Rattle.print_text.proofs.Lines.{long-line, refused-before, none-before}
+use Rattle.plan_reading.specs.Plan.{Checked}
 use Rattle.plan.proofs.Laws.{accepted-checked}
-use Rattle.print_sheet.specs.Sheet.{planSheet, sheetLine, sheetIn}
+use Rattle.print_sheet.specs.Sheet.{sheetLine, sheetIn}
 use Rattle.print_sheet.proofs.sheet.Statement.{statement}
 use Rattle.print_sheet.proofs.sheet.Tie as tie
 
 returns : tie.Need-returns
 unfolding sheetLine sheetIn
-returns c =
-    let a = c .before .before .before .before .args in
-    let h = refused-before (c .before .check .ensures) (planSheet (a .file .now)) (a .out .now) (c .if1 .taken) in
-    (h .0, (h .1, omega arith))
+returns c = let h = refused-before (c .before .check .ensures) _ _ (c .if1 .taken) in (h .0, (h .1, omega arith))
 
-sheet-aside-requires : tie.Need-sheet-aside-requires
-sheet-aside-requires c κs =
-    let i = c .before .before in
+-- a plan that is not refused
+accepted : (i : tie.Else1) → Checked (i .before .before .before .before .args .file .now)
+accepted i =
     accepted-checked (record { none = sym (i .before .check .ensures) ∙ i .if1 .left; bytes = λ k l. i .before .before .before .shared-slice-known .given k .fits })
 
 returns-2 : tie.Need-returns-2
 unfolding sheetLine sheetIn
 returns-2 c =
-    let i = c .before .before .before .before .before in
-    let a = i .before .before .before .before .args in
-    let s = c .before .before .sheet-aside .ensures in
-    let h = none-before (i .before .check .ensures) (planSheet (a .file .now)) (a .out .now) (i .if1 .left) (s .0, s .1 .0) in
-    (h .0, (h .1, s .1 .1))
-
-put-plan-sheet-requires : tie.Need-put-plan-sheet-requires
-put-plan-sheet-requires c κs =
-    let i = c .before .before in
-    (accepted-checked (record { none = sym (i .before .check .ensures) ∙ i .if1 .left; bytes = λ k l. i .before .before .before .shared-slice-known .given k .fits }), search needs)
+    let p = c .before .before in
+    let i = p .before .before .before in
+    let s = p .sheet-aside .ensures in
+    let h = none-before (i .before .check .ensures) _ _ (i .if1 .left) (s .line, s .buffer) in
+    (h .0, (h .1, s .within))
 
 returns-3 : tie.Need-returns-3
 unfolding sheetLine sheetIn
 returns-3 c =
-    let i = c .before .before .before .before .before in
-    let a = i .before .before .before .before .args in
-    let p = c .before .before .put-plan-sheet .ensures in
-    let l = long-line _ (a .out .now) (omega (arith, p .put .ends, p .within, c .before .before .before .before .if2 .left)) (p .put) in
-    let h = none-before (i .before .check .ensures) (planSheet (a .file .now)) (a .out .now) (i .if1 .left) l in
-    (h .0, (h .1, p .within))
+    let p = c .before .before in
+    let t = p .before .before in
+    let i = t .before in
+    let s = p .put-plan-sheet .ensures in
+    let l = long-line _ _ (omega (arith, s .put .ends, s .within, t .if2 .left)) (s .put) in
+    let h = none-before (i .before .check .ensures) _ _ (i .if1 .left) l in
+    (h .0, (h .1, s .within))
 
 pub sheet-spec : {M : Type 1} → statement M
 sheet-spec =
     tie.close
     (tie.spec
-    (λ c κs. search needs) returns sheet-aside-requires (λ c. search needs) returns-2 put-plan-sheet-requires (λ c. search needs)
-    returns-3)
+    (λ c κs. search needs) returns (λ c κs. accepted (c .before .before)) (λ c. search needs) returns-2
+    (λ c κs. (accepted (c .before .before), search needs)) (λ c. search needs) returns-3)

@@ -6,9 +6,11 @@ use Rattle.print_sheet.proofs.sheet_aside.Tie as tie
 
 returns : tie.Need-returns
 returns c =
-    let p = c .before .before .before .before .before .before .before .put-plan-sheet .ensures in
-    let h = rw (front-part (p .put)) at (c .before .before .hand-over .ensures) in
-    (h .0, (h .1, omega (arith, line-short _ _ (h .0), p .put .ends, p .within)))
+    let o = c .before .before in
+    let s = o .before .before in
+    let p = s .before .before .before .put-plan-sheet .ensures in
+    let h = rw (front-part (p .put)) at (o .hand-over .ensures) in
+    record { line = h .0; buffer = h .1; within = omega (arith, line-short _ _ (h .0), p .put .ends, p .within) }
 
 pub sheet-aside-spec : {M : Type 1} → statement M
 sheet-aside-spec =

@@ -1,5 +1,5 @@
 -- z is -(a + 1), so z + 1 is -a, of which the machine has both the negation and one more.
-use Rattle.folds.proofs.Ground.{ℕ, zero, suc, _+_, _<_, true, _≡_, refl, ap, _∙_, T, not-suc-le-zero, add-one, arith, ltb-true}
+use Rattle.folds.proofs.Ground.{zero, suc, _+_, _≤_, true, _≡_, refl, ap, _∙_, T, not-suc-le-zero, add-one, arith, ltb-true}
 use lib.IntN.{ℤ, pos, negsuc, sucℤ, negℤ, natAbs, _+ℤ_, _-ℤ_, +ℤ-one, +ℤ-idl}
 use lib.Signed.{ltZ, nonNeg, mag}
 use mir.Syntax.{w64}
@@ -8,19 +8,15 @@ use mir.Facts.{toZ-ofZ}
 use Rattle.print_text.proofs.below_zero.Statement.{statement}
 use Rattle.print_text.proofs.below_zero.Tie as tie
 
-up-mag : (z : ℤ) (m : ℕ) → ltZ z (pos 0) ≡ true → mag z < m → mag (sucℤ z) < m
-up-mag (pos a) m e h = absurd (not-suc-le-zero (ltb-true a 0 e))
-up-mag (negsuc zero) m e h = h
-up-mag (negsuc (suc a)) m e h = omega arith
+record Up (z : ℤ) : Type 0 where
+  low : mag (sucℤ z) ≤ mag z
+  negated : negℤ (sucℤ z) ≡ pos (mag z)
+  again : mag z + 1 ≡ natAbs z
 
-up-negated : (z : ℤ) → ltZ z (pos 0) ≡ true → negℤ (sucℤ z) ≡ pos (mag z)
-up-negated (pos a) e = absurd (not-suc-le-zero (ltb-true a 0 e))
-up-negated (negsuc zero) e = refl
-up-negated (negsuc (suc a)) e = refl
-
-up-again : (z : ℤ) → ltZ z (pos 0) ≡ true → mag z + 1 ≡ natAbs z
-up-again (pos a) e = absurd (not-suc-le-zero (ltb-true a 0 e))
-up-again (negsuc a) e = add-one a
+one-up : (z : ℤ) → ltZ z (pos 0) ≡ true → Up z
+one-up (pos a) e = absurd (not-suc-le-zero (ltb-true a 0 e))
+one-up (negsuc zero) e = record { low = omega arith; negated = refl; again = refl }
+one-up (negsuc (suc a)) e = record { low = omega arith; negated = refl; again = add-one (suc a) }
 
 -- z + 1 and its negation, as the machine has them
 module _ (z : ℤ) (e : ltZ z (pos 0) ≡ true) (f : SFits w64 z) where
@@ -31,13 +27,13 @@ module _ (z : ℤ) (e : ltZ z (pos 0) ≡ true) (f : SFits w64 z) where
   up-is = ap (λ (x : ℤ). x +ℤ pos 1) (toZ-ofZ f) ∙ +ℤ-one z
 
   up-fits : SFits w64 up
-  up-fits = rw up-is (record { sfits = up-mag z 9223372036854775808 e (f .sfits) })
+  up-fits = rw up-is (record { sfits = omega (arith, one-up z e .low, f .sfits) })
 
   abbrev far : ℤ
   far = pos 0 -ℤ toZ w64 (ofZ w64 up)
 
   far-is : far ≡ pos (mag z)
-  far-is = +ℤ-idl _ ∙ ap negℤ (toZ-ofZ up-fits ∙ up-is) ∙ up-negated z e
+  far-is = +ℤ-idl _ ∙ ap negℤ (toZ-ofZ up-fits ∙ up-is) ∙ one-up z e .negated
 
   far-fits : SFits w64 far
   far-fits = rw far-is (record { sfits = f .sfits })
@@ -52,7 +48,7 @@ module _ (z : ℤ) (e : ltZ z (pos 0) ≡ true) (f : SFits w64 z) where
   one-more = rw far-back (record { fits = omega (arith, f .sfits) })
 
   how-far : natAbs (toZ w64 (ofZ w64 far)) + 1 ≡ natAbs z
-  how-far = rw far-back (up-again z e)
+  how-far = rw far-back (one-up z e .again)
 
 pub below-zero-spec : {M : Type 1} → statement M
 below-zero-spec = tie.close (tie.spec

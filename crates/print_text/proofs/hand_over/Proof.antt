@@ -11,8 +11,10 @@ returns c =
 
 returns-2 : tie.Need-returns-2
 returns-2 c =
-    let a = c .before .before .before .before .before .before .before .args in
-    long-line (a .line .now) (a .out .now) (omega (arith, c .before .before .before .before .if1 .left)) (c .before .before .put .ensures)
+    let p = c .before .before in
+    let i = p .before .before in
+    let a = i .before .before .before .args in
+    long-line (a .line .now) (a .out .now) (omega (arith, i .if1 .left)) (p .put .ensures)
 
 pub hand-over-spec : {M : Type 1} → statement M
 hand-over-spec = tie.close (tie.spec returns (λ c κs. search needs) (λ c. search needs) returns-2)

@@ -1,6 +1,6 @@
 -- The invariant: the buffer with the digits that are left put at `at` is the first buffer with all digits put there.
 use Rattle.folds.proofs.Ground.{ℕ, suc, _+_, _-_, _/_, _%_, _≤_, _<_, _≡_, refl, sym, ap, _∙_, List, _∷_, _++_, length, set, take, drop, length-set, take-append-drop, take-set-le, drop-cons, drop-set-lt, getD-set-same, lt-length-set, append-snoc, add-suc, add-zero, arith, needs}
-use Rattle.print_text.specs.Text.{placesTo, decimals, decimal, Put}
+use Rattle.print_text.specs.Text.{decimals}
 use Rattle.print_text.proofs.TextLaws.{digits-length}
 use Rattle.print_text.proofs.put_decimal.Statement.{statement}
 use Rattle.print_text.proofs.put_decimal.Tie as tie
@@ -24,36 +24,37 @@ none-left : (m : List ℕ) (at k n : ℕ) → k ≡ 0 → placed m at k n ≡ m
 unfolding decimals
 none-left m at k n e = rw (e, add-zero) (take-append-drop at m)
 
-all-put : (l m : List ℕ) (at count k n rest : ℕ) → count ≡ placesTo 19 n → k ≡ 0 → placed m at k rest ≡ placed l at count n → Put l m at (decimal n) (at + count)
-all-put l m at count k n rest c e h =
-    record {
-      held = sym (none-left m at k rest e) ∙ h ∙ rw (digits-length, c);
-      ends = rw (digits-length, c);
-    }
+record Left (before now : List ℕ) (at n count rest k : ℕ) : Type 0 where
+  few : k ≤ count
+  same : placed now at k rest ≡ placed before at count n
+  long : length now ≡ length before
 
 abbrev Inv-loop : tie.InvT-loop
-Inv-loop buf₀ at n count rest₀ k₀ buf rest k =
-    (k ≤ count) × (placed buf at k rest ≡ placed buf₀ at count n) × (length buf ≡ length buf₀)
+Inv-loop buf₀ at n count rest₀ k₀ buf rest k = Left buf₀ buf at n count rest k
 
 abbrev μ-loop : tie.MeasureT-loop
 μ-loop buf₀ at n count rest₀ k₀ buf rest k = k
 
 loop-again : tie.Need-loop-again Inv-loop μ-loop
 loop-again c =
-    let a = c .before .before .before .before in
-    let l = c .before .loop in (
-      omega arith,
-      one-more (l .buf) (a .args .at) (l .k - 1) (l .k) (l .rest) (omega arith) (omega arith) ∙ l .inv .1,
-      simp length-set (l .inv .2),
-    )
+    let at = c .before .before .before .before .args .at in
+    let l = c .before .loop in
+    record {
+      few = omega arith;
+      same = one-more (l .buf) at (l .k - 1) (l .k) (l .rest) (omega arith) (omega arith) ∙ l .inv .same;
+      long = simp length-set (l .inv .long);
+    }
 
 returns : tie.Need-returns Inv-loop μ-loop
 returns c =
-    let a = c .before .before .before .before in
-    let p = c .before .before .places in
+    let p = c .before .before in
     let l = c .before .loop in
+    let count = p .places .ensures .same in
     record {
-      put = all-put (a .args .buf .now) (l .buf) (a .args .at) (p .result) (l .k) (a .args .n) (l .rest) (omega arith) (omega arith) (l .inv .1);
+      put = record {
+        held = sym (none-left (l .buf) (p .before .before .args .at) (l .k) (l .rest) (omega arith)) ∙ l .inv .same ∙ rw (digits-length, count);
+        ends = rw (digits-length, count);
+      };
       within = omega arith;
     }
 
@@ -61,6 +62,5 @@ pub put-decimal-spec : {M : Type 1} → statement M
 put-decimal-spec =
     tie.close
     (tie.spec
-    Inv-loop μ-loop (λ c κs. search needs) (λ c. (omega arith, refl, refl)) (λ c. omega arith) (λ c. omega arith)
-    (λ c. omega arith) (λ c. omega arith) (λ c. omega arith) (λ c. omega arith) loop-again (λ c. omega arith)
-    (λ c. c .before .loop .inv .2) returns)
+    Inv-loop μ-loop (λ c κs. search needs) (λ c. record { few = omega arith; same = refl; long = refl }) (λ c. omega arith) (λ c. omega arith)
+    (λ c. omega arith) (λ c. omega arith) (λ c. omega arith) (λ c. omega arith) loop-again (λ c. omega arith) (λ c. omega arith) returns)
