@@ -18,19 +18,19 @@ clear : (c : tie.Else1) → let a = start (asked c) .args in useCode (planOf (a 
 clear c = sym (asked c .user-in .ensures .0) ∙ c .if1 .left
 
 low : (c : tie.Else1) → asked c .user-in .result .task < 64
-low c = omega (arith, asked c .user-in .ensures .1, use-task _ _ _ (clear c), valid-plan _ (start (asked c) .pre .0 .plan) .tasks)
+low c = omega (arith, asked c .user-in .ensures .1, use-task _ _ _ (clear c), valid-plan _ (start (asked c) .pre .known .plan) .tasks)
 
 returns-2 : tie.Need-returns-2
 returns-2 c =
     let else = c .before .before .before in
     let p = start (asked else) .pre in
-    request-by _ (valid-plan _ (p .0 .plan)) _ (p .1) _ _ (clear else) (asked else .user-in .ensures .1) (c .before .is-in-line .ensures) (rw (c .if2 .taken))
+    request-by _ (valid-plan _ (p .known .plan)) _ (p .sound) _ _ (clear else) (asked else .user-in .ensures .1) (c .before .is-in-line .ensures) (rw (c .if2 .taken))
 
 returns-3 : tie.Need-returns-3
 returns-3 c =
     let else = c .before .before .before in
     let p = start (asked else) .pre in
-    request-by _ (valid-plan _ (p .0 .plan)) _ (p .1) _ _ (clear else) (asked else .user-in .ensures .1) (c .before .is-in-line .ensures) (rw (c .if2 .left))
+    request-by _ (valid-plan _ (p .known .plan)) _ (p .sound) _ _ (clear else) (asked else .user-in .ensures .1) (c .before .is-in-line .ensures) (rw (c .if2 .left))
 
 pub request-code-spec : {M : Type 1} → statement M
 request-code-spec =
