@@ -1,9 +1,11 @@
 -- The tests in their order; who holds is who sits first in the head's queue.
-use Rattle.folds.proofs.Ground.{_<_, _≤_, arith, needs}
+use Rattle.folds.proofs.Ground.{ℕ, _+_, _<_, _≤_, cond, _≡_, _∙_, eqb, arith, eq-eqb, ne-eqb, needs}
+use Rattle.refusals.specs.Numbers.{notHeld}
 use Rattle.plan_reading.specs.Plan.{planOf}
-use Rattle.plan_reading.proofs.Laws.{valid-plan}
 use Rattle.analysis_equations.specs.Questions.{taskNumber}
-use Rattle.machine.proofs.Freed.{release-unknown, release-past, Releases, release-free, head-seat, release-holder, release-other}
+use Rattle.machine_rules.specs.Machine.{releaseCode}
+use Rattle.machine_state.specs.Shows.{shows}
+use Rattle.machine.proofs.Freed.{release-unknown, release-past, Releases, low, release-free, head-seat, release-seat}
 use Rattle.machine.proofs.acting.release_code.Statement.{statement}
 use Rattle.machine.proofs.acting.release_code.Tie as tie
 
@@ -14,26 +16,20 @@ found c = c .before .before .before .before
 abbrev start : tie.After-task-number → tie.Start
 start c = c .before .before .before .before
 
-passed : (c : tie.Else2) → let a = start (found c) .args in Releases (planOf (a .file .now)) (a .t3) (a .tag) (a .q) (a .seats .now)
+passed : (c : tie.Else2) → let a = start (found c) .args in Releases (a .file .now) (a .t3) (a .tag) (a .q) (a .seats .now)
 passed c =
-    let p = start (found c) .pre in
     let n = found c .before .counts .ensures in
-    let i = found c .task-number .ensures in
     record {
-      valid = valid-plan _ (p .plan);
-      whole = p .sound;
-      seats-at = p .seated;
-      task = omega (arith, c .before .before .if1 .left, c .before .before .before .wide .ensures .same, i, n .tasks);
+      on = start (found c) .pre;
+      task = omega (arith, c .before .before .if1 .left, c .before .before .before .wide .ensures .same, found c .task-number .ensures, n .tasks);
       resource = omega (arith, c .if2 .left, n .resources);
     }
 
 returns : tie.Need-returns
 returns c =
-    let t = c .before .before in
-    let a = start t .args in
-    let l : planOf (a .file .now) .tasks ≤ taskNumber (planOf (a .file .now)) (a .tag) =
-    omega (arith, c .if1 .taken, c .before .wide .ensures .same, t .task-number .ensures, t .before .counts .ensures .tasks) in
-    release-unknown _ _ _ _ l
+    let w = c .before in
+    let t = w .before in
+    release-unknown _ _ _ _ (w .wide .ensures .same ∙ t .before .counts .ensures .tasks) (t .task-number .ensures) (c .if1 .taken)
 
 returns-2 : tie.Need-returns-2
 returns-2 c =
@@ -53,30 +49,25 @@ shared-slice-read-first : tie.Need-shared-slice-read-first
 shared-slice-read-first c =
     let held = c .before .before .before .before in
     let a = passed (clear held) in
-    omega (arith, head-seat a (held .if3 .left), c .before .before .wide2 .ensures .same, c .before .wide3 .ensures .same, a .seats-at .long)
+    omega (arith, head-seat a (held .if3 .left), c .before .before .wide2 .ensures .same, c .before .wide3 .ensures .same, a .on .seated .long)
 
-returns-4 : tie.Need-returns-4
-returns-4 c =
-    let first = c .before in
-    let core = first .before .before in
+-- who sits first there
+seated : (c : tie.After-wide4) {code : ℕ} → let held = c .before .before .before .before .before in let a = start (found (clear held)) .args in
+    code ≡ cond (eqb (c .wide4 .result) (found (clear held) .task-number .result + 1)) 0 notHeld
+    → code ≡ releaseCode (planOf (a .file .now)) (shows (planOf (a .file .now)) (a .t3)) (a .tag) (a .q)
+seated c e =
+    let core = c .before .before in
     let held = core .before .before .before in
-    release-holder (passed (clear held)) (held .if3 .left) (core .before .wide2 .ensures .same) (core .wide3 .ensures .same)
-    (first .wide4 .ensures .same) (found (clear held) .task-number .ensures) (c .if4 .taken)
-
-returns-5 : tie.Need-returns-5
-returns-5 c =
-    let first = c .before in
-    let core = first .before .before in
-    let held = core .before .before .before in
-    release-other (passed (clear held)) (held .if3 .left) (core .before .wide2 .ensures .same) (core .wide3 .ensures .same)
-    (first .wide4 .ensures .same) (found (clear held) .task-number .ensures) (c .if4 .left)
+    release-seat (passed (clear held)) (held .if3 .left) (core .before .wide2 .ensures .same) (core .wide3 .ensures .same)
+    (c .wide4 .ensures .same) (found (clear held) .task-number .ensures) e
 
 pub release-code-spec : {M : Type 1} → statement M
 release-code-spec =
     tie.close
     (tie.spec
     (λ c κs. search needs) (λ c κs. search needs) (λ c κs. search needs) returns returns-2 (λ c. search needs)
-    (λ c. let a = passed c in omega (arith, a .resource, a .valid .resources))
-    (λ c. release-free (passed (c .before .before .before)) (c .if3 .taken)) (λ c κs. search needs) (λ c. search needs)
+    (λ c. low (passed c)) (λ c. release-free (passed (c .before .before .before)) (c .if3 .taken))
+    (λ c κs. search needs) (λ c. search needs)
     (λ c. search needs) (λ c κs. search needs) (λ c. search needs) (λ c. search needs) shared-slice-read-first
-    (λ c κs. search needs) (λ c. search needs) returns-4 returns-5)
+    (λ c κs. search needs) (λ c. search needs) (λ c. seated (c .before) (rw (eq-eqb _ _ (c .if4 .taken))))
+    (λ c. seated (c .before) (rw (ne-eqb _ _ (c .if4 .left)))))

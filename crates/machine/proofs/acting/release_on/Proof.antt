@@ -1,7 +1,5 @@
 -- The resource is held, so its holder leaves.
 use Rattle.folds.proofs.Ground.{needs}
-use Rattle.plan_reading.specs.Plan.{planOf}
-use Rattle.plan_reading.proofs.Laws.{valid-plan}
 use Rattle.machine.proofs.Lengths.{length-mapped}
 use Rattle.machine.proofs.Freed.{Held, free-low, free-ready, free-next, free-done}
 use Rattle.machine.proofs.acting.release_on.Statement.{statement}
@@ -11,34 +9,15 @@ abbrev start : tie.After-wide → tie.Start
 start c = c .before .before .before .before .before
 
 held : (c : tie.After-wide) → let a = start c .args in
-    Held (planOf (a .file .now)) (a .t5) (a .q) (c .wide .result) (a .figures .now) (a .keys .now) (a .seats .now)
-held c =
-    let p = start c .pre in
-    record {
-      valid = valid-plan _ (p .on .known .plan);
-      whole = p .on .sound;
-      tables = record {
-        figures-at = p .on .known .figures;
-        keys-at = p .keyed;
-        seats-at = p .on .seated;
-        tasks-long = search (needs, length-mapped);
-        lines-long = search (needs, length-mapped);
-      };
-      resource = p .resource;
-      held = p .held;
-      copy = c .wide .ensures .same;
-    }
+    Held (a .file .now) (a .t5) (a .q) (c .wide .result) (a .figures .now) (a .keys .now) (a .seats .now)
+held c = record { frees = start c .pre; tables = search (needs, length-mapped); copy = c .wide .ensures .same }
 
 granted-requires : tie.Need-granted-requires
 granted-requires c κs =
     let w = c .before .before .before .before in
-    let on = start w .pre .on in
-    record {
-      plan = on .known .plan;
-      long = on .seated .long;
-      resource = free-low (held w);
-      head = free-next (held w) (c .before .leave .ensures);
-    }
+    let low = free-low (held w) in
+    let next = free-next (held w) (c .before .leave .ensures) in
+    search needs
 
 returns : tie.Need-returns
 returns c =

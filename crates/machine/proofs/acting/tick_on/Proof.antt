@@ -1,7 +1,6 @@
 -- The tables of the state are at hand, so the tick does what the rules say.
 use Rattle.folds.proofs.Ground.{needs}
 use Rattle.plan_reading.specs.Plan.{planOf}
-use Rattle.plan_reading.proofs.Laws.{valid-plan}
 use Rattle.machine_steps.proofs.Ready.{Tabled}
 use Rattle.machine.proofs.Lengths.{length-mapped}
 use Rattle.machine.proofs.Beaten.{beat-ready, beat-done}
@@ -9,25 +8,18 @@ use Rattle.machine.proofs.acting.tick_on.Statement.{statement}
 use Rattle.machine.proofs.acting.tick_on.Tie as tie
 
 tables : (c : tie.Start) → let a = c .args in Tabled (planOf (a .file .now)) (a .state) (a .figures .now) (a .keys .now) (a .seats .now)
-tables c =
-    record {
-      figures-at = c .pre .on .known .figures;
-      keys-at = c .pre .keyed;
-      seats-at = c .pre .on .seated;
-      tasks-long = search (needs, length-mapped);
-      lines-long = search (needs, length-mapped);
-    }
+tables c = search (needs, length-mapped)
 
 tick-requires : tie.Need-tick-requires
 tick-requires c κs =
     let a = c .before .before .before .before in
-    beat-ready _ (valid-plan _ (a .pre .on .known .plan)) _ (a .pre .on .sound) (tables a)
+    beat-ready (a .pre) (tables a)
 
 returns : tie.Need-returns
 returns c =
     let t = c .before in
     let a = t .before .before .before .before .before in
-    beat-done _ (valid-plan _ (a .pre .on .known .plan)) _ (a .pre .on .sound) (tables a) (t .tick .ensures)
+    beat-done (a .pre) (tables a) (t .tick .ensures)
 
 pub tick-on-spec : {M : Type 1} → statement M
 tick-on-spec = tie.close (tie.spec tick-requires returns)
