@@ -87,14 +87,19 @@ module _ {f : List ℕ} {s : State} {tag q : ℕ} {seats : List ℕ} (a : Releas
         e ∙ sym (release-by p (shows p s) tag q (a .task) (a .resource) ∙ rw (h, at, ← ex, ← ei))
 
 -- ── the answer ──
+-- one of n tasks, as its number plus 1
+pub record Seated (r n : ℕ) : Type 0 where
+  pub some : 1 ≤ r
+  pub low : r ≤ n
+
 -- r is the head's first task, as its number plus 1, read by a copy w of the head's number
 module _ {p : Plan} {seats : List ℕ} {q gone : ℕ} {l : LineRow} (h : NewHead p seats q gone l) {w r : ℕ} (ew : w ≡ slot l 0)
     (er : r ≡ getD seats ((q * mostProcessors + w) * mostTasks + boolByte (eqb (slot l 0) gone)) 0) where
   first-read : r ≡ getD seats (headSeat q gone l) 0
   first-read = rw flag at (seat-read seats q (slot l 0) (boolByte (eqb (slot l 0) gone)) ew er)
 
-  pub first-task : (1 ≤ r) × (r ≤ p .tasks)
-  first-task = (omega (arith, first-read, h .some), omega (arith, first-read, h .task))
+  pub first-task : Seated r (p .tasks)
+  first-task = record { some = omega (arith, first-read, h .some); low = omega (arith, first-read, h .task) }
 
   pub granted-next : {row : TaskRow} → l .queued ≢ 0 → row ≡ p .task (r - 1) → Next (row .tag) ≡ grantedAnswer p seats q gone l
   unfolding grantedAnswer

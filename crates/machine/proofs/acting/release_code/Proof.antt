@@ -47,19 +47,23 @@ clear c = c .before .before .before
 
 shared-slice-read-first : tie.Need-shared-slice-read-first
 shared-slice-read-first c =
-    let held = c .before .before .before .before in
-    let a = passed (clear held) in
-    omega (arith, head-seat a (held .if3 .left), c .before .before .wide2 .ensures .same, c .before .wide3 .ensures .same, a .on .seated .long)
+    let else = c .before .before .before .before in
+    let a = passed (clear else) in
+    omega (arith, head-seat a (else .if3 .left), c .before .before .wide2 .ensures .same, c .before .wide3 .ensures .same, a .on .seated .long)
 
--- who sits first there
-seated : (c : tie.After-wide4) {code : ℕ} → let held = c .before .before .before .before .before in let a = start (found (clear held)) .args in
-    code ≡ cond (eqb (c .wide4 .result) (found (clear held) .task-number .result + 1)) 0 notHeld
+-- ── once the first seat there is read ──
+abbrev core : tie.After-wide4 → tie.After-wide3
+core c = c .before .before
+
+abbrev held : tie.After-wide4 → tie.Else3
+held c = core c .before .before .before
+
+seated : (c : tie.After-wide4) {code : ℕ} → let t = found (clear (held c)) in let a = start t .args in
+    code ≡ cond (eqb (c .wide4 .result) (t .task-number .result + 1)) 0 notHeld
     → code ≡ releaseCode (planOf (a .file .now)) (shows (planOf (a .file .now)) (a .t3)) (a .tag) (a .q)
 seated c e =
-    let core = c .before .before in
-    let held = core .before .before .before in
-    release-seat (passed (clear held)) (held .if3 .left) (core .before .wide2 .ensures .same) (core .wide3 .ensures .same)
-    (c .wide4 .ensures .same) (found (clear held) .task-number .ensures) e
+    release-seat (passed (clear (held c))) (held c .if3 .left) (core c .before .wide2 .ensures .same) (core c .wide3 .ensures .same)
+    (c .wide4 .ensures .same) (found (clear (held c)) .task-number .ensures) e
 
 pub release-code-spec : {M : Type 1} → statement M
 release-code-spec =

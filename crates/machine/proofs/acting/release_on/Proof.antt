@@ -6,7 +6,9 @@ use Rattle.machine.proofs.acting.release_on.Statement.{statement}
 use Rattle.machine.proofs.acting.release_on.Tie as tie
 
 abbrev start : tie.After-wide → tie.Start
-start c = c .before .before .before .before .before
+start c =
+    let known = c .before in
+    known .before .before .before .before
 
 held : (c : tie.After-wide) → let a = start c .args in
     Held (a .file .now) (a .t5) (a .q) (c .wide .result) (a .figures .now) (a .keys .now) (a .seats .now)

@@ -7,19 +7,17 @@ use Rattle.machine.proofs.Beaten.{beat-ready, beat-done}
 use Rattle.machine.proofs.acting.tick_on.Statement.{statement}
 use Rattle.machine.proofs.acting.tick_on.Tie as tie
 
+abbrev start : tie.After-shared-slice-known4 → tie.Start
+start c = c .before .before .before .before
+
 tables : (c : tie.Start) → let a = c .args in Tabled (planOf (a .file .now)) (a .state) (a .figures .now) (a .keys .now) (a .seats .now)
 tables c = search (needs, length-mapped)
-
-tick-requires : tie.Need-tick-requires
-tick-requires c κs =
-    let a = c .before .before .before .before in
-    beat-ready (a .pre) (tables a)
 
 returns : tie.Need-returns
 returns c =
     let t = c .before in
-    let a = t .before .before .before .before .before in
+    let a = start (t .before) in
     beat-done (a .pre) (tables a) (t .tick .ensures)
 
 pub tick-on-spec : {M : Type 1} → statement M
-tick-on-spec = tie.close (tie.spec tick-requires returns)
+tick-on-spec = tie.close (tie.spec (λ c κs. beat-ready (start c .pre) (tables (start c))) returns)
