@@ -1,10 +1,9 @@
 -- What a request is refused for, what it tells where it is not, and what it then does.
-use Rattle.folds.proofs.Ground.{ℕ, _+_, _*_, _<_, _≤_, Bool, true, false, cond, not, _≡_, sym, _∙_, _≢_, _⊎_, inl, inr, List, eqb, ltb, mul-le-mul, arith, ne-eqb, eqb-true, ltb-true, not-false}
+use Rattle.folds.proofs.Ground.{ℕ, _+_, _*_, _<_, _≤_, Bool, true, false, cond, not, _≡_, sym, _∙_, _≢_, _⊎_, inl, inr, List, eqb, ltb, length, mul-le-mul, arith, ne-eqb, eqb-true, ltb-true, not-false}
 use Rattle.folds.proofs.Tests.{is-not-true, code-zero, code-next, first-zero, then-zero}
-use Rattle.sizes.specs.Sizes.{mostProcessors, mostResources, absent}
+use Rattle.sizes.specs.Sizes.{mostProcessors, mostTasks, mostResources, absent}
 use Rattle.refusals.specs.Numbers.{alreadyInLine}
-use Rattle.plan_reading.specs.Plan.{Plan, planOf, Valid}
-use Rattle.plan_reading.proofs.Laws.{valid-plan}
+use Rattle.plan_reading.specs.Plan.{Plan, Valid}
 use Rattle.analysis_equations.specs.Sharing.{processorOf, uses, global}
 use Rattle.analysis_equations.specs.HoldTimes.{holdAt, waitTime}
 use Rattle.analysis_equations.specs.Questions.{taskNumber, sharingCode, useCode}
@@ -13,17 +12,18 @@ use Rattle.machine_rules.specs.declared.Answer.{Answer}
 use Rattle.machine_rules.specs.declared.Answer.the-variants.{Granted, Waits}
 use Rattle.machine_rules.specs.declared.Call.the-variants.{Request}
 use Rattle.machine_rules.specs.Machine.{View, busy, requestCode, requestAnswer}
+use Rattle.analysis_figures.specs.Figures.{Figures}
 use Rattle.machine_state.specs.declared.State.{State}
 use Rattle.machine_state.specs.Shows.{standing, lineAt, shows, noneInLine}
 use Rattle.machine_state.specs.Sound.{sound}
+use Rattle.machine_state.specs.Inner.{Seats}
 use Rattle.machine_state.proofs.Tables.{low-processor}
 use Rattle.machine_state.proofs.Good.{Whole}
 use Rattle.machine_state.proofs.Wholes.{hold-resource, whole-of, sound-of}
 use Rattle.machine_steps.specs.Inner.{Joining, joinedBy, taken, takenHolds}
 use Rattle.machine_steps.proofs.Joins.{aheadOf, entering, join-room, joined-whole, joined-shows}
 use Rattle.machine_steps.proofs.Asking.{taken-is, request-granted, request-waits, busy-is}
-use Rattle.machine.specs.Inner.{Asks, Acted}
-use Rattle.machine.proofs.Lengths.{Rows}
+use Rattle.machine.specs.Inner.{Acted}
 
 -- ── the number ──
 -- a task that may use the resource is there, and so is the resource
@@ -71,7 +71,7 @@ module _ (p : Plan) (v : Valid p) (s : State) (h : sound p s ≡ true) (tag q : 
   request-by {i} z e h j = rw (z, ← e, busy-is p v s whole i (rw e (use-task p tag q z)), ← h) j
 
   -- what the number 0 tells
-  request-free : requestCode p (shows p s) tag q ≡ 0 → Free p s (taskNumber p tag) q
+  pub request-free : requestCode p (shows p s) tag q ≡ 0 → Free p s (taskNumber p tag) q
   unfolding requestCode
   request-free z =
       let i = taskNumber p tag in
@@ -94,27 +94,34 @@ module _ (p : Plan) (v : Valid p) (s : State) (h : sound p s ≡ true) (tag q : 
       none i r (inr x) = let bad : ⊥ = omega (arith, v .resources, hold-resource p v i (standing (s .tasks) i .resource) x) in absurd bad
 
 -- ── what a request does that is not refused ──
+-- on a sound state, with the tables of the plan and the state
+pub record Accepted (p : Plan) (s : State) (tag q : ℕ) (figures seats : List ℕ) : Type 0 where
+  pub valid : Valid p
+  pub whole : Whole p s
+  pub tasks-long : length (s .tasks) ≡ mostTasks
+  pub lines-long : length (s .lines) ≡ mostResources
+  pub free : Free p s (taskNumber p tag) q
+  pub table : Figures p figures
+  pub seated : Seats p (s .tasks) seats
+
 -- what the code calls the task, its processor and the resource: i, k and r
 pub record Named (p : Plan) (tag q i k r : ℕ) : Type 0 where
   pub task : i ≡ taskNumber p tag
   pub processor : k ≡ processorOf p i
   pub resource : r ≡ q
 
-module _ {f : List ℕ} {s : State} {tag q : ℕ} {figures seats : List ℕ} (h : Asks f s figures seats tag q) (rows : Rows s) where
-  abbrev p : Plan
-  p = planOf f
-
+module _ {p : Plan} {s : State} {tag q : ℕ} {figures seats : List ℕ} (h : Accepted p s tag q figures seats) where
   abbrev v : Valid p
-  v = valid-plan f (h .on .known .plan)
+  v = h .valid
 
   abbrev i : ℕ
   i = taskNumber p tag
 
   abbrev w : Whole p s
-  w = whole-of p v s (h .on .sound)
+  w = h .whole
 
-  pub may : Free p s i q
-  may = request-free p v s (h .on .sound) tag q (h .code)
+  abbrev may : Free p s i q
+  may = h .free
 
   low : q < mostResources
   low = omega (arith, v .resources, may .resource)
@@ -127,8 +134,8 @@ module _ {f : List ℕ} {s : State} {tag q : ℕ} {figures seats : List ℕ} (h 
   done e =
       record {
         answer = e;
-        sound = sound-of p v (entering p s i q) (joined-whole p v s w (rows .tasks) (rows .lines) i q (may .task) (may .some) (may .idle));
-        shows = joined-shows p v s w (rows .tasks) (rows .lines) i q (may .task) (may .some) (may .idle);
+        sound = sound-of p v (entering p s i q) (joined-whole p v s w (h .tasks-long) (h .lines-long) i q (may .task) (may .some) (may .idle));
+        shows = joined-shows p v s w (h .tasks-long) (h .lines-long) i q (may .task) (may .some) (may .idle);
       }
 
   -- and so the code has it
@@ -141,22 +148,22 @@ module _ {f : List ℕ} {s : State} {tag q : ℕ} {figures seats : List ℕ} (h 
 
     module _ {n : ℕ} (e : n ≡ taken seats r k) where
       ahead : n ≡ aheadOf p s i q
-      ahead = e ∙ rw (g .processor, g .task, g .resource) (taken-is p v s w q (processorOf p i) low low-core (h .on .seated))
+      ahead = e ∙ rw (g .processor, g .task, g .resource) (taken-is p v s w q (processorOf p i) low low-core (h .seated))
 
       pub ask-joins : Joining figures s q j k n
       ask-joins =
           record {
-            figures-long = h .on .known .figures .long;
+            figures-long = h .table .long;
             resource = low;
             task = omega (arith, g .task, v .tasks, may .task);
             core = core-low;
-            room = λ z. join-room p v s w (rows .tasks) (rows .lines) i q (may .task) (may .some) (may .idle) (sym ahead ∙ z);
+            room = λ z. join-room p v s w (h .tasks-long) (h .lines-long) i q (may .task) (may .some) (may .idle) (sym ahead ∙ z);
           }
 
       module _ {next : State} (made : next ≡ joinedBy figures s q j k n) where
         joined-is : next ≡ entering p s i q
         joined-is =
-            let t = h .on .known .figures in
+            let t = h .table in
             made ∙ rw (ahead, g .processor, g .task, t .hold i q (omega (arith, v .tasks, may .task)) low, t .budget (processorOf p i) q low-core low)
 
         pub ask-granted : lineAt s r .queued ≡ 0 → Acted p s (Request tag q) (record { answer = Granted; state = next })
@@ -166,7 +173,7 @@ module _ {f : List ℕ} {s : State} {tag q : ℕ} {figures seats : List ℕ} (h 
             → Acted p s (Request tag q) (record { answer = Waits n (x + (n + 1) * y); state = next })
         ask-waits {x} {y} d a b =
             let queued : 1 ≤ lineAt s q .queued = omega (arith, rw (g .resource) at d) in
-            let told = request-waits p v s w i q queued low (may .task) (h .on .seated) (h .on .known .figures) in
+            let told = request-waits p v s w i q queued low (may .task) (h .seated) (h .table) in
             rw joined-is (done (rw (e, a, b, g .processor, g .task, g .resource) (sym told)))
 
 -- a limit has 32 bits

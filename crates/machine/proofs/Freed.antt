@@ -5,8 +5,7 @@ use Rattle.folds.proofs.Tests.{code-zero, code-next}
 use Rattle.sizes.specs.Sizes.{mostProcessors, mostTasks, mostResources}
 use Rattle.refusals.specs.Numbers.{unknownTag, unknownResource, notHeld}
 use Rattle.plan_rules.specs.declared.TaskRow.{TaskRow}
-use Rattle.plan_reading.specs.Plan.{Plan, planOf, Valid}
-use Rattle.plan_reading.proofs.Laws.{valid-plan}
+use Rattle.plan_reading.specs.Plan.{Plan, Valid}
 use Rattle.analysis_equations.specs.Questions.{taskNumber}
 use Rattle.queue_rules.specs.Rules.{holds}
 use Rattle.machine_rules.specs.declared.Answer.{Answer}
@@ -17,14 +16,14 @@ use Rattle.folds.proofs.Searches.{on-eq}
 use Rattle.machine_state.specs.declared.LineRow.{LineRow}
 use Rattle.machine_state.specs.declared.State.{State}
 use Rattle.machine_state.specs.Shows.{lineAt, slot, shows}
-use Rattle.machine_state.specs.Inner.{seat, seatCount}
+use Rattle.machine_state.specs.Inner.{seat, seatCount, Seats}
 use Rattle.machine_state.proofs.Good.{Whole}
-use Rattle.machine_state.proofs.Wholes.{whole-of, sound-of}
+use Rattle.machine_state.proofs.Wholes.{sound-of}
 use Rattle.machine_steps.specs.Inner.{Leaving, leftBy}
 use Rattle.machine_steps.proofs.Passing.{flag, seat-read}
 use Rattle.machine_steps.proofs.Ready.{Tabled, sized, ready}
 use Rattle.machine_steps.proofs.Leaving.{head-low, holder-none, holder-seat, left-whole, left-shows, next-seat, next-told}
-use Rattle.machine.specs.Inner.{OnSeats, Frees, Acted, headSeat, NewHead, grantedAnswer}
+use Rattle.machine.specs.Inner.{Acted, headSeat, NewHead, grantedAnswer}
 
 -- ── the number, test by test ──
 module _ (p : Plan) (m : View) (tag q : ℕ) where
@@ -55,20 +54,16 @@ module _ (p : Plan) (m : View) (tag q : ℕ) where
     release-holds = code-zero _ 0 15 (code-next (ltb q (p .resources)) _ 11 after-tag)
 
 -- a release of a resource that is there by a task that is there, and the seats of the state
-pub record Releases (f : List ℕ) (s : State) (tag q : ℕ) (seats : List ℕ) : Type 0 where
-  pub on : OnSeats f s seats
-  pub task : taskNumber (planOf f) tag < planOf f .tasks
-  pub resource : q < planOf f .resources
+pub record Releases (p : Plan) (s : State) (tag q : ℕ) (seats : List ℕ) : Type 0 where
+  pub valid : Valid p
+  pub whole : Whole p s
+  pub seated : Seats p (s .tasks) seats
+  pub task : taskNumber p tag < p .tasks
+  pub resource : q < p .resources
 
-module _ {f : List ℕ} {s : State} {tag q : ℕ} {seats : List ℕ} (a : Releases f s tag q seats) where
-  abbrev p : Plan
-  p = planOf f
-
-  abbrev v : Valid p
-  v = valid-plan f (a .on .plan)
-
+module _ {p : Plan} {s : State} {tag q : ℕ} {seats : List ℕ} (a : Releases p s tag q seats) where
   pub low : q < mostResources
-  low = omega (arith, v .resources, a .resource)
+  low = omega (arith, a .valid .resources, a .resource)
 
   pub release-free : lineAt s q .queued ≡ 0 → notHeld ≡ releaseCode p (shows p s) tag q
   release-free e = sym (release-by p (shows p s) tag q (a .task) (a .resource) ∙ rw (holder-none p s q (taskNumber p tag) e))
@@ -76,14 +71,14 @@ module _ {f : List ℕ} {s : State} {tag q : ℕ} {seats : List ℕ} (a : Releas
   module _ (held : lineAt s q .queued ≢ 0) where
     -- the head's first seat is in the table
     pub head-seat : seat q (slot (lineAt s q) 0) 0 < seatCount
-    head-seat = omega (arith, low, head-low p v s (whole-of p v s (a .on .sound)) q low (omega arith))
+    head-seat = omega (arith, low, head-low p (a .valid) s (a .whole) q low (omega arith))
 
     -- who sits there holds: x, read by copies of the numbers, beside the task's number i
     pub release-seat : {r k x i code : ℕ} → r ≡ q → k ≡ slot (lineAt s q) 0 → x ≡ getD seats ((r * mostProcessors + k) * mostTasks) 0
         → i ≡ taskNumber p tag → code ≡ cond (eqb x (i + 1)) 0 notHeld → code ≡ releaseCode p (shows p s) tag q
     release-seat {r} {k} er ek ex ei e =
         let at : seat q (slot (lineAt s q) 0) 0 ≡ (r * mostProcessors + k) * mostTasks = omega arith in
-        let h = holder-seat p v s (whole-of p v s (a .on .sound)) q low (omega arith) (a .on .seated) (taskNumber p tag) in
+        let h = holder-seat p (a .valid) s (a .whole) q low (omega arith) (a .seated) (taskNumber p tag) in
         e ∙ sym (release-by p (shows p s) tag q (a .task) (a .resource) ∙ rw (h, at, ← ex, ← ei))
 
 -- ── the answer ──
@@ -115,45 +110,40 @@ release-held p v s tag q e = (
 )
 
 -- a resource that is held, and the tables of the state; r is a copy of the resource's number
-pub record Held (f : List ℕ) (s : State) (q r : ℕ) (figures keys seats : List ℕ) : Type 0 where
-  pub frees : Frees f s figures keys seats q
-  pub tables : Tabled (planOf f) s figures keys seats
+pub record Held (p : Plan) (s : State) (q r : ℕ) (figures keys seats : List ℕ) : Type 0 where
+  pub valid : Valid p
+  pub whole : Whole p s
+  pub tables : Tabled p s figures keys seats
+  pub resource : q < mostResources
+  pub held : 1 ≤ lineAt s q .queued
   pub copy : r ≡ q
 
-module _ {f : List ℕ} {s : State} {q r : ℕ} {figures keys seats : List ℕ} (h : Held f s q r figures keys seats) where
-  abbrev plan : Plan
-  plan = planOf f
-
-  abbrev valid : Valid plan
-  valid = valid-plan f (h .frees .on .known .plan)
-
-  abbrev w : Whole plan s
-  w = whole-of plan valid s (h .frees .on .sound)
-
+module _ {p : Plan} {s : State} {q r : ℕ} {figures keys seats : List ℕ} (h : Held p s q r figures keys seats) where
   pub free-low : r < mostResources
-  free-low = omega (arith, h .copy, h .frees .resource)
+  free-low = omega (arith, h .copy, h .resource)
 
   held : 1 ≤ lineAt s r .queued
-  held = rw (h .copy) (h .frees .held)
+  held = rw (h .copy) (h .held)
 
   pub free-ready : Leaving figures keys seats r (lineAt s r)
   free-ready =
       record {
-        tables = sized plan valid s w (h .tables);
+        tables = sized p (h .valid) s (h .whole) (h .tables);
         resource = free-low;
-        ready = ready plan valid s w (h .tables) r free-low held;
+        ready = ready p (h .valid) s (h .whole) (h .tables) r free-low held;
       }
 
   module _ {n : State} (e : n ≡ leftBy figures keys seats r s) where
-    pub free-next : 1 ≤ lineAt n r .queued → NewHead plan seats r (slot (lineAt s r) 0) (lineAt n r)
-    free-next = rw e (λ a. let g = next-seat plan valid s w (h .tables) r free-low held a in record { placed = g .0; some = g .1; task = g .2 })
+    pub free-next : 1 ≤ lineAt n r .queued → NewHead p seats r (slot (lineAt s r) 0) (lineAt n r)
+    free-next =
+        rw e (λ a. let g = next-seat p (h .valid) s (h .whole) (h .tables) r free-low held a in record { placed = g .0; some = g .1; task = g .2 })
 
-    pub free-done : {a : Answer} → a ≡ grantedAnswer plan seats r (slot (lineAt s r) 0) (lineAt n r)
-        → (tag : ℕ) → Acted plan s (Release tag q) (record { answer = a; state = n })
+    pub free-done : {a : Answer} → a ≡ grantedAnswer p seats r (slot (lineAt s r) 0) (lineAt n r)
+        → (tag : ℕ) → Acted p s (Release tag q) (record { answer = a; state = n })
     unfolding grantedAnswer
     free-done j tag =
         record {
-          answer = rw (← h .copy, j, e) (sym (next-told plan valid s w (h .tables) r free-low held));
-          sound = rw e (sound-of plan valid _ (left-whole plan valid s w (h .tables) r free-low held));
-          shows = rw (← h .copy, e) (left-shows plan valid s w (h .tables) r free-low held);
+          answer = rw (← h .copy, j, e) (sym (next-told p (h .valid) s (h .whole) (h .tables) r free-low held));
+          sound = rw e (sound-of p (h .valid) _ (left-whole p (h .valid) s (h .whole) (h .tables) r free-low held));
+          shows = rw (← h .copy, e) (left-shows p (h .valid) s (h .whole) (h .tables) r free-low held);
         }

@@ -1,11 +1,5 @@
 -- The rows of a state are as many as its type says.
 use Rattle.folds.proofs.Ground.{ℕ, _≡_, sym, _∙_, List, map, length, length-map}
-use Rattle.sizes.specs.Sizes.{mostTasks, mostResources}
-use Rattle.machine_state.specs.declared.State.{State}
-
-pub record Rows (s : State) : Type 0 where
-  pub tasks : length (s .tasks) ≡ mostTasks
-  pub lines : length (s .lines) ≡ mostResources
 
 pub length-mapped : (X Y : Type 0) (f : X → Y) (l : List X) (n : ℕ) → length (map f l) ≡ n → length l ≡ n
 length-mapped X Y f l n e = sym (length-map l f) ∙ e

@@ -2,9 +2,11 @@
 use Rattle.folds.proofs.Ground.{ℕ, _+_, _<_, _≤_, cond, _≡_, _∙_, eqb, arith, eq-eqb, ne-eqb, needs}
 use Rattle.refusals.specs.Numbers.{notHeld}
 use Rattle.plan_reading.specs.Plan.{planOf}
+use Rattle.plan_reading.proofs.Laws.{valid-plan}
 use Rattle.analysis_equations.specs.Questions.{taskNumber}
 use Rattle.machine_rules.specs.Machine.{releaseCode}
 use Rattle.machine_state.specs.Shows.{shows}
+use Rattle.machine_state.proofs.Wholes.{whole-of}
 use Rattle.machine.proofs.Freed.{release-unknown, release-past, Releases, low, release-free, head-seat, release-seat}
 use Rattle.machine.proofs.acting.release_code.Statement.{statement}
 use Rattle.machine.proofs.acting.release_code.Tie as tie
@@ -16,14 +18,14 @@ found c = c .before .before .before .before
 abbrev start : tie.After-task-number → tie.Start
 start c = c .before .before .before .before
 
-passed : (c : tie.Else2) → let a = start (found c) .args in Releases (a .file .now) (a .t3) (a .tag) (a .q) (a .seats .now)
+passed : (c : tie.Else2) → let a = start (found c) .args in Releases (planOf (a .file .now)) (a .t3) (a .tag) (a .q) (a .seats .now)
 passed c =
     let n = found c .before .counts .ensures in
-    record {
-      on = start (found c) .pre;
-      task = omega (arith, c .before .before .if1 .left, c .before .before .before .wide .ensures .same, found c .task-number .ensures, n .tasks);
-      resource = omega (arith, c .if2 .left, n .resources);
-    }
+    let a = start (found c) .args in
+    let task : taskNumber (planOf (a .file .now)) (a .tag) < planOf (a .file .now) .tasks =
+    omega (arith, c .before .before .if1 .left, c .before .before .before .wide .ensures .same, found c .task-number .ensures, n .tasks) in
+    let resource : a .q < planOf (a .file .now) .resources = omega (arith, c .if2 .left, n .resources) in
+    search (needs, valid-plan, whole-of)
 
 returns : tie.Need-returns
 returns c =
@@ -49,7 +51,7 @@ shared-slice-read-first : tie.Need-shared-slice-read-first
 shared-slice-read-first c =
     let else = c .before .before .before .before in
     let a = passed (clear else) in
-    omega (arith, head-seat a (else .if3 .left), c .before .before .wide2 .ensures .same, c .before .wide3 .ensures .same, a .on .seated .long)
+    omega (arith, head-seat a (else .if3 .left), c .before .before .wide2 .ensures .same, c .before .wide3 .ensures .same, a .seated .long)
 
 -- ── once the first seat there is read ──
 abbrev core : tie.After-wide4 → tie.After-wide3

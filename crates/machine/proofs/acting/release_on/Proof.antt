@@ -1,5 +1,8 @@
 -- The resource is held, so its holder leaves.
 use Rattle.folds.proofs.Ground.{needs}
+use Rattle.plan_reading.specs.Plan.{planOf}
+use Rattle.plan_reading.proofs.Laws.{valid-plan}
+use Rattle.machine_state.proofs.Wholes.{whole-of}
 use Rattle.machine.proofs.Lengths.{length-mapped}
 use Rattle.machine.proofs.Freed.{Held, free-low, free-ready, free-next, free-done}
 use Rattle.machine.proofs.acting.release_on.Statement.{statement}
@@ -11,8 +14,8 @@ start c =
     known .before .before .before .before
 
 held : (c : tie.After-wide) → let a = start c .args in
-    Held (a .file .now) (a .t5) (a .q) (c .wide .result) (a .figures .now) (a .keys .now) (a .seats .now)
-held c = record { frees = start c .pre; tables = search (needs, length-mapped); copy = c .wide .ensures .same }
+    Held (planOf (a .file .now)) (a .t5) (a .q) (c .wide .result) (a .figures .now) (a .keys .now) (a .seats .now)
+held c = let same = c .wide .ensures .same in search (needs, length-mapped, valid-plan, whole-of)
 
 granted-requires : tie.Need-granted-requires
 granted-requires c κs =

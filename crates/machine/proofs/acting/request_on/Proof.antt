@@ -4,8 +4,10 @@ use Rattle.folds.proofs.Ground.{_<_, ap, arith, needs}
 use Rattle.sizes.specs.Sizes.{mostResources}
 use Rattle.plan_rules.specs.declared.TaskRow.{TaskRow}
 use Rattle.plan_reading.specs.Plan.{planOf}
-use Rattle.machine.proofs.Lengths.{Rows, length-mapped}
-use Rattle.machine.proofs.Asked.{Named, may, core-low, resource-low, ask-joins, ask-granted, ask-waits, waits-high}
+use Rattle.plan_reading.proofs.Laws.{valid-plan}
+use Rattle.machine_state.proofs.Wholes.{whole-of}
+use Rattle.machine.proofs.Lengths.{length-mapped}
+use Rattle.machine.proofs.Asked.{Accepted, Named, request-free, core-low, resource-low, ask-joins, ask-granted, ask-waits, waits-high}
 use Rattle.machine.proofs.acting.request_on.Statement.{statement}
 use Rattle.machine.proofs.acting.request_on.Tie as tie
 
@@ -13,8 +15,9 @@ use Rattle.machine.proofs.acting.request_on.Tie as tie
 abbrev start : tie.After-task-number → tie.Start
 start c = c .before .before .before .before
 
-rows : (c : tie.After-task-number) → Rows (start c .args .t4)
-rows c = search (needs, length-mapped)
+accepted : (c : tie.After-task-number) → let a = start c .args in
+    Accepted (planOf (a .file .now)) (a .t4) (a .tag) (a .q) (a .figures .now) (a .seats .now)
+accepted c = search (needs, length-mapped, valid-plan, whole-of, request-free)
 
 -- ── once its row is read ──
 abbrev found : tie.After-wide → tie.After-task-number
@@ -30,27 +33,27 @@ named c =
     }
 
 low-resource : (c : tie.After-wide) → c .wide .result < mostResources
-low-resource c = resource-low (start (found c) .pre) (rows (found c)) (named c)
+low-resource c = resource-low (accepted (found c)) (named c)
 
 -- ── the needs ──
 ahead-of-requires : tie.Need-ahead-of-requires
 ahead-of-requires c κs =
     let resource = low-resource c in
-    let core = core-low (start (found c) .pre) (rows (found c)) (named c) in
+    let core = core-low (accepted (found c)) (named c) in
     search needs
 
 join-requires : tie.Need-join-requires
 join-requires c κs =
     let n = c .before in
     let t = found (n .before) in
-    ask-joins (start t .pre) (rows t) (named (n .before)) (n .ahead-of .ensures .counted)
+    ask-joins (accepted t) (named (n .before)) (n .ahead-of .ensures .counted)
 
 returns : tie.Need-returns
 returns c =
     let j = c .before .before in
     let n = j .before .before in
     let t = found (n .before) in
-    ask-granted (start t .pre) (rows t) (named (n .before)) (n .ahead-of .ensures .counted) (j .join .ensures) (c .if1 .taken)
+    ask-granted (accepted t) (named (n .before)) (n .ahead-of .ensures .counted) (j .join .ensures) (c .if1 .taken)
 
 wait-in-requires : tie.Need-wait-in-requires
 wait-in-requires c κs =
@@ -77,12 +80,12 @@ returns-2 c =
     let n = j .before .before in
     let t = found (n .before) in
     let ahead = n .ahead-of .ensures in
-    ask-waits (start t .pre) (rows t) (named (n .before)) (ahead .counted) (j .join .ensures) (else .if1 .left) (ahead .held) (wait .wait-in .ensures .0)
+    ask-waits (accepted t) (named (n .before)) (ahead .counted) (j .join .ensures) (else .if1 .left) (ahead .held) (wait .wait-in .ensures .0)
 
 pub request-on-spec : {M : Type 1} → statement M
 request-on-spec =
     tie.close
     (tie.spec
-    (λ c κs. search needs) (λ c κs. (start c .pre .on .known .plan, omega (arith, c .task-number .ensures, may (start c .pre) (rows c) .task))) (λ c κs. search needs) ahead-of-requires
+    (λ c κs. search needs) (λ c κs. (start c .pre .on .known .plan, omega (arith, c .task-number .ensures, accepted c .free .task))) (λ c κs. search needs) ahead-of-requires
     (λ c. search needs) (λ c. low-resource (c .before)) join-requires returns wait-in-requires (λ c. search needs)
     (λ c. search needs) mul-t25 add-t26 returns-2)

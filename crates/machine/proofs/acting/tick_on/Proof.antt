@@ -1,6 +1,9 @@
 -- The tables of the state are at hand, so the tick does what the rules say.
 use Rattle.folds.proofs.Ground.{needs}
-use Rattle.plan_reading.specs.Plan.{planOf}
+use Rattle.plan_reading.specs.Plan.{planOf, Valid}
+use Rattle.plan_reading.proofs.Laws.{valid-plan}
+use Rattle.machine_state.proofs.Good.{Whole}
+use Rattle.machine_state.proofs.Wholes.{whole-of}
 use Rattle.machine_steps.proofs.Ready.{Tabled}
 use Rattle.machine.proofs.Lengths.{length-mapped}
 use Rattle.machine.proofs.Beaten.{beat-ready, beat-done}
@@ -10,6 +13,12 @@ use Rattle.machine.proofs.acting.tick_on.Tie as tie
 abbrev start : tie.After-shared-slice-known4 → tie.Start
 start c = c .before .before .before .before
 
+valid : (c : tie.Start) → Valid (planOf (c .args .file .now))
+valid c = valid-plan _ (c .pre .on .known .plan)
+
+whole : (c : tie.Start) → Whole (planOf (c .args .file .now)) (c .args .state)
+whole c = whole-of _ (valid c) _ (c .pre .on .sound)
+
 tables : (c : tie.Start) → let a = c .args in Tabled (planOf (a .file .now)) (a .state) (a .figures .now) (a .keys .now) (a .seats .now)
 tables c = search (needs, length-mapped)
 
@@ -17,7 +26,7 @@ returns : tie.Need-returns
 returns c =
     let t = c .before in
     let a = start (t .before) in
-    beat-done (a .pre) (tables a) (t .tick .ensures)
+    beat-done (valid a) (whole a) (tables a) (t .tick .ensures)
 
 pub tick-on-spec : {M : Type 1} → statement M
-tick-on-spec = tie.close (tie.spec (λ c κs. beat-ready (start c .pre) (tables (start c))) returns)
+tick-on-spec = tie.close (tie.spec (λ c κs. beat-ready (valid (start c)) (whole (start c)) (tables (start c))) returns)
