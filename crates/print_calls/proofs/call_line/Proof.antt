@@ -3,15 +3,29 @@
 use Rattle.folds.proofs.Ground.{ℕ, refl, List, needs}
 use Rattle.print_text.proofs.Lines.{front-part, refused-before, none-before}
 use Rattle.print_calls.specs.Calls.{callLine}
+use Rattle.print_calls.proofs.Calls.{looked-at}
 use Rattle.print_calls.proofs.call_line.Statement.{statement}
 use Rattle.print_calls.proofs.call_line.Tie as tie
 
 -- ── once the number of the plan and of the state is known ──
+abbrev looked : tie.After-state-code → tie.After-look
+looked c = c .before .before .before
+
 abbrev start : tie.After-state-code → tie.Start
-start c = c .before .before .before .before .before .before .before
+start c = looked c .before .before .before .before
 
 abbrev text : tie.After-state-code → List ℕ
 text c = let a = start c .args in callLine (a .file .now) (a .state) (a .bytes)
+
+-- ── once the line is handed over ──
+abbrev over : tie.After-struct-known → tie.After-hand-over
+over c = c .before .before .before .before
+
+abbrev lent : tie.After-hand-over → tie.After-buf3
+lent c = c .before .before .before
+
+abbrev put : tie.After-hand-over → tie.After-put-call
+put c = lent c .before .before
 
 returns : tie.Need-returns
 returns c =
@@ -19,26 +33,32 @@ returns c =
     let h = refused-before (i .before .state-code .ensures) (text (i .before)) (start (i .before) .args .out .now) (i .if1 .taken) in
     rw (c .no-line .ensures) (h .0, (h .1, (λ z. absurd (i .if1 .taken z), λ d. refl)))
 
+put-call-requires : tie.Need-put-call-requires
+put-call-requires c κs =
+    let i = c .before .before in
+    let plan = looked-at _ (looked (i .before) .look .ensures .0) (i .before .state-code .ensures) (i .if1 .left) in
+    search needs
+
 returns-2 : tie.Need-returns-2
 returns-2 c =
-    let h = c .before .before .before .before .before in
-    let p = h .before .before .before .before .before in
-    let i = p .before .before .before in
-    let e = none-before (i .before .state-code .ensures) (text (i .before)) (start (i .before) .args .out .now) (i .if1 .left) (rw (front-part (p .put-call .ensures .line .put)) at (h .hand-over .ensures)) in
+    let h = over (c .before) in
+    let i = put h .before .before .before in
+    let line = rw (front-part (put h .put-call .ensures .line .put)) at (h .hand-over .ensures) in
+    let e = none-before (i .before .state-code .ensures) (text (i .before)) (start (i .before) .args .out .now) (i .if1 .left) line in
     (e .0, (e .1, (λ z. absurd (c .if2 .taken z), λ d. refl)))
 
 returns-3 : tie.Need-returns-3
 returns-3 c =
-    let h = c .before .before .before .before .before in
-    let p = h .before .before .before .before .before in
-    let i = p .before .before .before in
-    let e = none-before (i .before .state-code .ensures) (text (i .before)) (start (i .before) .args .out .now) (i .if1 .left) (rw (front-part (p .put-call .ensures .line .put)) at (h .hand-over .ensures)) in
-    (e .0, (e .1, (λ z. p .put-call .ensures .after, λ d. absurd (d (c .if2 .left)))))
+    let h = over (c .before) in
+    let i = put h .before .before .before in
+    let line = rw (front-part (put h .put-call .ensures .line .put)) at (h .hand-over .ensures) in
+    let e = none-before (i .before .state-code .ensures) (text (i .before)) (start (i .before) .args .out .now) (i .if1 .left) line in
+    (e .0, (e .1, (λ z. put h .put-call .ensures .after, λ d. absurd (d (c .if2 .left)))))
 
 pub call-line-spec : {M : Type 1} → statement M
 call-line-spec =
     tie.close
     (tie.spec
     (λ c. search needs) (λ c κs. search needs) (λ c. search needs) (λ c κs. search needs) (λ c κs. search needs) returns
-    (λ c. search needs) (λ c. search needs) (λ c κs. search needs) (λ c. search needs) (λ c. search needs) (λ c. search needs)
+    (λ c. search needs) (λ c. search needs) put-call-requires (λ c. search needs) (λ c. search needs) (λ c. search needs)
     (λ c κs. search needs) (λ c. search needs) returns-2 (λ c. search needs) returns-3)

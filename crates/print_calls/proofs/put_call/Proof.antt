@@ -19,7 +19,7 @@ put-answer-requires c κs =
     let d = i .before .before in
     let file = d .before .before .shared-slice-known .given in
     let e = decoded-call _ (d .decode .ensures) (i .if1 .left) in
-    (rw (c .before .before .call .ensures .0) (call-names _ (λ k l. file k .fits) _ _ _ e), search needs)
+    (rw (c .before .before .call .ensures .answer) (call-names _ (λ k l. file k .fits) _ _ _ e), search needs)
 
 returns-2 : tie.Need-returns-2
 returns-2 c =
@@ -29,7 +29,7 @@ returns-2 c =
     let e = decoded-call _ (i .before .before .decode .ensures) (i .if1 .left) in
     let r = made .call .ensures in
     let p = put .put-answer .ensures in
-    stepped-call _ _ _ _ e (r .0) (r .1) p
+    stepped-call _ _ _ _ e (r .answer) (r .next) p
 
 pub put-call-spec : {M : Type 1} → statement M
 put-call-spec =
