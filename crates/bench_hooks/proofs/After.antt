@@ -15,7 +15,7 @@ use Rattle.machine_state.proofs.FreshLaws.{fresh-told}
 use Rattle.machine_state.proofs.Told.{SameRows, rows-told}
 use Rattle.machine.specs.Replies.{reply}
 use Rattle.machine.specs.Promise.{FreshRan}
-use Rattle.machine.proofs.Answered.{plan-refused, reply-refused}
+use Rattle.machine.proofs.Answered.{plan-refused, refused-reply}
 use Rattle.machine.proofs.Kept.{fresh-is, returned-answers}
 use Rattle.bench_hooks.specs.Calling.{answerNumber, answerAfter, callNumber, rowNumber, viewAfter, stateAfter}
 
@@ -38,7 +38,7 @@ module _ (f : List ℕ) (bytes : (i : ℕ) → i < length f → getD f i 0 < 256
   answer-after c =
       by-eq (λ (b : Bool). reply f s c ≡ cond b (answer (planOf f) (run (planOf f) before) c) (Refused (refusal f))) (refusal f) 0
       (λ z. let k : Accepted f = record { none = z; bytes = bytes } in returned-answers f k freshState fresh (fresh-is f k) before s c (r .returned))
-      (λ d. sym (reply-refused f s c (plan-refused f s c refl d) d))
+      (λ d. sym (refused-reply f s c (plan-refused f s c refl d) d .answer))
 
   pub number-after : (cs : List Call) → callNumber (reply f s) cs ≡ callNumber (answerAfter f before) cs
   number-after [] = refl

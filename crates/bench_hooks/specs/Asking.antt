@@ -7,15 +7,11 @@ use lib.ListN.{getD}
 use Rattle.plan.specs.Acceptance.{refusal}
 use Rattle.plan_reading.specs.Plan.{planOf}
 use Rattle.analysis_equations.specs.Requirement.{admitted}
-use Rattle.analysis.specs.Answers.{holdRefusal, longestFigure, holdTimes}
+use Rattle.analysis.specs.Answers.{holdTimes}
 
 -- one entry of the table of all hold times
 unfoldable pub holdNumber : List ℕ → ℕ → ℕ
 holdNumber f x = holdTimes f .refusal + 256 * getD (holdTimes f .times) (x % 1024) 0
-
--- the longest wait of the task with a tag for a resource
-unfoldable pub longestNumber : List ℕ → ℕ → ℕ → ℕ
-longestNumber f tag q = cond (eqb (holdRefusal f tag q) 0) (256 * longestFigure f tag q) (holdRefusal f tag q)
 
 -- 256 for a plan that is admitted, 0 for one that is not
 unfoldable pub admissionNumber : List ℕ → ℕ
