@@ -2,6 +2,7 @@
 -- that the lines of the rules tell.
 use Rattle.folds.proofs.Ground.{ℕ, _/_, _%_, _<_, Bool, cond, _≡_, refl, sym, ap, List, [], _∷_, length, getD, mod-lt, arith}
 use Rattle.folds.proofs.Arrays.{by-eq}
+use Rattle.sizes.specs.Sizes.{mostProcessors, mostTasks, mostResources}
 use Rattle.plan_reading.specs.Plan.{planOf}
 use Rattle.plan.specs.Acceptance.{refusal, Accepted}
 use Rattle.plan.proofs.Laws.{accepted-valid}
@@ -22,9 +23,9 @@ use Rattle.bench_hooks.specs.Calling.{answerNumber, answerAfter, callNum
 -- states that agree in all rows have the same numbers
 same-number : (s t : State) → SameRows s t → (x : ℕ) → rowNumber s x ≡ rowNumber t x
 same-number s t e x =
-    let task = e .tasks (x % 64) (mod-lt x (omega arith)) in
-    let line = e .lines (x % 16) (mod-lt x (omega arith)) in
-    rw (task, line .queued, line .hold, line .budget, line .slots (x / 16 % 8) (mod-lt (x / 16) (omega arith)))
+    let task = e .tasks (x % mostTasks) (mod-lt x (omega arith)) in
+    let line = e .lines (x % mostResources) (mod-lt x (omega arith)) in
+    rw (task, line .queued, line .hold, line .budget, line .slots (x / mostResources % mostProcessors) (mod-lt (x / mostResources) (omega arith)))
 
 same-self : (s : State) → SameRows s s
 same-self s = record {

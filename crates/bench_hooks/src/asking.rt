@@ -3,6 +3,9 @@ use analysis::AdmissionAnswer;
 ghost use mathlib.Core.Path.{_≡_};
 ghost use Rattle.bench_hooks.specs.Asking.{holdNumber, admissionNumber};
 
+// The hold times of a plan.
+const HOLDS: usize = sizes::TASKS * sizes::RESOURCES;
+
 // Works out all hold times of a plan and returns that at x modulo 1,024, where resource q by task i is i * 16 + q, above the
 // refusal in the low byte. Which one is asked is not known before, so a caller that measures this measures all.
 #[no_mangle]
@@ -10,7 +13,7 @@ pub extern "C" fn hold_time_at(file: &[u8], x: u16) -> u64
     ensures { λ r. ⌜ r ≡ holdNumber (now (file .entry)) x ⌝ }
 {
     let found = analysis::hold_times(file);
-    let at = (x % 1024) as usize;
+    let at = x as usize % HOLDS;
     folds::byte(found.refusal) + 256 * folds::word(found.times[at])
 }
 
