@@ -9,10 +9,6 @@ use Rattle.machine.proofs.Freed.{Seated, first-task, granted-next}
 use Rattle.machine.proofs.acting.granted.Statement.{statement}
 use Rattle.machine.proofs.acting.granted.Tie as tie
 
-returns : tie.Need-returns
-unfolding grantedAnswer
-returns c = rw (eq-eqb _ _ (c .if1 .taken))
-
 -- ── where somebody is queued ──
 abbrev start : tie.Else1 → tie.Start
 start c = c .before .before .before .before
@@ -43,9 +39,10 @@ returns-2 c =
     granted-next (head else) (first .before .before .wide .ensures .same) (first .wide2 .ensures .same) (else .if1 .left) (c .task .ensures)
 
 pub granted-spec : {M : Type 1} → statement M
+unfolding grantedAnswer
 granted-spec =
     tie.close
     (tie.spec
-    returns (λ c. search needs) (λ c. search needs) (λ c κs. search needs) (λ c. search needs) (λ c. search needs)
+    (λ c. rw (eq-eqb _ _ (c .if1 .taken))) (λ c. search needs) (λ c. search needs) (λ c κs. search needs) (λ c. search needs) (λ c. search needs)
     (λ c. search needs) add-first-2 shared-slice-read-first (λ c κs. search needs) (λ c. task c .some)
     (λ c κs. let t = task c in (start (c .before .before .before .before) .pre .plan, omega (arith, t .some, t .low))) returns-2)

@@ -55,11 +55,6 @@ returns c =
     let t = found (n .before) in
     ask-granted (accepted t) (named (n .before)) (n .ahead-of .ensures .counted) (j .join .ensures) (c .if1 .taken)
 
-wait-in-requires : tie.Need-wait-in-requires
-wait-in-requires c κs =
-    let r = c .before .before .before .before .before in
-    (start (found r) .pre .on .known, low-resource r)
-
 mul-t25 : tie.Need-mul-t25
 mul-t25 c =
     let wait = c .before in
@@ -87,5 +82,7 @@ request-on-spec =
     tie.close
     (tie.spec
     (λ c κs. search needs) (λ c κs. (start c .pre .on .known .plan, omega (arith, c .task-number .ensures, accepted c .free .task))) (λ c κs. search needs) ahead-of-requires
-    (λ c. search needs) (λ c. low-resource (c .before)) join-requires returns wait-in-requires (λ c. search needs)
+    (λ c. search needs) (λ c. low-resource (c .before)) join-requires returns
+    (λ c κs. let else = c .before .before .before in (start (found (else .before .before)) .pre .on .known, low-resource (else .before .before)))
+    (λ c. search needs)
     (λ c. search needs) mul-t25 add-t26 returns-2)
