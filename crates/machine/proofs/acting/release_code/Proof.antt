@@ -1,5 +1,5 @@
 -- The tests in their order; who holds is who sits first in the head's queue.
-use Rattle.folds.proofs.Ground.{ℕ, _+_, _<_, _≤_, cond, _≡_, _∙_, eqb, arith, eq-eqb, ne-eqb, needs}
+use Rattle.folds.proofs.Ground.{ℕ, _+_, _<_, cond, _≡_, _∙_, eqb, arith, eq-eqb, ne-eqb, needs}
 use Rattle.refusals.specs.Numbers.{notHeld}
 use Rattle.plan_reading.specs.Plan.{planOf}
 use Rattle.plan_reading.proofs.Laws.{valid-plan}
@@ -12,36 +12,35 @@ use Rattle.machine.proofs.acting.release_code.Statement.{statement}
 use Rattle.machine.proofs.acting.release_code.Tie as tie
 
 -- ── once the first two tests are passed ──
+abbrev known : tie.Else1 → tie.After-task-number
+known c = c .before .before
+
 abbrev found : tie.Else2 → tie.After-task-number
-found c = c .before .before .before .before
+found c = known (c .before .before)
 
 abbrev start : tie.After-task-number → tie.Start
 start c = c .before .before .before .before
 
+task-low : (c : tie.Else1) → let a = start (known c) .args in taskNumber (planOf (a .file .now)) (a .tag) < planOf (a .file .now) .tasks
+task-low c = omega (arith, c .if1 .left, c .before .wide .ensures .same, known c .task-number .ensures, known c .before .counts .ensures .tasks)
+
 passed : (c : tie.Else2) → let a = start (found c) .args in Releases (planOf (a .file .now)) (a .t3) (a .tag) (a .q) (a .seats .now)
 passed c =
-    let n = found c .before .counts .ensures in
+    let task = task-low (c .before .before) in
     let a = start (found c) .args in
-    let task : taskNumber (planOf (a .file .now)) (a .tag) < planOf (a .file .now) .tasks =
-    omega (arith, c .before .before .if1 .left, c .before .before .before .wide .ensures .same, found c .task-number .ensures, n .tasks) in
-    let resource : a .q < planOf (a .file .now) .resources = omega (arith, c .if2 .left, n .resources) in
+    let resource : a .q < planOf (a .file .now) .resources = omega (arith, c .if2 .left, found c .before .counts .ensures .resources) in
     search (needs, valid-plan, whole-of)
 
 returns : tie.Need-returns
 returns c =
-    let w = c .before in
-    let t = w .before in
-    release-unknown _ _ _ _ (w .wide .ensures .same ∙ t .before .counts .ensures .tasks) (t .task-number .ensures) (c .if1 .taken)
+    let t = c .before .before in
+    release-unknown _ _ _ _ (c .before .wide .ensures .same ∙ t .before .counts .ensures .tasks) (t .task-number .ensures) (c .if1 .taken)
 
 returns-2 : tie.Need-returns-2
 returns-2 c =
-    let t = c .before .before .before .before in
-    let a = start t .args in
-    let n = t .before .counts .ensures in
-    let l : taskNumber (planOf (a .file .now)) (a .tag) < planOf (a .file .now) .tasks =
-    omega (arith, c .before .before .if1 .left, c .before .before .before .wide .ensures .same, t .task-number .ensures, n .tasks) in
-    let r : planOf (a .file .now) .resources ≤ a .q = omega (arith, c .if2 .taken, n .resources) in
-    release-past _ _ _ _ l r
+    let else = c .before .before in
+    let r = known else .before .counts .ensures .resources in
+    release-past _ _ _ _ (task-low else) (omega (arith, c .if2 .taken, r))
 
 -- ── where the resource is held ──
 abbrev clear : tie.Else3 → tie.Else2

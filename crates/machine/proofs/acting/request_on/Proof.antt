@@ -1,6 +1,6 @@
 -- A request that is not refused finds its task in line for nothing, with a hold time for the resource: it joins, and the tables tell
 -- its place and its limit.
-use Rattle.folds.proofs.Ground.{_<_, ap, arith, needs}
+use Rattle.folds.proofs.Ground.{_+_, _*_, _<_, _≤_, ap, arith, needs}
 use Rattle.sizes.specs.Sizes.{mostResources}
 use Rattle.plan_rules.specs.declared.TaskRow.{TaskRow}
 use Rattle.plan_reading.specs.Plan.{planOf}
@@ -35,6 +35,16 @@ named c =
 low-resource : (c : tie.After-wide) → c .wide .result < mostResources
 low-resource c = resource-low (accepted (found c)) (named c)
 
+-- ── once it is in line ──
+abbrev counted : tie.After-join → tie.After-ahead-of
+counted c = c .before .before
+
+abbrev joined : tie.Else1 → tie.After-join
+joined c = c .before .before
+
+most-wait : (c : tie.After-wait-in) → (counted (joined (c .before)) .ahead-of .result .count + 1) * c .wait-in .result ≤ 34078200
+most-wait c = waits-high _ _ (counted (joined (c .before)) .ahead-of .ensures .few) (c .wait-in .ensures .1)
+
 -- ── the needs ──
 ahead-of-requires : tie.Need-ahead-of-requires
 ahead-of-requires c κs =
@@ -45,44 +55,31 @@ ahead-of-requires c κs =
 join-requires : tie.Need-join-requires
 join-requires c κs =
     let n = c .before in
-    let t = found (n .before) in
-    ask-joins (accepted t) (named (n .before)) (n .ahead-of .ensures .counted)
+    ask-joins (accepted (found (n .before))) (named (n .before)) (n .ahead-of .ensures .counted)
 
 returns : tie.Need-returns
 returns c =
     let j = c .before .before in
-    let n = j .before .before in
-    let t = found (n .before) in
-    ask-granted (accepted t) (named (n .before)) (n .ahead-of .ensures .counted) (j .join .ensures) (c .if1 .taken)
-
-mul-t25 : tie.Need-mul-t25
-mul-t25 c =
-    let wait = c .before in
-    let n = wait .before .before .before .before .before in
-    omega (arith, waits-high _ _ (n .ahead-of .ensures .few) (wait .wait-in .ensures .1))
-
-add-t26 : tie.Need-add-t26
-add-t26 c =
-    let wait = c .before .before in
-    let n = wait .before .before .before .before .before in
-    omega (arith, n .ahead-of .ensures .small, waits-high _ _ (n .ahead-of .ensures .few) (wait .wait-in .ensures .1))
+    let n = counted j in
+    ask-granted (accepted (found (n .before))) (named (n .before)) (n .ahead-of .ensures .counted) (j .join .ensures) (c .if1 .taken)
 
 returns-2 : tie.Need-returns-2
 returns-2 c =
     let wait = c .before .before in
-    let else = wait .before in
-    let j = else .before .before in
-    let n = j .before .before in
-    let t = found (n .before) in
+    let j = joined (wait .before) in
+    let n = counted j in
     let ahead = n .ahead-of .ensures in
-    ask-waits (accepted t) (named (n .before)) (ahead .counted) (j .join .ensures) (else .if1 .left) (ahead .held) (wait .wait-in .ensures .0)
+    ask-waits (accepted (found (n .before))) (named (n .before)) (ahead .counted) (j .join .ensures) (wait .before .if1 .left) (ahead .held)
+    (wait .wait-in .ensures .0)
 
 pub request-on-spec : {M : Type 1} → statement M
 request-on-spec =
     tie.close
     (tie.spec
-    (λ c κs. search needs) (λ c κs. (start c .pre .on .known .plan, omega (arith, c .task-number .ensures, accepted c .free .task))) (λ c κs. search needs) ahead-of-requires
+    (λ c κs. search needs)
+    (λ c κs. (start c .pre .on .known .plan, omega (arith, c .task-number .ensures, accepted c .free .task)))
+    (λ c κs. search needs) ahead-of-requires
     (λ c. search needs) (λ c. low-resource (c .before)) join-requires returns
-    (λ c κs. let else = c .before .before .before in (start (found (else .before .before)) .pre .on .known, low-resource (else .before .before)))
-    (λ c. search needs)
-    (λ c. search needs) mul-t25 add-t26 returns-2)
+    (λ c κs. let r = counted (joined c) .before in (start (found r) .pre .on .known, low-resource r)) (λ c. search needs)
+    (λ c. search needs) (λ c. omega (arith, most-wait (c .before)))
+    (λ c. let wait = c .before .before in omega (arith, counted (joined (wait .before)) .ahead-of .ensures .small, most-wait wait)) returns-2)
