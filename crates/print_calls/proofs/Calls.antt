@@ -19,21 +19,14 @@ use Rattle.print_calls.specs.Inner.{Stepped}
 pub looked-at : {f t : List ℕ} (s : State) {code first : ℕ} → Surveyed f code t → first ≡ stateRefusal f s → first ≡ 0 → Surveyed f 0 t
 looked-at {f} s h e z = rw (h .refusal ∙ state-accepted f s (sym e ∙ z) .0) at h
 
-module _ (f : List ℕ) (s : State) (b : CallBytes) where
-  line-none : callIn b ≡ [] → callLine f s b ≡ refusedLine noCall
+module _ (f : List ℕ) (s : State) (b : CallBytes) {before now : List ℕ} {at end : ℕ} where
+  pub stepped-none : callIn b ≡ [] → PutIn before now at longestLine (refusedLine noCall) end
+      → Stepped f s b before now at (record { end = end; state = s })
   unfolding callLine
-  line-none e = rw e
+  stepped-none e p = record { line = rw e p; after = rw e refl }
 
-  line-call : (c : Call) → callIn b ≡ c ∷ [] → callLine f s b ≡ answerLine f (b .tag) (b .resource) (reply f s c)
+  pub stepped-call : (c : Call) {a : Answer} {t : State} → callIn b ≡ c ∷ [] → a ≡ reply f s c → Next f s c t
+      → PutIn before now at longestLine (answerLine f (b .tag) (b .resource) a) end
+      → Stepped f s b before now at (record { end = end; state = t })
   unfolding callLine
-  line-call c e = rw e
-
-  module _ {before now : List ℕ} {at end : ℕ} where
-    pub stepped-none : callIn b ≡ [] → PutIn before now at longestLine (refusedLine noCall) end
-        → Stepped f s b before now at (record { end = end; state = s })
-    stepped-none e p = record { line = rw (line-none e) p; after = rw e refl }
-
-    pub stepped-call : (c : Call) {a : Answer} {t : State} → callIn b ≡ c ∷ [] → a ≡ reply f s c → Next f s c t
-        → PutIn before now at longestLine (answerLine f (b .tag) (b .resource) a) end
-        → Stepped f s b before now at (record { end = end; state = t })
-    stepped-call c e r n p = record { line = rw (line-call c e, ← r) p; after = rw e n }
+  stepped-call c e r n p = record { line = rw (e, ← r) p; after = rw e n }
