@@ -1,13 +1,13 @@
 -- What a request is refused for, what it tells where it is not, and what it then does.
-use Rattle.folds.proofs.Ground.{ℕ, _+_, _*_, _<_, _≤_, Bool, true, false, cond, not, _≡_, sym, _∙_, _≢_, _⊎_, inl, inr, List, eqb, ltb, length, mul-le-mul, arith, ne-eqb, eqb-true, ltb-true, not-false}
-use Rattle.folds.proofs.Tests.{is-not-true, code-zero, code-next, first-zero, then-zero}
+use Rattle.folds.proofs.Ground.{ℕ, _+_, _*_, _<_, _≤_, Bool, false, cond, not, _≡_, sym, _∙_, _≢_, _⊎_, inl, inr, List, eqb, length, mul-le-mul, arith, ne-eqb, eqb-true, not-false}
+use Rattle.folds.proofs.Tests.{is-not-true, first-zero, then-zero}
 use Rattle.sizes.specs.Sizes.{mostProcessors, mostTasks, mostResources, absent}
 use Rattle.refusals.specs.Numbers.{alreadyInLine}
 use Rattle.plan_reading.specs.Plan.{Plan, Valid}
-use Rattle.analysis_equations.specs.Sharing.{processorOf, uses, global}
+use Rattle.analysis_equations.specs.Sharing.{processorOf}
 use Rattle.analysis_equations.specs.HoldTimes.{holdAt, waitTime}
-use Rattle.analysis_equations.specs.Questions.{taskNumber, sharingCode, useCode}
-use Rattle.analysis_equations.proofs.Laws.{hold-low}
+use Rattle.analysis_equations.specs.Questions.{taskNumber, useCode}
+use Rattle.analysis_equations.proofs.Laws.{use-clear, hold-shared, hold-low}
 use Rattle.machine_rules.specs.declared.Answer.{Answer}
 use Rattle.machine_rules.specs.declared.Answer.the-variants.{Granted, Waits}
 use Rattle.machine_rules.specs.declared.Call.the-variants.{Request}
@@ -15,43 +15,20 @@ use Rattle.machine_rules.specs.Machine.{View, busy, requestCode, requestAnswer}
 use Rattle.analysis_figures.specs.Figures.{Figures}
 use Rattle.machine_state.specs.declared.State.{State}
 use Rattle.machine_state.specs.Shows.{standing, lineAt, shows, noneInLine}
-use Rattle.machine_state.specs.Sound.{sound}
 use Rattle.machine_state.specs.Inner.{Seats}
 use Rattle.machine_state.proofs.Tables.{low-processor}
 use Rattle.machine_state.proofs.Good.{Whole}
-use Rattle.machine_state.proofs.Wholes.{hold-resource, whole-of, sound-of}
+use Rattle.machine_state.proofs.Wholes.{hold-resource, sound-of}
 use Rattle.machine_steps.specs.Inner.{Joining, joinedBy, taken, takenHolds}
 use Rattle.machine_steps.proofs.Joins.{aheadOf, entering, join-room, joined-whole, joined-shows}
 use Rattle.machine_steps.proofs.Asking.{taken-is, request-granted, request-waits, busy-is}
 use Rattle.machine.specs.Inner.{Acted}
 
 -- ── the number ──
--- a task that may use the resource is there, and so is the resource
-module _ (p : Plan) (tag q : ℕ) (z : useCode p tag q ≡ 0) where
-  pub use-task : taskNumber p tag < p .tasks
-  unfolding useCode
-  use-task = ltb-true _ _ (code-zero (ltb (taskNumber p tag) (p .tasks)) _ 10 z)
-
-  pub use-resource : q < p .resources
-  unfolding useCode
-  use-resource = ltb-true _ _ (code-zero (ltb q (p .resources)) _ 11 (code-next (ltb (taskNumber p tag) (p .tasks)) _ 10 z))
-
-  use-sharing : sharingCode p (taskNumber p tag) q ≡ 0
-  unfolding useCode
-  use-sharing = code-next (ltb q (p .resources)) _ 11 (code-next (ltb (taskNumber p tag) (p .tasks)) _ 10 z)
-
 -- 11 to 14 are those of the use
 pub use-refused : (p : Plan) (l : View) (tag q : ℕ) {k : ℕ} → k ≡ useCode p tag q → k ≢ 0 → k ≡ requestCode p l tag q
 unfolding requestCode
 use-refused p l tag q {k} h d = rw (← h, ne-eqb k 0 d)
-
--- who may use the resource has a hold time
-hold-some : (p : Plan) → Valid p → (i q : ℕ) → sharingCode p i q ≡ 0 → 1 ≤ holdAt p i q
-unfolding sharingCode holdAt
-hold-some p v i q z =
-    let u : uses p i q ≡ true = code-zero (uses p i q) _ 12 z in
-    let g : global p q ≡ true = code-zero (global p q) 0 13 (code-next (uses p i q) _ 12 z) in
-    rw (g, u) (hold-low p v i q u)
 
 -- task i is in line for nothing and may join the line of q
 pub record Free (p : Plan) (s : State) (i q : ℕ) : Type 0 where
@@ -60,31 +37,27 @@ pub record Free (p : Plan) (s : State) (i q : ℕ) : Type 0 where
   pub some : 1 ≤ holdAt p i q
   pub idle : standing (s .tasks) i ≡ noneInLine
 
-module _ (p : Plan) (v : Valid p) (s : State) (h : sound p s ≡ true) (tag q : ℕ) where
-  whole : Whole p s
-  whole = whole-of p v s h
-
+module _ (p : Plan) (v : Valid p) (s : State) (whole : Whole p s) (tag q : ℕ) where
   -- 15 or none, by what the row of the task says
   pub request-by : {i k : ℕ} {b : Bool} → useCode p tag q ≡ 0 → i ≡ taskNumber p tag → b ≡ not (eqb (standing (s .tasks) i .resource) absent)
       → k ≡ cond b alreadyInLine 0 → k ≡ requestCode p (shows p s) tag q
   unfolding requestCode
-  request-by {i} z e h j = rw (z, ← e, busy-is p v s whole i (rw e (use-task p tag q z)), ← h) j
+  request-by {i} z e h j = rw (z, ← e, busy-is p v s whole i (rw e (use-clear p tag q z .task)), ← h) j
 
   -- what the number 0 tells
   pub request-free : requestCode p (shows p s) tag q ≡ 0 → Free p s (taskNumber p tag) q
   unfolding requestCode
   request-free z =
       let i = taskNumber p tag in
-      let u : useCode p tag q ≡ 0 = first-zero (useCode p tag q) _ z in
-      let a : i < p .tasks = use-task p tag q u in
+      let u = use-clear p tag q (first-zero (useCode p tag q) _ z) in
       let busy-not : busy p (shows p s) i ≡ false = is-not-true _ (λ b. let y = rw b at (then-zero (useCode p tag q) _ z) in omega arith) in
       let r : standing (s .tasks) i .resource ≡ absent =
-      eqb-true (standing (s .tasks) i .resource) absent (not-false _ (sym (busy-is p v s whole i a) ∙ busy-not)) in
+      eqb-true (standing (s .tasks) i .resource) absent (not-false _ (sym (busy-is p v s whole i (u .task)) ∙ busy-not)) in
       record {
-        task = a;
-        resource = use-resource p tag q u;
-        some = hold-some p v i q (use-sharing p tag q u);
-        idle = none i r (whole .rows i (omega (arith, v .tasks)));
+        task = u .task;
+        resource = u .resource;
+        some = rw (hold-shared p i q (u .shared) (u .used)) (hold-low p v i q (u .used));
+        idle = none i r (whole .rows i (omega (arith, v .tasks, u .task)));
       }
     where
       none : (i : ℕ) → standing (s .tasks) i .resource ≡ absent

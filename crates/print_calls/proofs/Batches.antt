@@ -58,14 +58,10 @@ module _ (f : List ℕ) (s : State) (calls before : List ℕ) where
 module _ {f : List ℕ} {s : State} {calls before now : List ℕ} {used end : ℕ} {t : State} (w : Written f s calls before now used end t)
     (e : (leb callWidth (length calls - used) && leb longestLine (length now - end)) ≡ true) where
   pub call-left : used + callWidth ≤ length calls
-  call-left =
-      let n = leb-true callWidth (length calls - used) (and-parts (leb callWidth (length calls - used)) (leb longestLine (length now - end)) e .0) in
-      omega (arith, w .within)
+  call-left = omega (arith, w .within, leb-true callWidth (length calls - used) (and-parts _ (leb longestLine (length now - end)) e .0))
 
   pub room-left : end + longestLine ≤ length now
-  room-left =
-      let n = leb-true longestLine (length now - end) (and-parts (leb callWidth (length calls - used)) (leb longestLine (length now - end)) e .1) in
-      omega (arith, w .fits, w .long)
+  room-left = omega (arith, w .fits, w .long, leb-true longestLine (length now - end) (and-parts (leb callWidth (length calls - used)) _ e .1))
 
 -- and once it fails, one of them is not
 abbrev Ended : (n used room end : ℕ) → Type 0

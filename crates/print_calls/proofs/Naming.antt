@@ -6,6 +6,7 @@ use Rattle.plan_reading.specs.Plan.{planOf, Checked}
 use Rattle.plan.specs.Acceptance.{refusal}
 use Rattle.plan.proofs.Laws.{accepted-checked}
 use Rattle.analysis_equations.specs.Questions.{taskNumber, useCode}
+use Rattle.analysis_equations.proofs.Laws.{use-clear}
 use Rattle.queue_rules.specs.Rules.{Line, line, turn, released}
 use Rattle.machine_rules.specs.declared.Call.{Call}
 use Rattle.machine_rules.specs.declared.Call.the-variants.{Request, Release, Tick}
@@ -14,7 +15,6 @@ use Rattle.machine_rules.specs.Machine.{terms, requestCode, callCode, requestAn
 use Rattle.machine_state.specs.declared.State.{State}
 use Rattle.machine_state.specs.Shows.{shows}
 use Rattle.machine.specs.Replies.{stateRefusal, callRefusal, reply}
-use Rattle.machine.proofs.Asked.{use-resource}
 use Rattle.machine.proofs.Freed.{release-resource}
 use Rattle.machine_calls.specs.declared.CallBytes.{CallBytes}
 use Rattle.machine_calls.specs.Calls.{callOf, callIn}
@@ -53,7 +53,7 @@ module _ (f : List ℕ) (bytes : (k : ℕ) → k < length f → getD f k 0 < 256
       go true b d =
           reply-names (Request tag q) q (λ e h.
           request-names f q (taskNumber (planOf f) tag) (shows (planOf f) s .lines q)
-          (record { plan = h; below = use-resource (planOf f) tag q (first-zero (useCode (planOf f) tag q) _ e) }))
+          (record { plan = h; below = use-clear (planOf f) tag q (first-zero (useCode (planOf f) tag q) _ e) .resource }))
       go false true d =
           reply-names (Release tag q) q (λ e h.
           release-names f q (released (terms (planOf f) q) (shows (planOf f) s .lines q))

@@ -1,6 +1,6 @@
 -- The number of the plan or of the state comes first. The line is put at the front of a buffer of its own, and handed over from there;
 -- the refusal tells whether it was.
-use Rattle.folds.proofs.Ground.{ℕ, refl, List, needs}
+use Rattle.folds.proofs.Ground.{refl, needs}
 use Rattle.print_text.proofs.Lines.{front-part, refused-before, none-before}
 use Rattle.print_calls.specs.Calls.{callLine}
 use Rattle.print_calls.proofs.Calls.{looked-at}
@@ -13,9 +13,6 @@ looked c = c .before .before .before
 
 abbrev start : tie.After-state-code → tie.Start
 start c = looked c .before .before .before .before
-
-abbrev text : tie.After-state-code → List ℕ
-text c = let a = start c .args in callLine (a .file .now) (a .state) (a .bytes)
 
 -- ── once the line is handed over ──
 abbrev over : tie.After-struct-known → tie.After-hand-over
@@ -30,7 +27,8 @@ put c = lent c .before .before
 returns : tie.Need-returns
 returns c =
     let i = c .before in
-    let h = refused-before (i .before .state-code .ensures) (text (i .before)) (start (i .before) .args .out .now) (i .if1 .taken) in
+    let a = start (i .before) .args in
+    let h = refused-before (i .before .state-code .ensures) (callLine (a .file .now) (a .state) (a .bytes)) (a .out .now) (i .if1 .taken) in
     rw (c .no-line .ensures) (h .0, (h .1, (λ z. absurd (i .if1 .taken z), λ d. refl)))
 
 put-call-requires : tie.Need-put-call-requires
@@ -44,7 +42,7 @@ returns-2 c =
     let h = over (c .before) in
     let i = put h .before .before .before in
     let line = rw (front-part (put h .put-call .ensures .line .put)) at (h .hand-over .ensures) in
-    let e = none-before (i .before .state-code .ensures) (text (i .before)) (start (i .before) .args .out .now) (i .if1 .left) line in
+    let e = none-before (i .before .state-code .ensures) _ _ (i .if1 .left) line in
     (e .0, (e .1, (λ z. absurd (c .if2 .taken z), λ d. refl)))
 
 returns-3 : tie.Need-returns-3
@@ -52,7 +50,7 @@ returns-3 c =
     let h = over (c .before) in
     let i = put h .before .before .before in
     let line = rw (front-part (put h .put-call .ensures .line .put)) at (h .hand-over .ensures) in
-    let e = none-before (i .before .state-code .ensures) (text (i .before)) (start (i .before) .args .out .now) (i .if1 .left) line in
+    let e = none-before (i .before .state-code .ensures) _ _ (i .if1 .left) line in
     (e .0, (e .1, (λ z. put h .put-call .ensures .after, λ d. absurd (d (c .if2 .left)))))
 
 pub call-line-spec : {M : Type 1} → statement M

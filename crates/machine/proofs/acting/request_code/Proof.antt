@@ -5,9 +5,11 @@ use Rattle.refusals.specs.Numbers.{alreadyInLine}
 use Rattle.plan_reading.specs.Plan.{planOf}
 use Rattle.plan_reading.proofs.Laws.{valid-plan}
 use Rattle.analysis_equations.specs.Questions.{useCode}
+use Rattle.analysis_equations.proofs.Laws.{use-clear}
 use Rattle.machine_rules.specs.Machine.{requestCode}
 use Rattle.machine_state.specs.Shows.{shows}
-use Rattle.machine.proofs.Asked.{use-task, use-refused, request-by}
+use Rattle.machine_state.proofs.Wholes.{whole-of}
+use Rattle.machine.proofs.Asked.{use-refused, request-by}
 use Rattle.machine.proofs.acting.request_code.Statement.{statement}
 use Rattle.machine.proofs.acting.request_code.Tie as tie
 
@@ -22,7 +24,7 @@ clear : (c : tie.Else1) → let a = start (asked c) .args in useCode (planOf (a 
 clear c = sym (asked c .user-in .ensures .0) ∙ c .if1 .left
 
 low : (c : tie.Else1) → asked c .user-in .result .task < mostTasks
-low c = omega (arith, asked c .user-in .ensures .1, use-task _ _ _ (clear c), valid-plan _ (start (asked c) .pre .known .plan) .tasks)
+low c = omega (arith, asked c .user-in .ensures .1, use-clear _ _ _ (clear c) .task, valid-plan _ (start (asked c) .pre .known .plan) .tasks)
 
 -- the row of the task decides
 told : (c : tie.After-is-in-line) {code : ℕ} → let a = start (asked (c .before .before)) .args in
@@ -30,7 +32,8 @@ told : (c : tie.After-is-in-line) {code : ℕ} → let a = start (asked (c .befo
 told c e =
     let else = c .before .before in
     let p = start (asked else) .pre in
-    request-by _ (valid-plan _ (p .known .plan)) _ (p .sound) _ _ (clear else) (asked else .user-in .ensures .1) (c .is-in-line .ensures) e
+    let v = valid-plan _ (p .known .plan) in
+    request-by _ v _ (whole-of _ v _ (p .sound)) _ _ (clear else) (asked else .user-in .ensures .1) (c .is-in-line .ensures) e
 
 pub request-code-spec : {M : Type 1} → statement M
 request-code-spec =
