@@ -31,12 +31,6 @@ returns c =
     let h = refused-before (i .before .state-code .ensures) (callLine (a .file .now) (a .state) (a .bytes)) (a .out .now) (i .if1 .taken) in
     rw (c .no-line .ensures) (h .0, (h .1, (λ z. absurd (i .if1 .taken z), λ d. refl)))
 
-put-call-requires : tie.Need-put-call-requires
-put-call-requires c κs =
-    let i = c .before .before in
-    let plan = looked-at _ (looked (i .before) .look .ensures .0) (i .before .state-code .ensures) (i .if1 .left) in
-    search needs
-
 returns-2 : tie.Need-returns-2
 returns-2 c =
     let h = over (c .before) in
@@ -58,5 +52,8 @@ call-line-spec =
     tie.close
     (tie.spec
     (λ c. search needs) (λ c κs. search needs) (λ c. search needs) (λ c κs. search needs) (λ c κs. search needs) returns
-    (λ c. search needs) (λ c. search needs) put-call-requires (λ c. search needs) (λ c. search needs) (λ c. search needs)
+    (λ c. search needs) (λ c. search needs)
+    (λ c κs. let i = c .before .before in let s = i .before in
+    let plan = looked-at _ (looked s .look .ensures .0) (s .state-code .ensures) (i .if1 .left) in search needs)
+    (λ c. search needs) (λ c. search needs) (λ c. search needs)
     (λ c κs. search needs) (λ c. search needs) returns-2 (λ c. search needs) returns-3)

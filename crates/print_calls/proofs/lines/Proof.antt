@@ -43,24 +43,12 @@ left t = call-left (t .before .loop .inv .written) (t .loop-test .taken)
 small : (t : tie.In-loop Inv-loop μ-loop) → t .before .loop .used + callWidth < 2 ^ 64
 small t = omega (arith, left t)
 
-returns : tie.Need-returns Inv-loop μ-loop
-returns c =
-    let l = c .before .before in
-    let a = start (l .before) .args in
-    rw (c .none-made .ensures) (told-none _ _ (a .calls .now) _ (l .before .state-code .ensures) (l .lines-code .ensures) (c .before .if1 .taken))
-
 loop-holds : tie.Need-loop-holds Inv-loop μ-loop
 loop-holds c =
     let l = c .before in
     let s = l .before in
     let z = first-none _ _ _ (sym (l .lines-code .ensures) ∙ c .if1 .left) in
     record { plan = looked-at _ (looked s .look .ensures .0) (s .state-code .ensures) z; written = written-none _ _ _ _; begun = inl (refl, refl) }
-
-put-call-requires : tie.Need-put-call-requires Inv-loop μ-loop
-put-call-requires c κs =
-    let t = turn (c .before) in
-    let i = t .before .loop .inv in
-    record { plan = i .plan; room = room-left (i .written) (t .loop-test .taken) }
 
 loop-again : tie.Need-loop-again Inv-loop μ-loop
 loop-again c =
@@ -88,8 +76,12 @@ lines-spec =
     tie.close
     (tie.spec
     Inv-loop μ-loop (λ c. search needs) (λ c κs. search needs) (λ c. search needs) (λ c κs. search needs) (λ c κs. search needs)
-    (λ c κs. search needs) returns loop-holds
+    (λ c κs. search needs)
+    (λ c. let l = c .before .before in rw (c .none-made .ensures)
+    (told-none _ _ (start (l .before) .args .calls .now) _ (l .before .state-code .ensures) (l .lines-code .ensures) (c .before .if1 .taken)))
+    loop-holds
     (λ c. c .loop .inv .written .within) (λ c. let w = c .loop .inv .written in rw (w .long) (w .fits)) (λ c. search needs)
-    (λ c κs. record { least = omega arith; most = omega arith; whole = left (turn c) }) put-call-requires
+    (λ c κs. record { least = omega arith; most = omega arith; whole = left (turn c) })
+    (λ c κs. let t = turn (c .before) in let room = room-left (t .before .loop .inv .written) (t .loop-test .taken) in search needs)
     (λ c. omega (arith, small (turn (made c .before)))) (λ c. omega (arith, left (turn (made c .before)))) loop-again
     (λ c. c .before .loop .inv .written .long) returns-2)

@@ -17,21 +17,12 @@ held : (c : tie.After-wide) → let a = start c .args in
     Held (planOf (a .file .now)) (a .t5) (a .q) (c .wide .result) (a .figures .now) (a .keys .now) (a .seats .now)
 held c = let same = c .wide .ensures .same in search (needs, length-mapped, valid-plan, whole-of)
 
-granted-requires : tie.Need-granted-requires
-granted-requires c κs =
-    let w = c .before .before .before .before in
-    let low = free-low (held w) in
-    let next = free-next (held w) (c .before .leave .ensures) in
-    search needs
-
-returns : tie.Need-returns
-returns c =
-    let left = c .before .before in
-    free-done (held (left .before .before .before)) (left .leave .ensures) (c .granted .ensures)
-
 pub release-on-spec : {M : Type 1} → statement M
 release-on-spec =
     tie.close
     (tie.spec
     (λ c κs. search needs) (λ c. search needs) (λ c. free-low (held c)) (λ c κs. free-ready (held (c .before .before)))
-    (λ c. search needs) (λ c. free-low (held (c .before .before .before))) (λ c. search needs) granted-requires returns)
+    (λ c. search needs) (λ c. free-low (held (c .before .before .before))) (λ c. search needs)
+    (λ c κs. let h = held (c .before .before .before .before) in
+    let low = free-low h in let next = free-next h (c .before .leave .ensures) in search needs)
+    (λ c. let left = c .before .before in free-done (held (left .before .before .before)) (left .leave .ensures) (c .granted .ensures)))

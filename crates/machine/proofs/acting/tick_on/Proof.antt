@@ -22,11 +22,9 @@ whole c = whole-of _ (valid c) _ (c .pre .on .sound)
 tables : (c : tie.Start) → let a = c .args in Tabled (planOf (a .file .now)) (a .state) (a .figures .now) (a .keys .now) (a .seats .now)
 tables c = search (needs, length-mapped)
 
-returns : tie.Need-returns
-returns c =
-    let t = c .before in
-    let a = start (t .before) in
-    beat-done (valid a) (whole a) (tables a) (t .tick .ensures)
-
 pub tick-on-spec : {M : Type 1} → statement M
-tick-on-spec = tie.close (tie.spec (λ c κs. beat-ready (valid (start c)) (whole (start c)) (tables (start c))) returns)
+tick-on-spec =
+    tie.close
+    (tie.spec
+    (λ c κs. let a = start c in beat-ready (valid a) (whole a) (tables a))
+    (λ c. let t = c .before in let a = start (t .before) in beat-done (valid a) (whole a) (tables a) (t .tick .ensures)))
