@@ -2,6 +2,7 @@
 -- that the lines of the rules tell.
 use Rattle.folds.proofs.Ground.{ℕ, _/_, _%_, _<_, Bool, cond, _≡_, refl, sym, ap, List, [], _∷_, length, getD, mod-lt, arith}
 use Rattle.folds.proofs.Arrays.{by-eq}
+use Rattle.sizes.specs.Sizes.{mostProcessors, mostTasks, mostResources}
 use Rattle.plan_reading.specs.Plan.{planOf}
 use Rattle.plan.specs.Acceptance.{refusal, Accepted}
 use Rattle.plan.proofs.Laws.{accepted-valid}
@@ -15,16 +16,16 @@ use Rattle.machine_state.proofs.FreshLaws.{fresh-told}
 use Rattle.machine_state.proofs.Told.{SameRows, rows-told}
 use Rattle.machine.specs.Replies.{reply}
 use Rattle.machine.specs.Promise.{FreshRan}
-use Rattle.machine.proofs.Answered.{plan-refused, reply-refused}
+use Rattle.machine.proofs.Answered.{plan-refused, refused-reply}
 use Rattle.machine.proofs.Kept.{fresh-is, returned-answers}
 use Rattle.bench_hooks.specs.Calling.{answerNumber, answerAfter, callNumber, rowNumber, viewAfter, stateAfter}
 
 -- states that agree in all rows have the same numbers
 same-number : (s t : State) → SameRows s t → (x : ℕ) → rowNumber s x ≡ rowNumber t x
 same-number s t e x =
-    let task = e .tasks (x % 64) (mod-lt x (omega arith)) in
-    let line = e .lines (x % 16) (mod-lt x (omega arith)) in
-    rw (task, line .queued, line .hold, line .budget, line .slots (x / 16 % 8) (mod-lt (x / 16) (omega arith)))
+    let task = e .tasks (x % mostTasks) (mod-lt x (omega arith)) in
+    let line = e .lines (x % mostResources) (mod-lt x (omega arith)) in
+    rw (task, line .queued, line .hold, line .budget, line .slots (x / mostResources % mostProcessors) (mod-lt (x / mostResources) (omega arith)))
 
 same-self : (s : State) → SameRows s s
 same-self s = record {
@@ -38,7 +39,7 @@ module _ (f : List ℕ) (bytes : (i : ℕ) → i < length f → getD f i 0 < 256
   answer-after c =
       by-eq (λ (b : Bool). reply f s c ≡ cond b (answer (planOf f) (run (planOf f) before) c) (Refused (refusal f))) (refusal f) 0
       (λ z. let k : Accepted f = record { none = z; bytes = bytes } in returned-answers f k freshState fresh (fresh-is f k) before s c (r .returned))
-      (λ d. sym (reply-refused f s c (plan-refused f s c refl d) d))
+      (λ d. sym (refused-reply f s c (plan-refused f s c refl d) d .answer))
 
   pub number-after : (cs : List Call) → callNumber (reply f s) cs ≡ callNumber (answerAfter f before) cs
   number-after [] = refl

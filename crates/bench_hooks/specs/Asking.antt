@@ -4,18 +4,15 @@ use mathlib.Core.Bool.{cond}
 use mathlib.Core.List.{List}
 use lib.Dec.{eqb}
 use lib.ListN.{getD}
+use Rattle.sizes.specs.Sizes.{mostTasks, mostResources}
 use Rattle.plan.specs.Acceptance.{refusal}
 use Rattle.plan_reading.specs.Plan.{planOf}
 use Rattle.analysis_equations.specs.Requirement.{admitted}
-use Rattle.analysis.specs.Answers.{holdRefusal, longestFigure, holdTimes}
+use Rattle.analysis.specs.Answers.{holdTimes}
 
 -- one entry of the table of all hold times
 unfoldable pub holdNumber : List ℕ → ℕ → ℕ
-holdNumber f x = holdTimes f .refusal + 256 * getD (holdTimes f .times) (x % 1024) 0
-
--- the longest wait of the task with a tag for a resource
-unfoldable pub longestNumber : List ℕ → ℕ → ℕ → ℕ
-longestNumber f tag q = cond (eqb (holdRefusal f tag q) 0) (256 * longestFigure f tag q) (holdRefusal f tag q)
+holdNumber f x = holdTimes f .refusal + 256 * getD (holdTimes f .times) (x % (mostTasks * mostResources)) 0
 
 -- 256 for a plan that is admitted, 0 for one that is not
 unfoldable pub admissionNumber : List ℕ → ℕ

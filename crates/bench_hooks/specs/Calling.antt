@@ -3,6 +3,7 @@ use Prim.Native.Nat.{ℕ, _+_, _*_, _/_, _%_}
 use mathlib.Core.Bool.{cond}
 use mathlib.Core.List.{List, [], _∷_}
 use lib.Dec.{eqb}
+use Rattle.sizes.specs.Sizes.{mostProcessors, mostTasks, mostResources}
 use Rattle.plan.specs.Acceptance.{refusal}
 use Rattle.plan_reading.specs.Plan.{planOf}
 use Rattle.machine_rules.specs.declared.Call.{Call}
@@ -35,12 +36,12 @@ callNumber answer (c ∷ cs) = answerNumber (answer c)
 -- x / 16 modulo 8
 abbrev pub rowNumber : State → ℕ → ℕ
 rowNumber s x =
-    standing (s .tasks) (x % 64) .resource
-    + 256 * standing (s .tasks) (x % 64) .place
-    + 65536 * lineAt s (x % 16) .queued
-    + 16777216 * lineAt s (x % 16) .«hold_left»
-    + 1099511627776 * lineAt s (x % 16) .«budget_left»
-    + 72057594037927936 * slot (lineAt s (x % 16)) (x / 16 % 8)
+    standing (s .tasks) (x % mostTasks) .resource
+    + 256 * standing (s .tasks) (x % mostTasks) .place
+    + 65536 * lineAt s (x % mostResources) .queued
+    + 16777216 * lineAt s (x % mostResources) .«hold_left»
+    + 1099511627776 * lineAt s (x % mostResources) .«budget_left»
+    + 72057594037927936 * slot (lineAt s (x % mostResources)) (x / mostResources % mostProcessors)
 
 -- what is shown after a list of calls on a fresh machine: by the rules, or with nobody in line where the plan is refused
 unfoldable pub viewAfter : List ℕ → List Call → View

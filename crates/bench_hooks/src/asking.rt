@@ -1,8 +1,10 @@
 // Questions about a plan.
 use analysis::AdmissionAnswer;
-use analysis::Figure;
 ghost use mathlib.Core.Path.{_≡_};
-ghost use Rattle.bench_hooks.specs.Asking.{holdNumber, longestNumber, admissionNumber};
+ghost use Rattle.bench_hooks.specs.Asking.{holdNumber, admissionNumber};
+
+// The hold times of a plan.
+const HOLDS: usize = sizes::TASKS * sizes::RESOURCES;
 
 // Works out all hold times of a plan and returns that at x modulo 1,024, where resource q by task i is i * 16 + q, above the
 // refusal in the low byte. Which one is asked is not known before, so a caller that measures this measures all.
@@ -11,19 +13,8 @@ pub extern "C" fn hold_time_at(file: &[u8], x: u16) -> u64
     ensures { λ r. ⌜ r ≡ holdNumber (now (file .entry)) x ⌝ }
 {
     let found = analysis::hold_times(file);
-    let at = (x % 1024) as usize;
+    let at = x as usize % HOLDS;
     folds::byte(found.refusal) + 256 * folds::word(found.times[at])
-}
-
-// The longest wait of the task with this tag for a resource, above the refusal in the low byte.
-#[no_mangle]
-pub extern "C" fn longest_wait_of(file: &[u8], tag: u16, resource: u8) -> u64
-    ensures { λ r. ⌜ r ≡ longestNumber (now (file .entry)) tag resource ⌝ }
-{
-    match analysis::longest_wait(file, tag, resource) {
-        Figure::Given(n) => 256 * (n as u64),
-        Figure::Refused(code) => folds::byte(code),
-    }
 }
 
 // Whether a plan is admitted, 256 for yes; or the refusal.

@@ -55,10 +55,10 @@ pub extern "C" fn machine_answer(
 fn row_number(state: State, x: u8) -> u64
     ensures { λ r. ⌜ r ≡ rowNumber state x ⌝ }
 {
-    let standing = state.tasks[(x % 64) as usize];
-    let line = state.lines[(x % 16) as usize];
+    let standing = state.tasks[x as usize % sizes::TASKS];
+    let line = state.lines[x as usize % sizes::RESOURCES];
     let queue = line.queue;
-    let slot = queue[(x / 16 % 8) as usize];
+    let slot = queue[x as usize / sizes::RESOURCES % sizes::PROCESSORS];
     folds::byte(standing.resource)
         + 256 * folds::byte(standing.place)
         + 65536 * folds::byte(line.queued)

@@ -1,7 +1,7 @@
 -- What a call is answered, refused or not: its number, and the cuts of a tick.
-use Rattle.folds.proofs.Ground.{ℕ, Bool, true, false, cond, _≡_, refl, sym, ap, _∙_, List, [], _∷_, arith, ne-eqb}
+use Rattle.folds.proofs.Ground.{ℕ, Bool, true, cond, _≡_, refl, sym, ap, _∙_, List, [], _∷_, ne-eqb}
 use Rattle.folds.specs.Below.{countBelow}
-use Rattle.folds.proofs.Tests.{first-zero}
+use Rattle.folds.proofs.Tests.{code-zero, first-zero, then-zero}
 use Rattle.folds.proofs.WordLaws.{word-ones}
 use Rattle.folds.proofs.Arrays.{by-eq}
 use Rattle.plan.specs.Acceptance.{refusal}
@@ -17,11 +17,8 @@ use Rattle.machine_rules.specs.Machine.{View, terms, callCode, requestAnswer, r
 use Rattle.machine_state.specs.declared.State.{State}
 use Rattle.machine_state.specs.Shows.{shows}
 use Rattle.machine_state.specs.Sound.{sound}
-use Rattle.machine.specs.Replies.{stateRefusal, callRefusal, reply, replyOutcome, Next, cutCount}
-use Rattle.machine.specs.Inner.{cutsIn}
-
-abbrev IsZero : ℕ → Type 0
-IsZero n = n ≡ 0
+use Rattle.machine.specs.Replies.{stateRefusal, callRefusal, reply, replyOutcome, cutCount}
+use Rattle.machine.specs.Inner.{refusedAt, Replied, cutsIn}
 
 -- an answer by the rules has number 0
 request-number : (p : Plan) (i q : ℕ) (l : Rules.Line) → answerOutcome (requestAnswer p i q l) .number ≡ 0
@@ -64,14 +61,7 @@ module _ (f : List ℕ) (s : State) where
   state-refusal c e = first-zero (stateRefusal f s) _ e
 
   pub state-accepted : stateRefusal f s ≡ 0 → (refusal f ≡ 0) × (sound (planOf f) s ≡ true)
-  state-accepted =
-      by-eq (λ (b : Bool). IsZero (cond b (cond (sound (planOf f) s) 0 19) (refusal f)) → (refusal f ≡ 0) × (sound (planOf f) s ≡ true)) (refusal f) 0
-      (λ e z. (e, go (sound (planOf f) s) z))
-      (λ d z. absurd (d z))
-    where
-      go : (b : Bool) → IsZero (cond b 0 19) → b ≡ true
-      go true z = refl
-      go false z = let bad : ⊥ = omega arith in absurd bad
+  state-accepted z = (first-zero (refusal f) _ z, code-zero (sound (planOf f) s) 0 18 (then-zero (refusal f) _ z))
 
   -- a plan that is refused
   pub plan-refused : (c : Call) {k : ℕ} → k ≡ refusal f → (k ≡ 0 → ⊥) → callRefusal f s c ≡ k
@@ -79,9 +69,11 @@ module _ (f : List ℕ) (s : State) where
   plan-refused c e d = rw (← e, ne-eqb _ _ d, ne-eqb _ _ d)
 
   -- a call that is refused
-  pub reply-refused : (c : Call) {k : ℕ} → callRefusal f s c ≡ k → (k ≡ 0 → ⊥) → Refused k ≡ reply f s c
+  pub refused-reply : (c : Call) {k : ℕ} → callRefusal f s c ≡ k → (k ≡ 0 → ⊥) → Replied f s c (refusedAt s k)
   unfolding reply
-  reply-refused c e d = rw (e, ne-eqb _ _ d)
-
-  pub next-refused : (c : Call) → (callRefusal f s c ≡ 0 → ⊥) → Next f s c s
-  next-refused c d = record { unchanged = λ n. refl; sound = λ z. absurd (d z); shows = λ z. absurd (d z) }
+  refused-reply c e d =
+      let refused : callRefusal f s c ≡ 0 → ⊥ = λ z. d (sym e ∙ z) in
+      record {
+        answer = rw (e, ne-eqb _ _ d);
+        next = record { unchanged = λ n. refl; sound = λ z. absurd (refused z); shows = λ z. absurd (refused z) };
+      }

@@ -1,12 +1,13 @@
 -- What a request is refused for, what it tells where it is not, and what it then does.
-use Rattle.folds.proofs.Ground.{ℕ, _+_, _*_, _<_, _≤_, Bool, true, false, cond, not, _≡_, refl, sym, _∙_, _≢_, _⊎_, inl, inr, List, eqb, ltb, length, mul-le-mul, arith, ne-eqb, eqb-true, ltb-true, not-false}
-use Rattle.folds.proofs.Tests.{code-zero, code-next}
-use Rattle.folds.proofs.Arrays.{by-eq}
+use Rattle.folds.proofs.Ground.{ℕ, _+_, _*_, _<_, _≤_, Bool, false, cond, not, _≡_, sym, _∙_, _≢_, _⊎_, inl, inr, List, eqb, length, mul-le-mul, arith, ne-eqb, eqb-true, not-false}
+use Rattle.folds.proofs.Tests.{is-not-true, first-zero, then-zero}
+use Rattle.sizes.specs.Sizes.{mostProcessors, mostTasks, mostResources, absent}
+use Rattle.refusals.specs.Numbers.{alreadyInLine}
 use Rattle.plan_reading.specs.Plan.{Plan, Valid}
-use Rattle.analysis_equations.specs.Sharing.{processorOf, uses, global}
+use Rattle.analysis_equations.specs.Sharing.{processorOf}
 use Rattle.analysis_equations.specs.HoldTimes.{holdAt, waitTime}
-use Rattle.analysis_equations.specs.Questions.{taskNumber, sharingCode, useCode}
-use Rattle.analysis_equations.proofs.Laws.{hold-low}
+use Rattle.analysis_equations.specs.Questions.{taskNumber, useCode}
+use Rattle.analysis_equations.proofs.Laws.{use-clear, hold-shared, hold-low}
 use Rattle.machine_rules.specs.declared.Answer.{Answer}
 use Rattle.machine_rules.specs.declared.Answer.the-variants.{Granted, Waits}
 use Rattle.machine_rules.specs.declared.Call.the-variants.{Request}
@@ -14,52 +15,20 @@ use Rattle.machine_rules.specs.Machine.{View, busy, requestCode, requestAnswer}
 use Rattle.analysis_figures.specs.Figures.{Figures}
 use Rattle.machine_state.specs.declared.State.{State}
 use Rattle.machine_state.specs.Shows.{standing, lineAt, shows, noneInLine}
-use Rattle.machine_state.specs.Sound.{sound}
 use Rattle.machine_state.specs.Inner.{Seats}
 use Rattle.machine_state.proofs.Tables.{low-processor}
 use Rattle.machine_state.proofs.Good.{Whole}
-use Rattle.machine_state.proofs.Wholes.{hold-resource, whole-of, sound-of}
+use Rattle.machine_state.proofs.Wholes.{hold-resource, sound-of}
 use Rattle.machine_steps.specs.Inner.{Joining, joinedBy, taken, takenHolds}
 use Rattle.machine_steps.proofs.Joins.{aheadOf, entering, join-room, joined-whole, joined-shows}
 use Rattle.machine_steps.proofs.Asking.{taken-is, request-granted, request-waits, busy-is}
 use Rattle.machine.specs.Inner.{Acted}
 
 -- ── the number ──
--- a task that may use the resource is there, and so is the resource
-module _ (p : Plan) (tag q : ℕ) (z : useCode p tag q ≡ 0) where
-  pub use-task : taskNumber p tag < p .tasks
-  unfolding useCode
-  use-task = ltb-true _ _ (code-zero (ltb (taskNumber p tag) (p .tasks)) _ 10 z)
-
-  use-resource : q < p .resources
-  unfolding useCode
-  use-resource = ltb-true _ _ (code-zero (ltb q (p .resources)) _ 11 (code-next (ltb (taskNumber p tag) (p .tasks)) _ 10 z))
-
-  use-sharing : sharingCode p (taskNumber p tag) q ≡ 0
-  unfolding useCode
-  use-sharing = code-next (ltb q (p .resources)) _ 11 (code-next (ltb (taskNumber p tag) (p .tasks)) _ 10 z)
-
 -- 11 to 14 are those of the use
 pub use-refused : (p : Plan) (l : View) (tag q : ℕ) {k : ℕ} → k ≡ useCode p tag q → k ≢ 0 → k ≡ requestCode p l tag q
 unfolding requestCode
 use-refused p l tag q {k} h d = rw (← h, ne-eqb k 0 d)
-
--- who may use the resource has a hold time
-hold-some : (p : Plan) → Valid p → (i q : ℕ) → sharingCode p i q ≡ 0 → 1 ≤ holdAt p i q
-unfolding sharingCode holdAt
-hold-some p v i q z =
-    let u : uses p i q ≡ true = code-zero (uses p i q) _ 12 z in
-    let g : global p q ≡ true = code-zero (global p q) 0 13 (code-next (uses p i q) _ 12 z) in
-    rw (g, u) (hold-low p v i q u)
-
--- both are 0 where the number is
-clear-parts : (k : ℕ) (b : Bool) → cond (eqb k 0) (cond b 15 0) k ≡ 0 → (k ≡ 0) × (b ≡ false)
-clear-parts k b =
-    by-eq (λ (t : Bool). cond t (cond b 15 0) k ≡ 0 → (k ≡ 0) × (b ≡ false)) k 0 (λ z h. (z, off b h)) (λ d h. absurd (d h))
-  where
-    off : (b : Bool) → cond {A = ℕ} b 15 0 ≡ 0 → b ≡ false
-    off true h = let bad : ⊥ = omega arith in absurd bad
-    off false h = refl
 
 -- task i is in line for nothing and may join the line of q
 pub record Free (p : Plan) (s : State) (i q : ℕ) : Type 0 where
@@ -68,45 +37,43 @@ pub record Free (p : Plan) (s : State) (i q : ℕ) : Type 0 where
   pub some : 1 ≤ holdAt p i q
   pub idle : standing (s .tasks) i ≡ noneInLine
 
-module _ (p : Plan) (v : Valid p) (s : State) (h : sound p s ≡ true) (tag q : ℕ) where
-  whole : Whole p s
-  whole = whole-of p v s h
-
+module _ (p : Plan) (v : Valid p) (s : State) (whole : Whole p s) (tag q : ℕ) where
   -- 15 or none, by what the row of the task says
-  pub request-by : {i k : ℕ} {b : Bool} → useCode p tag q ≡ 0 → i ≡ taskNumber p tag → b ≡ not (eqb (standing (s .tasks) i .resource) 255)
-      → k ≡ cond b 15 0 → k ≡ requestCode p (shows p s) tag q
+  pub request-by : {i k : ℕ} {b : Bool} → useCode p tag q ≡ 0 → i ≡ taskNumber p tag → b ≡ not (eqb (standing (s .tasks) i .resource) absent)
+      → k ≡ cond b alreadyInLine 0 → k ≡ requestCode p (shows p s) tag q
   unfolding requestCode
-  request-by {i} z e h j = rw (z, ← e, busy-is p v s whole i (rw e (use-task p tag q z)), ← h) j
+  request-by {i} z e h j = rw (z, ← e, busy-is p v s whole i (rw e (use-clear p tag q z .task)), ← h) j
 
   -- what the number 0 tells
-  pub request-free : {i : ℕ} → i ≡ taskNumber p tag → requestCode p (shows p s) tag q ≡ 0 → Free p s i q
+  pub request-free : requestCode p (shows p s) tag q ≡ 0 → Free p s (taskNumber p tag) q
   unfolding requestCode
-  request-free {i} e z =
-      let c = clear-parts (useCode p tag q) (busy p (shows p s) i) (rw e z) in
-      let a : i < p .tasks = rw e (use-task p tag q (c .0)) in
-      let r : standing (s .tasks) i .resource ≡ 255 =
-      eqb-true (standing (s .tasks) i .resource) 255 (not-false _ (sym (busy-is p v s whole i a) ∙ c .1)) in
+  request-free z =
+      let i = taskNumber p tag in
+      let u = use-clear p tag q (first-zero (useCode p tag q) _ z) in
+      let busy-not : busy p (shows p s) i ≡ false = is-not-true _ (λ b. let y = rw b at (then-zero (useCode p tag q) _ z) in omega arith) in
+      let r : standing (s .tasks) i .resource ≡ absent =
+      eqb-true (standing (s .tasks) i .resource) absent (not-false _ (sym (busy-is p v s whole i (u .task)) ∙ busy-not)) in
       record {
-        task = a;
-        resource = use-resource p tag q (c .0);
-        some = rw e (hold-some p v (taskNumber p tag) q (use-sharing p tag q (c .0)));
-        idle = none r (whole .rows i (omega (arith, v .tasks)));
+        task = u .task;
+        resource = u .resource;
+        some = rw (hold-shared p i q (u .shared) (u .used)) (hold-low p v i q (u .used));
+        idle = none i r (whole .rows i (omega (arith, v .tasks, u .task)));
       }
     where
-      none : standing (s .tasks) i .resource ≡ 255
+      none : (i : ℕ) → standing (s .tasks) i .resource ≡ absent
           → (standing (s .tasks) i ≡ noneInLine) ⊎ (1 ≤ holdAt p i (standing (s .tasks) i .resource))
           → standing (s .tasks) i ≡ noneInLine
-      none r (inl e) = e
-      none r (inr x) = let bad : ⊥ = omega (arith, v .resources, hold-resource p v i (standing (s .tasks) i .resource) x) in absurd bad
+      none i r (inl e) = e
+      none i r (inr x) = let bad : ⊥ = omega (arith, v .resources, hold-resource p v i (standing (s .tasks) i .resource) x) in absurd bad
 
 -- ── what a request does that is not refused ──
 -- on a sound state, with the tables of the plan and the state
 pub record Accepted (p : Plan) (s : State) (tag q : ℕ) (figures seats : List ℕ) : Type 0 where
   pub valid : Valid p
-  pub sound : sound p s ≡ true
-  pub tasks-long : length (s .tasks) ≡ 64
-  pub lines-long : length (s .lines) ≡ 16
-  pub code : requestCode p (shows p s) tag q ≡ 0
+  pub whole : Whole p s
+  pub tasks-long : length (s .tasks) ≡ mostTasks
+  pub lines-long : length (s .lines) ≡ mostResources
+  pub free : Free p s (taskNumber p tag) q
   pub table : Figures p figures
   pub seated : Seats p (s .tasks) seats
 
@@ -124,15 +91,15 @@ module _ {p : Plan} {s : State} {tag q : ℕ} {figures seats : List ℕ} (h : Ac
   i = taskNumber p tag
 
   abbrev w : Whole p s
-  w = whole-of p v s (h .sound)
+  w = h .whole
 
-  may : Free p s i q
-  may = request-free p v s (h .sound) tag q refl (h .code)
+  abbrev may : Free p s i q
+  may = h .free
 
-  low : q < 16
+  low : q < mostResources
   low = omega (arith, v .resources, may .resource)
 
-  low-core : processorOf p i < 8
+  low-core : processorOf p i < mostProcessors
   low-core = low-processor p v i (may .task)
 
   -- it joins the line, whatever the answer
@@ -145,41 +112,42 @@ module _ {p : Plan} {s : State} {tag q : ℕ} {figures seats : List ℕ} (h : Ac
       }
 
   -- and so the code has it
-  module _ {j k r n : ℕ} (g : Named p tag q j k r) (e : n ≡ taken seats r k) where
-    ahead : n ≡ aheadOf p s i q
-    ahead = e ∙ rw (g .processor, g .task, g .resource) (taken-is p v s w q (processorOf p i) low low-core (h .seated))
+  module _ {j k r : ℕ} (g : Named p tag q j k r) where
+    pub core-low : k < mostProcessors
+    core-low = rw (g .processor, g .task) low-core
 
-    pub ask-joins : Joining figures s q j k n
-    ask-joins =
-        record {
-          figures-long = h .table .long;
-          resource = low;
-          task = omega (arith, g .task, v .tasks, may .task);
-          core = rw (g .processor, g .task) low-core;
-          room = λ z. join-room p v s w (h .tasks-long) (h .lines-long) i q (may .task) (may .some) (may .idle) (sym ahead ∙ z);
-        }
+    pub resource-low : r < mostResources
+    resource-low = rw (g .resource) low
 
-    module _ {next : State} (made : next ≡ joinedBy figures s q j k n) where
-      joined-is : next ≡ entering p s i q
-      joined-is =
-          made
-          ∙ rw (
-            ahead,
-            g .processor,
-            g .task,
-            h .table .hold i q (omega (arith, v .tasks, may .task)) low,
-            h .table .budget (processorOf p i) q low-core low,
-          )
+    module _ {n : ℕ} (e : n ≡ taken seats r k) where
+      ahead : n ≡ aheadOf p s i q
+      ahead = e ∙ rw (g .processor, g .task, g .resource) (taken-is p v s w q (processorOf p i) low low-core (h .seated))
 
-      pub ask-granted : lineAt s r .queued ≡ 0 → Acted p s (Request tag q) (record { answer = Granted; state = next })
-      ask-granted z = rw joined-is (done (sym (request-granted p v s w i q (rw (g .resource) at z))))
+      pub ask-joins : Joining figures s q j k n
+      ask-joins =
+          record {
+            figures-long = h .table .long;
+            resource = low;
+            task = omega (arith, g .task, v .tasks, may .task);
+            core = core-low;
+            room = λ z. join-room p v s w (h .tasks-long) (h .lines-long) i q (may .task) (may .some) (may .idle) (sym ahead ∙ z);
+          }
 
-      pub ask-waits : {x y : ℕ} → lineAt s r .queued ≢ 0 → x ≡ takenHolds figures seats r k → y ≡ waitTime p k r
-          → Acted p s (Request tag q) (record { answer = Waits n (x + (n + 1) * y); state = next })
-      ask-waits {x} {y} d a b =
-          let queued : 1 ≤ lineAt s q .queued = omega (arith, rw (g .resource) at d) in
-          rw joined-is
-          (done (rw (e, a, b, g .processor, g .task, g .resource) (sym (request-waits p v s w i q queued low (may .task) (h .seated) (h .table)))))
+      module _ {next : State} (made : next ≡ joinedBy figures s q j k n) where
+        joined-is : next ≡ entering p s i q
+        joined-is =
+            let t = h .table in
+            made ∙ rw (ahead, g .processor, g .task, t .hold i q (omega (arith, v .tasks, may .task)) low, t .budget (processorOf p i) q low-core low)
+
+        pub ask-granted : lineAt s r .queued ≡ 0 → Acted p s (Request tag q) (record { answer = Granted; state = next })
+        ask-granted z = rw joined-is (done (sym (request-granted p v s w i q (rw (g .resource) at z))))
+
+        pub ask-waits : {x y : ℕ} → lineAt s r .queued ≢ 0 → x ≡ takenHolds figures seats r k → y ≡ waitTime p k r
+            → Acted p s (Request tag q) (record { answer = Waits n (x + (n + 1) * y); state = next })
+        ask-waits {x} {y} d a b =
+            let queued : 1 ≤ lineAt s q .queued = omega (arith, rw (g .resource) at d) in
+            let told = request-waits p v s w i q queued low (may .task) (h .seated) (h .table) in
+            rw joined-is (done (rw (e, a, b, g .processor, g .task, g .resource) (sym told)))
 
 -- a limit has 32 bits
 pub waits-high : (n w : ℕ) → n ≤ 64 → w ≤ 524280 → (n + 1) * w ≤ 34078200

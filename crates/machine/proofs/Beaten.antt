@@ -1,11 +1,11 @@
 -- A tick: what it does to a sound state.
-use Rattle.folds.proofs.Ground.{ℕ, true, _≡_, ap₂, _∙_, List}
+use Rattle.folds.proofs.Ground.{ℕ, ap₂, _∙_, List}
 use Rattle.plan_reading.specs.Plan.{Plan, Valid}
 use Rattle.machine_rules.specs.declared.Answer.the-variants.{Ticked}
 use Rattle.machine_rules.specs.declared.Call.the-variants.{Tick}
 use Rattle.machine_state.specs.declared.State.{State}
-use Rattle.machine_state.specs.Sound.{sound}
-use Rattle.machine_state.proofs.Wholes.{whole-of, sound-of}
+use Rattle.machine_state.proofs.Good.{Whole}
+use Rattle.machine_state.proofs.Wholes.{sound-of}
 use Rattle.machine_state.specs.Inner.{Sized}
 use Rattle.machine_steps.specs.declared.Ticked.{Ticked as Beat}
 use Rattle.machine_steps.specs.Inner.{AllRunning, tickedBy, TickedOf}
@@ -13,14 +13,12 @@ use Rattle.machine_steps.proofs.Ready.{Tabled, sized, running}
 use Rattle.machine_steps.proofs.Ticks.{ticked-whole, ticked-shows, cut-word, grant-word}
 use Rattle.machine.specs.Inner.{Acted}
 
-module _ (p : Plan) (v : Valid p) (s : State) (h : sound p s ≡ true) {figures keys seats : List ℕ}
-    (t : Tabled p s figures keys seats) where
+module _ {p : Plan} (v : Valid p) {s : State} (w : Whole p s) {figures keys seats : List ℕ} (t : Tabled p s figures keys seats) where
   pub beat-ready : (Sized figures keys seats) × (AllRunning seats (s .lines))
-  beat-ready = (sized p v s (whole-of p v s h) t, λ q l a. running p v s (whole-of p v s h) t q l a)
+  beat-ready = (sized p v s w t, λ q l a. running p v s w t q l a)
 
   pub beat-done : {r : Beat} → TickedOf figures keys seats s r → Acted p s Tick (record { answer = Ticked (r .cuts) (r .grants); state = r .state })
   beat-done m =
-      let w = whole-of p v s h in
       record {
         answer = ap₂ Ticked (m .cuts ∙ cut-word p v s w t) (rw (m .state) at (m .grants) ∙ grant-word p v s w t);
         sound = rw (m .state) (sound-of p v (tickedBy figures keys seats s) (ticked-whole p v s w t));

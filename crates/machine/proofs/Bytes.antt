@@ -1,34 +1,19 @@
--- Bytes as a call: the state after them, and after a list of them.
-use Rattle.folds.proofs.Ground.{ℕ, _+_, _*_, _/_, true, false, not, _≡_, refl, ap, List, [], _∷_, _++_, length, add-one}
+-- The state after a list of calls in bytes.
+use Rattle.folds.proofs.Ground.{ℕ, _+_, _*_, _/_, _≡_, List, _++_, append-nil, length, add-one}
 use Rattle.machine_rules.specs.declared.Call.{Call}
 use Rattle.machine_calls.specs.declared.CallBytes.{CallBytes}
-use Rattle.machine_calls.specs.declared.Decoded.{Decoded}
-use Rattle.machine_calls.specs.Calls.{callOf, decodedCalls, bytesAt, callIn, callsBelow, callsOf}
-use Rattle.machine_calls.proofs.Calls.{decoded-call, decoded-no-call, AtMostOne, none, one, at-most-one}
+use Rattle.machine_calls.specs.Calls.{bytesAt, callIn, callsBelow, callsOf}
+use Rattle.machine_calls.proofs.Calls.{AtMostOne, none, one, at-most-one}
 use Rattle.machine_state.specs.declared.State.{State}
-use Rattle.machine.specs.Replies.{Next}
 use Rattle.machine.specs.Promise.{Returned, called}
 use Rattle.machine.specs.Inner.{AfterBytes}
-
--- the state after bytes that were decoded
-module _ (f : List ℕ) (s : State) (d : Decoded) {cs : List Call} (e : decodedCalls d ≡ cs) where
-  pub after-call : (t : State) → not (d .known) ≡ false → Next f s (d .call) t → AfterBytes f s cs t
-  after-call t n h = rw (decoded-call d e n) h
-
-  pub after-none : not (d .known) ≡ true → AfterBytes f s cs s
-  after-none n = rw (decoded-no-call d e n) refl
-
--- no call added
-none-more : (cs : List Call) → cs ≡ cs ++ []
-none-more [] = refl
-none-more (c ∷ cs) = ap (λ (ds : List Call). c ∷ ds) (none-more cs)
 
 -- a turn of the loop over a list of calls
 one-returned : (f : List ℕ) (start : State) (before : List Call) (s t : State) (cs : List Call) → AtMostOne cs
     → Returned f start before s
     → AfterBytes f s cs t
     → Returned f start (before ++ cs) t
-one-returned f start before s t cs none r e = rw (e, ← none-more before) r
+one-returned f start before s t cs none r e = rw (e, append-nil) r
 one-returned f start before s t cs (one c) r n = called r n
 
 pub returned-step : (f l : List ℕ) (w x : ℕ) {start s t : State} {b : CallBytes}

@@ -6,7 +6,7 @@ use mathlib.Core.Path.{_≡_}
 use lib.Count.{ones}
 use lib.Dec.{eqb}
 use lib.ListN.{length, getD}
-use Rattle.sizes.specs.Sizes.{mostResources}
+use Rattle.sizes.specs.Sizes.{mostProcessors, mostResources}
 use Rattle.plan.specs.Acceptance.{refusal}
 use Rattle.plan_reading.specs.Plan.{Plan, planOf, Checked}
 use Rattle.analysis_figures.specs.Figures.{Known}
@@ -33,13 +33,23 @@ refusedAt s code = record { answer = Refused code; state = s }
 
 -- ── what the functions of a call rely on ──
 
+-- a plan that is accepted, with its hold times and budgets
+pub record OnAccepted (f figures : List ℕ) : Type 0 where
+  pub none : refusal f ≡ 0
+  pub known : Known f figures
+
+-- a sound state of a plan whose hold times and budgets are known
+pub record OnKnown (f : List ℕ) (s : State) (figures : List ℕ) : Type 0 where
+  pub known : Known f figures
+  pub sound : sound (planOf f) s ≡ true
+
 -- a sound state of a plan that passed every check, and who sits where
 pub record OnSeats (f : List ℕ) (s : State) (seats : List ℕ) : Type 0 where
   pub plan : Checked f
   pub seated : Seats (planOf f) (s .tasks) seats
   pub sound : sound (planOf f) s ≡ true
 
--- and the hold times and budgets
+-- the same with the hold times and budgets
 pub record OnSound (f : List ℕ) (s : State) (figures seats : List ℕ) : Type 0 where
   pub known : Known f figures
   pub seated : Seats (planOf f) (s .tasks) seats
@@ -71,13 +81,18 @@ pub record Acted (p : Plan) (s : State) (c : Call) (r : Reply) : Type 0 where
   pub sound : sound p (r .state) ≡ true
   pub shows : shows p (r .state) ≡ effect p (shows p s) c
 
+-- the answer to a call, refused or not, and the next state
+pub record Replied (f : List ℕ) (s : State) (c : Call) (r : Reply) : Type 0 where
+  pub answer : r .answer ≡ Replies.reply f s c
+  pub next : Replies.Next f s c (r .state)
+
 -- the seat of the first task of the head, once the first task of processor `gone` left
 abbrev pub headSeat : ℕ → ℕ → LineRow → ℕ
 headSeat q gone l = seat q (slot l 0) (cond (eqb (slot l 0) gone) 1 0)
 
 -- somebody sits there
 pub record NewHead (p : Plan) (seats : List ℕ) (q gone : ℕ) (l : LineRow) : Type 0 where
-  pub placed : slot l 0 < 8
+  pub placed : slot l 0 < mostProcessors
   pub some : 1 ≤ getD seats (headSeat q gone l) 0
   pub task : getD seats (headSeat q gone l) 0 ≤ p .tasks
 

@@ -6,6 +6,7 @@ use mathlib.Core.List.{List, [], _∷_, _++_}
 use mathlib.Core.Logic.{_≢_}
 use mathlib.Core.Path.{_≡_}
 use lib.ListN.{length}
+use Rattle.sizes.specs.Sizes.{mostResources}
 use Rattle.plan_reading.specs.Plan.{planOf}
 use Rattle.plan.specs.Acceptance.{refusal, Accepted}
 use Rattle.analysis_equations.specs.Questions.{taskNumber, useCode}
@@ -52,7 +53,7 @@ Demand3 = (f : List ℕ) → Accepted f → (calls : List Call) → FreshPromise
 pub record Start (f : List ℕ) (start : State) : Type 0 where
   pub plan : Accepted f
   pub sound : sound (planOf f) start ≡ true
-  pub lines : length (start .lines) ≡ 16
+  pub lines : length (start .lines) ≡ mostResources
 
 -- From every sound state: whoever waits in it is served within the limit for those then ahead of it, and every list of calls from
 -- there has the promise

@@ -7,7 +7,9 @@ use mathlib.Core.Logic.{_≢_}
 use mathlib.Core.Path.{_≡_}
 use lib.Dec.{eqb}
 use Rattle.folds.specs.Below.{countBelow}
+use Rattle.refusals.specs.Numbers.{unsound}
 use Rattle.refusals.specs.Outcomes.{Outcome, outcome}
+use Rattle.sizes.specs.Sizes.{mostResources}
 use Rattle.plan.specs.Acceptance.{refusal}
 use Rattle.plan_reading.specs.Plan.{planOf}
 use Rattle.queue_rules.specs.Rules.{cut}
@@ -23,7 +25,7 @@ use Rattle.machine_state.specs.Sound.{sound}
 -- "Each operation given a plan file first gives 1 to 9 as reading does; each call given a state then gives 19 if that state is not
 -- sound"; 0 for neither
 abbrev pub stateRefusal : List ℕ → State → ℕ
-stateRefusal f s = cond (eqb (refusal f) 0) (cond (sound (planOf f) s) 0 19) (refusal f)
+stateRefusal f s = cond (eqb (refusal f) 0) (cond (sound (planOf f) s) 0 unsound) (refusal f)
 
 -- "After these" the call's own; 0 where it is not refused
 unfoldable pub callRefusal : List ℕ → State → Call → ℕ
@@ -46,4 +48,4 @@ replyOutcome f s c = outcome (callRefusal f s c) (answerOutcome (acceptedAnswer 
 
 -- the number of resources whose holds end in a tick; 0 where it is refused
 unfoldable pub cutCount : List ℕ → State → ℕ
-cutCount f s = cond (eqb (callRefusal f s Tick) 0) (countBelow 16 (λ q. cut (shows (planOf f) s .lines q))) 0
+cutCount f s = cond (eqb (callRefusal f s Tick) 0) (countBelow mostResources (λ q. cut (shows (planOf f) s .lines q))) 0

@@ -6,17 +6,13 @@ use machine_rules::Call;
 use machine_state::LineRow;
 use machine_state::State;
 ghost use mathlib.Core.Path.{_≡_};
-ghost use mathlib.Core.Bool.{true};
 ghost use Prim.Native.Nat.{ℕ};
-ghost use Rattle.plan.specs.Acceptance.{refusal};
 ghost use Rattle.plan_reading.specs.Plan.{planOf};
-ghost use Rattle.analysis_figures.specs.Figures.{Known};
 ghost use Rattle.machine_rules.specs.declared.Call.the-variants.{Request, Release, Tick};
 ghost use Rattle.machine_rules.specs.Machine.{requestCode, releaseCode, callCode};
 ghost use Rattle.machine_state.specs.Shows.{shows};
-ghost use Rattle.machine_state.specs.Sound.{sound};
-ghost use Rattle.machine.specs.Replies.{reply, Next};
-ghost use Rattle.machine.specs.Inner.{refusedAt, OnSeats, OnSound, Asks, Frees, Makes, Grants, Acted, grantedAnswer};
+ghost use Rattle.machine.specs.Inner.{refusedAt, OnAccepted, OnKnown, OnSeats, OnSound, Asks, Frees, Makes};
+ghost use Rattle.machine.specs.Inner.{Grants, Acted, Replied, grantedAnswer};
 
 // The refusal `code` of a call on a state.
 pub fn refuse(unchanged: State, code: u8) -> Reply
@@ -30,7 +26,7 @@ pub fn refuse(unchanged: State, code: u8) -> Reply
 
 // 11 to 15, 0 where none, of a request on a sound state.
 fn request_code(file: &[u8], figures: &[u16], state: State, tag: u16, q: u8) -> u8
-    requires { ⌜ (Known (now file) (now figures)) × (sound (planOf (now file)) state ≡ true) ⌝ }
+    requires { ⌜ OnKnown (now file) state (now figures) ⌝ }
     ensures { λ r. ⌜ r ≡ requestCode (planOf (now (file .entry))) (shows (planOf (now (file .entry))) state) tag q ⌝ }
 {
     let user = analysis_figures::user_in(file, figures, tag, q);
@@ -63,7 +59,7 @@ fn release_code(file: &[u8], seats: &[u8], state: State, tag: u16, q: u8) -> u8
         return refusals::NOT_HELD;
     }
     let queue = line.queue;
-    let first = seats[(folds::wide(q) * 8 + folds::wide(queue[0])) * 64];
+    let first = seats[(folds::wide(q) * sizes::PROCESSORS + folds::wide(queue[0])) * sizes::TASKS];
     if folds::wide(first) == i + 1 {
         return 0;
     }
@@ -118,7 +114,7 @@ fn granted(file: &[u8], line: LineRow, seats: &[u8], q: usize, gone: u8) -> Answ
     let queue = line.queue;
     let k = queue[0];
     let behind = k == gone;
-    let first = seats[(q * 8 + folds::wide(k)) * 64 + behind as usize];
+    let first = seats[(q * sizes::PROCESSORS + folds::wide(k)) * sizes::TASKS + behind as usize];
     let row = plan_reading::checked::task(file, folds::wide(first) - 1);
     Answer::Next(row.tag)
 }
@@ -173,8 +169,8 @@ fn make(file: &[u8], figures: &[u16], keys: &[u16], seats: &[u8], state: State, 
 
 // A call on any state of a plan that is accepted: 19, then its own refusal, or what it does.
 pub fn act(file: &[u8], figures: &[u16], state: State, call: Call) -> Reply
-    requires { ⌜ (refusal (now file) ≡ 0) × (Known (now file) (now figures)) ⌝ }
-    ensures { λ r. ⌜ (r .answer ≡ reply (now (file .entry)) state call) × Next (now (file .entry)) state call (r .state) ⌝ }
+    requires { ⌜ OnAccepted (now file) (now figures) ⌝ }
+    ensures { λ r. ⌜ Replied (now (file .entry)) state call r ⌝ }
 {
     let mut seats = [0u8; machine_state::SEATS];
     let seated = machine_state::seat_tasks(file, figures, state, &mut seats);

@@ -43,7 +43,8 @@ pub struct Started {
 // A fresh machine.
 pub fn start(file: &[u8]) -> Started
     ensures { λ r. ⌜ (r .refusal ≡ refusal (now (file .entry))) × (r .state ≡ freshState) ⌝ }
-    ensures { λ r. ⌜ (refusal (now (file .entry)) ≡ 0 → sound (planOf (now (file .entry))) (r .state) ≡ true) × (shows (planOf (now (file .entry))) (r .state) ≡ fresh) ⌝ }
+    ensures { λ r. ⌜ (refusal (now (file .entry)) ≡ 0 → sound (planOf (now (file .entry))) (r .state) ≡ true) ⌝ }
+    ensures { λ r. ⌜ shows (planOf (now (file .entry))) (r .state) ≡ fresh ⌝ }
 {
     Started {
         refusal: plan::check(file),

@@ -8,8 +8,8 @@ ghost use mathlib.Core.Path.{_≡_};
 ghost use mathlib.Core.Logic.{_≢_};
 ghost use lib.ListN.{replicate};
 ghost use Rattle.analysis_figures.specs.Figures.{figureCount};
-ghost use Rattle.machine.specs.Replies.{stateRefusal, reply, Next};
-ghost use Rattle.machine.specs.Inner.{Surveyed};
+ghost use Rattle.machine.specs.Replies.{stateRefusal};
+ghost use Rattle.machine.specs.Inner.{Surveyed, Replied};
 
 // Looks at a plan file for the calls to come: the first check that it fails, 0 for none, and then its hold times and budgets, where
 // all were 0. Where a check fails, the table stays as it was.
@@ -46,7 +46,7 @@ pub fn state_code(file: &[u8], code: u8, figures: &[u16], state: State) -> u8
 // A call on a state, with what a look at the file gave.
 pub fn call(file: &[u8], code: u8, figures: &[u16], state: State, call: Call) -> Reply
     requires { ⌜ Surveyed (now file) code (now figures) ⌝ }
-    ensures { λ r. ⌜ (r .answer ≡ reply (now (file .entry)) state call) × Next (now (file .entry)) state call (r .state) ⌝ }
+    ensures { λ r. ⌜ Replied (now (file .entry)) state call r ⌝ }
 {
     if code != 0 {
         return acting::refuse(state, code);

@@ -1,29 +1,11 @@
--- Bytes as calls: what the letter says, that they are one call at most, and that those in front do not depend on what lies behind.
-use Rattle.folds.proofs.Ground.{ℕ, zero, suc, _+_, _*_, _-_, _≤_, _<_, Bool, true, false, cond, _&&_, not, _≡_, refl, sym, ap, ap₂, _∙_, List, [], _∷_, _++_, eqb, length, getD, take, drop, List·getD-append, getD-append-add, getD-drop, getD-take, add-zero, zero-add, add-assoc, add-comm, suc-mul, arith, ne-eqb, not-true, not-false}
+-- Bytes as calls: that they are one call at most, and that those in front do not depend on what lies behind.
+use Rattle.folds.proofs.Ground.{ℕ, zero, suc, _+_, _*_, _-_, _≤_, _<_, Bool, true, false, cond, _&&_, not, _≡_, refl, sym, ap, ap₂, _∙_, List, [], _∷_, _++_, eqb, length, getD, take, drop, List·getD-append, getD-append-add, getD-drop, getD-take, add-zero, zero-add, add-assoc, add-comm, suc-mul, arith, not-true, not-false}
 use Rattle.folds.specs.Bytes.{number}
 use Rattle.machine_rules.specs.declared.Call.{Call}
 use Rattle.machine_rules.specs.declared.Call.the-variants.{Request, Release, Tick}
 use Rattle.machine_calls.specs.declared.Decoded.{Decoded}
 use Rattle.machine_calls.specs.Calls.{callOf, decodedCalls, tagAt, bytesAt, callIn, callsBelow}
 use Rattle.machine_calls.specs.Inner.{CallIn}
-
--- ── the call that the letter says ──
-module _ (letter tag q : ℕ) where
-  pub decoded-request : letter ≡ 81 → decodedCalls (record { known = true; call = Request tag q }) ≡ callOf letter tag q
-  unfolding callOf decodedCalls
-  decoded-request e = rw e
-
-  pub decoded-release : letter ≡ 82 → decodedCalls (record { known = true; call = Release tag q }) ≡ callOf letter tag q
-  unfolding callOf decodedCalls
-  decoded-release e = rw e
-
-  pub decoded-tick : letter ≡ 84 → decodedCalls (record { known = eqb tag 0 && eqb q 0; call = Tick }) ≡ callOf letter tag q
-  unfolding callOf decodedCalls
-  decoded-tick e = rw e
-
-  pub decoded-none : (letter ≡ 81 → ⊥) → (letter ≡ 82 → ⊥) → (letter ≡ 84 → ⊥) → decodedCalls (record { known = false; call = Tick }) ≡ callOf letter tag q
-  unfolding callOf decodedCalls
-  decoded-none a b d = rw (ne-eqb letter 81 a, ne-eqb letter 82 b, ne-eqb letter 84 d)
 
 -- a decoding says whether there is a call
 pub decoded-call : (d : Decoded) {cs : List Call} → decodedCalls d ≡ cs → not (d .known) ≡ false → cs ≡ d .call ∷ []

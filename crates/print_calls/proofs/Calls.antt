@@ -1,31 +1,32 @@
 -- What the bytes of a call print and do, once it is known whether they are a call.
-use Rattle.folds.proofs.Ground.{ℕ, _≡_, refl, sym, List, [], _∷_}
+use Rattle.folds.proofs.Ground.{ℕ, _≡_, refl, sym, _∙_, List, [], _∷_}
+use Rattle.refusals.specs.Numbers.{noCall}
 use Rattle.machine_rules.specs.declared.Call.{Call}
 use Rattle.machine_rules.specs.declared.Answer.{Answer}
 use Rattle.machine_state.specs.declared.State.{State}
 use Rattle.print_text.specs.Text.{PutIn}
-use Rattle.machine.specs.Replies.{reply, Next}
+use Rattle.machine.specs.Replies.{stateRefusal, reply, Next}
+use Rattle.machine.specs.Inner.{Surveyed}
+use Rattle.machine.proofs.Answered.{state-accepted}
 use Rattle.machine_calls.specs.declared.CallBytes.{CallBytes}
 use Rattle.machine_calls.specs.Calls.{callIn}
 use Rattle.print_lines.specs.Lines.{refusedLine, answerLine}
 use Rattle.print_calls.specs.Calls.{callLine}
+use Rattle.print_calls.specs.Buffers.{longestLine}
 use Rattle.print_calls.specs.Inner.{Stepped}
 
-module _ (f : List ℕ) (s : State) (b : CallBytes) where
-  line-none : callIn b ≡ [] → callLine f s b ≡ refusedLine 21
+-- a file that was looked at, where neither the plan nor the state is refused
+pub looked-at : {f t : List ℕ} (s : State) {code first : ℕ} → Surveyed f code t → first ≡ stateRefusal f s → first ≡ 0 → Surveyed f 0 t
+looked-at {f} s h e z = rw (h .refusal ∙ state-accepted f s (sym e ∙ z) .0) at h
+
+module _ (f : List ℕ) (s : State) (b : CallBytes) {before now : List ℕ} {at end : ℕ} where
+  pub stepped-none : callIn b ≡ [] → PutIn before now at longestLine (refusedLine noCall) end
+      → Stepped f s b before now at (record { end = end; state = s })
   unfolding callLine
-  line-none e = rw e
+  stepped-none e p = record { line = rw e p; after = rw e refl }
 
-  line-call : (c : Call) → callIn b ≡ c ∷ [] → callLine f s b ≡ answerLine f (b .tag) (b .resource) (reply f s c)
+  pub stepped-call : (c : Call) {a : Answer} {t : State} → callIn b ≡ c ∷ [] → a ≡ reply f s c → Next f s c t
+      → PutIn before now at longestLine (answerLine f (b .tag) (b .resource) a) end
+      → Stepped f s b before now at (record { end = end; state = t })
   unfolding callLine
-  line-call c e = rw e
-
-  module _ {before now : List ℕ} {at end : ℕ} where
-    pub stepped-none : callIn b ≡ [] → PutIn before now at 96 (refusedLine 21) end
-        → Stepped f s b before now at (record { end = end; state = s })
-    stepped-none e p = record { line = rw (line-none e) p; after = rw e refl }
-
-    pub stepped-call : (c : Call) {a : Answer} {t : State} → callIn b ≡ c ∷ [] → a ≡ reply f s c → Next f s c t
-        → PutIn before now at 96 (answerLine f (b .tag) (b .resource) a) end
-        → Stepped f s b before now at (record { end = end; state = t })
-    stepped-call c e r n p = record { line = rw (line-call c e, ← r) p; after = rw e n }
+  stepped-call c e r n p = record { line = rw (e, ← r) p; after = rw e n }

@@ -1,33 +1,24 @@
 -- An answer that names a resource is one of a checked plan that has it, since the call was not refused.
-use Rattle.folds.proofs.Ground.{ℕ, _<_, Bool, true, false, cond, _&&_, _≡_, List, [], _∷_, eqb, ltb, length, getD, ltb-true}
-use Rattle.folds.proofs.Tests.{code-zero, code-next, first-zero, then-zero}
+use Rattle.folds.proofs.Ground.{ℕ, _<_, Bool, true, false, cond, _&&_, _≡_, List, [], _∷_, eqb, length, getD}
+use Rattle.folds.proofs.Tests.{first-zero, then-zero}
 use Rattle.folds.proofs.Arrays.{by-eq}
-use Rattle.plan_reading.specs.Plan.{Plan, planOf, Checked}
+use Rattle.plan_reading.specs.Plan.{planOf, Checked}
 use Rattle.plan.specs.Acceptance.{refusal}
 use Rattle.plan.proofs.Laws.{accepted-checked}
 use Rattle.analysis_equations.specs.Questions.{taskNumber, useCode}
+use Rattle.analysis_equations.proofs.Laws.{use-clear}
 use Rattle.queue_rules.specs.Rules.{Line, line, turn, released}
 use Rattle.machine_rules.specs.declared.Call.{Call}
 use Rattle.machine_rules.specs.declared.Call.the-variants.{Request, Release, Tick}
 use Rattle.machine_rules.specs.declared.Answer.the-variants.{Refused}
-use Rattle.machine_rules.specs.Machine.{View, terms, busy, requestCode, releaseCode, callCode, requestAnswer, releaseAnswer, acceptedAnswer}
+use Rattle.machine_rules.specs.Machine.{terms, requestCode, callCode, requestAnswer, releaseAnswer, acceptedAnswer}
 use Rattle.machine_state.specs.declared.State.{State}
 use Rattle.machine_state.specs.Shows.{shows}
 use Rattle.machine.specs.Replies.{stateRefusal, callRefusal, reply}
+use Rattle.machine.proofs.Freed.{release-resource}
 use Rattle.machine_calls.specs.declared.CallBytes.{CallBytes}
 use Rattle.machine_calls.specs.Calls.{callOf, callIn}
 use Rattle.print_lines.specs.Inner.{Nameable, Names}
-
-module _ (p : Plan) (m : View) (tag q : ℕ) where
-  request-below : requestCode p m tag q ≡ 0 → q < p .resources
-  unfolding requestCode useCode
-  request-below e =
-      let u : useCode p tag q ≡ 0 = first-zero (useCode p tag q) (cond (busy p m (taskNumber p tag)) 15 0) e in
-      ltb-true _ _ (code-zero (ltb q (p .resources)) _ _ (code-next (ltb (taskNumber p tag) (p .tasks)) _ _ u))
-
-  release-below : releaseCode p m tag q ≡ 0 → q < p .resources
-  unfolding releaseCode
-  release-below e = ltb-true _ _ (code-zero (ltb q (p .resources)) _ _ (code-next (ltb (taskNumber p tag) (p .tasks)) _ _ e))
 
 module _ (f : List ℕ) (q : ℕ) where
   request-names : (i : ℕ) (l : Line) → Nameable f q → Names f q (requestAnswer (planOf f) i q l)
@@ -55,12 +46,18 @@ module _ (f : List ℕ) (bytes : (k : ℕ) → k < length f → getD f k 0 < 256
   each-names q (c ∷ cs) = Names f q (reply f s c)
 
   bytes-name : (letter tag q : ℕ) → each-names q (callOf letter tag q)
-  unfolding callOf each-names
+  unfolding callOf each-names requestCode
   bytes-name letter tag q = go (eqb letter 81) (eqb letter 82) (eqb letter 84 && (eqb tag 0 && eqb q 0))
     where
       go : (a b d : Bool) → each-names q (cond a (Request tag q ∷ []) (cond b (Release tag q ∷ []) (cond d (Tick ∷ []) [])))
-      go true b d = reply-names (Request tag q) q (λ e h. request-names f q (taskNumber (planOf f) tag) (shows (planOf f) s .lines q) (record { plan = h; below = request-below (planOf f) (shows (planOf f) s) tag q e }))
-      go false true d = reply-names (Release tag q) q (λ e h. release-names f q (released (terms (planOf f) q) (shows (planOf f) s .lines q)) (record { plan = h; below = release-below (planOf f) (shows (planOf f) s) tag q e }))
+      go true b d =
+          reply-names (Request tag q) q (λ e h.
+          request-names f q (taskNumber (planOf f) tag) (shows (planOf f) s .lines q)
+          (record { plan = h; below = use-clear (planOf f) tag q (first-zero (useCode (planOf f) tag q) _ e) .resource }))
+      go false true d =
+          reply-names (Release tag q) q (λ e h.
+          release-names f q (released (terms (planOf f) q) (shows (planOf f) s .lines q))
+          (record { plan = h; below = release-resource (planOf f) (shows (planOf f) s) tag q e }))
       go false false true = reply-names Tick q (λ e h. tt)
       go false false false = tt
 

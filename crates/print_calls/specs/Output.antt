@@ -4,6 +4,7 @@ use mathlib.Core.Bool.{cond}
 use mathlib.Core.List.{List, [], _∷_, _++_}
 use lib.Dec.{eqb}
 use lib.ListN.{length, take, drop}
+use Rattle.refusals.specs.Numbers.{leftOver}
 use Rattle.plan_layout.specs.Layout.{countsOf}
 use Rattle.plan.specs.Acceptance.{refusal}
 use Rattle.plan.specs.Reading.{planLength}
@@ -26,7 +27,7 @@ linesBelow f (suc n) l = linesBelow f n l ++ lineAfter f (callsBelow callWidth n
 
 -- what the output ends with, for calls of n bytes: "1 or 2 left-over bytes print "refused 22" and end"
 unfoldable pub endLine : ℕ → List ℕ
-endLine n = cond (eqb (n % callWidth) 0) [] (refusedLine 22)
+endLine n = cond (eqb (n % callWidth) 0) [] (refusedLine leftOver)
 
 -- the lines of all whole calls, and the end
 unfoldable pub callsOutput : List ℕ → List ℕ → List ℕ

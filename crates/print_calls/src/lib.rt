@@ -5,9 +5,8 @@ use machine_state::State;
 use plan_rules::Counts;
 use print_text::Handed;
 ghost use mathlib.Core.Path.{_≡_};
-ghost use Prim.Native.Nat.{_+_, _≤_};
 ghost use lib.ListN.{length};
-ghost use Rattle.machine.specs.Inner.{Surveyed, AfterBytes};
+ghost use Rattle.machine.specs.Inner.{AfterBytes};
 ghost use Rattle.machine.specs.Replies.{stateRefusal};
 ghost use Rattle.machine_calls.specs.Calls.{callIn};
 ghost use Rattle.print_lines.specs.Lines.{planLine};
@@ -15,7 +14,10 @@ ghost use Rattle.print_calls.specs.Calls.{callLine};
 ghost use Rattle.print_calls.specs.Output.{endLine};
 ghost use Rattle.print_text.specs.Buffers.{handed, bufferWith, handedUnless, bufferUnless};
 ghost use Rattle.print_calls.specs.Buffers.{StateBeside, linesCode, Batched};
-ghost use Rattle.print_calls.specs.Inner.{Stepped};
+ghost use Rattle.print_calls.specs.Inner.{Ready, Stepped};
+
+// The bytes of the longest line.
+pub const LINE: usize = 96;
 
 // A line, and the state after its call.
 pub struct CallLine {
@@ -38,26 +40,25 @@ struct Step {
     state: State,
 }
 
-// Makes a call, and puts its line.
+// Makes a call on a plan that is accepted, and puts its line.
 fn put_call(
     buf: &mut [u8],
     at: usize,
     file: &[u8],
-    code: u8,
     figures: &[u16],
     state: State,
     bytes: CallBytes,
 ) -> Step
-    requires { ⌜ (Surveyed (now file) code (now figures)) × (at + 96 ≤ length (now buf)) ⌝ }
+    requires { ⌜ Ready (now file) (now figures) (now buf) at ⌝ }
     ensures { λ r. ⌜ Stepped (now (file .entry)) state bytes (now (buf .entry)) (now (buf .exit)) at r ⌝ }
 {
     let decoded = machine_calls::decode(bytes.letter, bytes.tag, bytes.resource);
     if !decoded.known {
-        let end = print_lines::put_refused(buf, at, 21);
+        let end = print_lines::put_refused(buf, at, refusals::NO_CALL);
         return Step { end, state };
     }
     let wanted = decoded.call;
-    let reply = machine::surveyed::call(file, code, figures, state, wanted);
+    let reply = machine::surveyed::call(file, 0, figures, state, wanted);
     let answer = reply.answer;
     let next = reply.state;
     let end = print_lines::put_answer(buf, at, file, bytes.tag, bytes.resource, answer);
@@ -75,7 +76,7 @@ pub fn end_line(left: usize, out: &mut [u8]) -> Handed
             length: 0,
         };
     }
-    print_lines::refused_line(22, out)
+    print_lines::refused_line(refusals::LEFT_OVER, out)
 }
 
 // The line of a plan that is read.
@@ -83,7 +84,7 @@ pub fn plan_line(counts: Counts, out: &mut [u8]) -> Handed
     ensures { λ r. ⌜ r ≡ handed (planLine counts) (length (now (out .entry))) ⌝ }
     ensures { λ r. ⌜ now (out .exit) ≡ bufferWith (planLine counts) (now (out .entry)) ⌝ }
 {
-    let mut line = [0u8; 96];
+    let mut line = [0u8; LINE];
     let end = print_lines::put_plan(&mut line, 0, counts);
     print_text::hand_over(&line[0..end], out)
 }
@@ -110,8 +111,8 @@ pub fn call_line(file: &[u8], state: State, bytes: CallBytes, out: &mut [u8]) ->
     if first != 0 {
         return no_line(first, state);
     }
-    let mut buf = [0u8; 96];
-    let step = put_call(&mut buf, 0, file, code, &figures, state, bytes);
+    let mut buf = [0u8; LINE];
+    let step = put_call(&mut buf, 0, file, &figures, state, bytes);
     let end = step.end;
     let line = print_text::hand_over(&buf[0..end], out);
     let next = step.state;
@@ -129,8 +130,8 @@ fn lines_code(first: u8, calls: usize, room: usize) -> u8
     if first != 0 {
         return first;
     }
-    if (WIDTH <= calls) & (room < 96) {
-        return 10;
+    if (WIDTH <= calls) & (room < LINE) {
+        return refusals::NO_ROOM;
     }
     0
 }
@@ -148,8 +149,8 @@ fn none_made(refusal: u8, state: State) -> Batch
 }
 
 // Makes calls, one after the other, and puts their lines one behind the other: as many as there are, or until fewer
-// than 96 bytes are left, which no line needs. A plan that is refused, a state that is not sound (19), then a buffer of fewer than 96
-// bytes where there is a call (10) are refusals: nothing is made, and buffer and state are as they were.
+// than `LINE` bytes are left, which no line needs. A plan that is refused, a state that is not sound (19), then a buffer of fewer
+// bytes than that where there is a call (10) are refusals: nothing is made, and buffer and state are as they were.
 pub fn lines(file: &[u8], state: State, calls: &[u8], out: &mut [u8]) -> Batch
     ensures { λ r. ⌜ Batched (now (file .entry)) state (now (calls .entry)) (now (out .entry)) (now (out .exit)) r ⌝ }
 {
@@ -163,12 +164,11 @@ pub fn lines(file: &[u8], state: State, calls: &[u8], out: &mut [u8]) -> Batch
     let mut current = state;
     let mut used = 0;
     let mut end = 0;
-    while (WIDTH <= calls.len() - used) & (96 <= out.len() - end) {
+    while (WIDTH <= calls.len() - used) & (LINE <= out.len() - end) {
         let step = put_call(
             out,
             end,
             file,
-            code,
             &figures,
             current,
             machine_calls::bytes_at(calls, used, WIDTH),

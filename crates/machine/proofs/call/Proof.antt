@@ -5,10 +5,7 @@ use Rattle.machine.proofs.Answered.{reply-told}
 use Rattle.machine.proofs.call.Statement.{statement}
 use Rattle.machine.proofs.call.Tie as tie
 
-returns : tie.Need-returns
-returns c =
-    let h = c .call .ensures in
-    (h .0, (h .1, ap answerOutcome (h .0) ∙ reply-told _ _ _))
-
 pub call-spec : {M : Type 1} → statement M
-call-spec = tie.close (tie.spec (λ c. search needs) (λ c κs. search needs) (λ c. search needs) (λ c κs. search needs) returns)
+call-spec = tie.close (tie.spec
+    (λ c. search needs) (λ c κs. search needs) (λ c. search needs) (λ c κs. search needs)
+    (λ c. let h = c .call .ensures in (h .answer, (h .next, ap answerOutcome (h .answer) ∙ reply-told _ _ _))))

@@ -14,10 +14,6 @@ Inv-loop file calls state₀ n x₀ state x = (x ≤ n) × Returned file state�
 abbrev μ-loop : tie.MeasureT-loop
 μ-loop file calls state₀ n x₀ state x = n - x
 
-loop-holds : tie.Need-loop-holds Inv-loop μ-loop
-unfolding callsBelow
-loop-holds c = (omega arith, started)
-
 loop-again : tie.Need-loop-again Inv-loop μ-loop
 loop-again c =
     let turn = c .before in
@@ -32,9 +28,9 @@ returns c =
     (all-calls _ _ _ (l .x) (omega arith) (l .inv .1))
 
 pub run-from-spec : {M : Type 1} → statement M
+unfolding callsBelow
 run-from-spec =
     tie.close
     (tie.spec
-    Inv-loop μ-loop loop-holds
-    (λ c. omega arith) (λ c κs. record { least = omega arith; most = omega arith; whole = omega arith })
+    Inv-loop μ-loop (λ c. (omega arith, started)) (λ c. omega arith) (λ c κs. record { least = omega arith; most = omega arith; whole = omega arith })
     (λ c κs. search needs) (λ c. omega arith) (λ c. omega arith) loop-again returns)

@@ -1,10 +1,15 @@
 -- Every place read lies before the end, and every place written before it.
-use Rattle.folds.proofs.Ground.{_-_, _≤_, _≡_, refl, length, length-set, arith}
+use Rattle.folds.proofs.Ground.{ℕ, _-_, _≤_, _≡_, refl, List, length, length-set, arith}
 use Rattle.mspis.proofs.keep.Statement.{statement}
 use Rattle.mspis.proofs.keep.Tie as tie
 
+record Moved (before now : List ℕ) (used end i : ℕ) : Type 0 where
+  from : used ≤ i
+  to : i ≤ end
+  long : length now ≡ length before
+
 abbrev Inv-loop : tie.InvT-loop
-Inv-loop buf₀ used end i₀ buf i = (used ≤ i) × (i ≤ end) × (length buf ≡ length buf₀)
+Inv-loop buf₀ used end i₀ buf i = Moved buf₀ buf used end i
 
 abbrev μ-loop : tie.MeasureT-loop
 μ-loop buf₀ used end i₀ buf i = end - i
@@ -13,7 +18,7 @@ pub keep-spec : {M : Type 1} → statement M
 keep-spec =
     tie.close
     (tie.spec
-    Inv-loop μ-loop (λ c. (omega arith, omega (arith, c .pre .0), refl)) (λ c. omega arith) (λ c. omega arith) (λ c. omega arith)
-    (λ c. omega arith) (λ c. omega arith)
-    (λ c. let l = c .before .before .loop in (omega arith, omega arith, simp length-set (l .inv .2))) (λ c. omega arith)
-    (λ c. c .before .loop .inv .2) (λ c. omega arith))
+    Inv-loop μ-loop (λ c. record { from = omega arith; to = omega (arith, c .pre .0); long = refl }) (λ c. omega arith) (λ c. omega arith)
+    (λ c. omega arith) (λ c. omega arith) (λ c. omega arith)
+    (λ c. record { from = omega arith; to = omega arith; long = simp length-set (c .before .before .loop .inv .long) }) (λ c. omega arith)
+    (λ c. c .before .loop .inv .long) (λ c. omega arith))

@@ -5,7 +5,10 @@ use Rattle.print_calls.proofs.plan_line.Statement.{statement}
 use Rattle.print_calls.proofs.plan_line.Tie as tie
 
 returns : tie.Need-returns
-returns c = rw (front-part (c .before .before .before .before .before .before .before .put-plan .ensures .put)) at (c .before .before .hand-over .ensures)
+returns c =
+    let over = c .before .before in
+    let lent = over .before .before .before in
+    rw (front-part (lent .before .before .put-plan .ensures .put)) at (over .hand-over .ensures)
 
 pub plan-line-spec : {M : Type 1} → statement M
 plan-line-spec =

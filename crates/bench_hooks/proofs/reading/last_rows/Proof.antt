@@ -4,14 +4,12 @@ use Rattle.folds.proofs.Ground.{needs}
 use Rattle.bench_hooks.proofs.reading.last_rows.Statement.{statement}
 use Rattle.bench_hooks.proofs.reading.last_rows.Tie as tie
 
-returns : tie.Need-returns
-unfolding lastRows
-returns c = (cc, search needs)
-
 pub last-rows-spec : {M : Type 1} → statement M
+unfolding lastRows
 last-rows-spec =
     tie.close
     (tie.spec
     (λ c κs. search needs) (λ c κs. search needs) (λ c κs. search needs) (λ c κs. search needs) (λ c. search needs)
     (λ c κs. search needs) (λ c. search needs) (λ c. search needs) (λ c. search needs) (λ c. search needs) (λ c κs. search needs)
-    (λ c. search needs) (λ c κs. search needs) (λ c. search needs) (λ c κs. search needs) (λ c. search needs) returns)
+    (λ c. search needs) (λ c κs. search needs) (λ c. search needs) (λ c κs. search needs) (λ c. search needs)
+    (λ c. (cc, search needs)))

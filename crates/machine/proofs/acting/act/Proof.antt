@@ -1,8 +1,9 @@
 -- The state is not sound, the call is refused, or it is made.
-use Rattle.folds.proofs.Ground.{true, _≡_, refl, sym, _∙_, not-true, not-false, needs}
+use Rattle.folds.proofs.Ground.{true, _≡_, sym, _∙_, arith, not-true, not-false, needs}
 use Rattle.plan_reading.specs.Plan.{planOf}
 use Rattle.machine_state.specs.Sound.{sound}
-use Rattle.machine.proofs.Replied.{unsound-reply, refused-reply, acted-reply}
+use Rattle.machine.proofs.Answered.{refused-reply}
+use Rattle.machine.proofs.Replied.{unsound-code, sound-code, acted-reply}
 use Rattle.machine.proofs.acting.act.Statement.{statement}
 use Rattle.machine.proofs.acting.act.Tie as tie
 
@@ -21,40 +22,34 @@ returns : tie.Need-returns
 returns c =
     let then = c .before in
     let s = then .before .before .before in
-    rw (c .refuse .ensures) (unsound-reply _ (start s .pre .0) _ _ (sym (s .seat-tasks .ensures .sound) ∙ not-true _ (then .if1 .taken)))
-
-call-code-requires : tie.Need-call-code-requires
-call-code-requires c κs =
-    let else = c .before in
-    record { known = start (seated else) .pre .1; seated = seated else .seat-tasks .ensures .seats; sound = sound-is else }
+    let e = sym (s .seat-tasks .ensures .sound) ∙ not-true _ (then .if1 .taken) in
+    rw (c .refuse .ensures) (refused-reply _ _ _ (unsound-code _ (start s .pre .none) _ _ e) (λ z. omega arith))
 
 returns-2 : tie.Need-returns-2
 returns-2 c =
     let then = c .before in
     let else = then .before .before .before in
-    rw (c .refuse2 .ensures) (refused-reply _ (start (seated else) .pre .0) _ _ (sound-is else) (then .before .call-code .ensures) (then .if2 .taken))
+    let e = sound-code _ (start (seated else) .pre .none) _ _ (sound-is else) ∙ sym (then .before .call-code .ensures) in
+    rw (c .refuse2 .ensures) (refused-reply _ _ _ e (then .if2 .taken))
 
 make-requires : tie.Need-make-requires
 make-requires c κs =
     let code = c .before .before .before in
     let else = code .before .before .before in
-    let s = seated else .seat-tasks .ensures in
-    record {
-      on = record { known = start (seated else) .pre .1; seated = s .seats; sound = sound-is else };
-      keyed = s .keys;
-      code = sym (code .before .call-code .ensures) ∙ code .if2 .left;
-    }
+    let sound = sound-is else in
+    let zero = sym (code .before .call-code .ensures) ∙ code .if2 .left in
+    search needs
 
 returns-3 : tie.Need-returns-3
 returns-3 c =
     let code = c .before .before .before .before in
     let else = code .before .before .before in
-    acted-reply _ (start (seated else) .pre .0) _ _ (sound-is else) (sym (code .before .call-code .ensures) ∙ code .if2 .left) (c .make .ensures)
+    acted-reply _ (start (seated else) .pre .none) _ _ (sound-is else) (sym (code .before .call-code .ensures) ∙ code .if2 .left) (c .make .ensures)
 
 pub act-spec : {M : Type 1} → statement M
 act-spec =
     tie.close
     (tie.spec
-    (λ c. search needs) (λ c κs. (c .before .before .before .pre .1, search needs)) (λ c κs. search needs) returns
-    (λ c. search needs) call-code-requires (λ c κs. search needs) returns-2 (λ c. search needs) (λ c. search needs) make-requires
+    (λ c. search needs) (λ c κs. (c .before .before .before .pre .known, search needs)) (λ c κs. search needs) returns
+    (λ c. search needs) (λ c κs. let sound = sound-is (c .before) in search needs) (λ c κs. search needs) returns-2 (λ c. search needs) (λ c. search needs) make-requires
     returns-3)

@@ -1,5 +1,5 @@
 -- Each call does its own.
-use Rattle.folds.proofs.Ground.{refl, needs}
+use Rattle.folds.proofs.Ground.{needs}
 use Rattle.plan_reading.proofs.Laws.{valid-plan}
 use Rattle.machine.proofs.Freed.{release-held}
 use Rattle.machine.proofs.acting.make.Statement.{statement}
@@ -7,28 +7,22 @@ use Rattle.machine.proofs.acting.make.Tie as tie
 
 request-on-requires : tie.Need-request-on-requires
 request-on-requires c κs =
-    let match = c .before .before in
-    let m = match .before .before .before .before .before .pre in
+    let known = c .before .before .before in
+    let m = known .before .before .before .before .pre in
     record { on = m .on; code = rw (c .before .call .given .1) at (m .code) }
 
 release-on-requires : tie.Need-release-on-requires
 release-on-requires c κs =
-    let match = c .before .before in
-    let m = match .before .before .before .before .before .pre in
+    let known = c .before .before .before in
+    let m = known .before .before .before .before .pre in
     let z = release-held _ (valid-plan _ (m .on .known .plan)) _ _ _ (rw (c .before .call2 .given .1) at (m .code)) in
-    record { on = m .on; keyed = m .keyed; resource = z .0; held = z .1 }
-
-tick-on-requires : tie.Need-tick-on-requires
-tick-on-requires c κs =
-    let match = c .before in
-    let m = match .before .before .before .before .before .pre in
-    record { on = m .on; keyed = m .keyed; code = refl }
+    search needs
 
 pub make-spec : {M : Type 1} → statement M
 make-spec =
     tie.close
     (tie.spec
-    (λ c. search needs) request-on-requires (λ c. search needs) release-on-requires (λ c. search needs) tick-on-requires
+    (λ c. search needs) request-on-requires (λ c. search needs) release-on-requires (λ c. search needs) (λ c κs. search needs)
     (λ c. rw (c .before .before .call .given .1) (c .request-on .ensures))
     (λ c. rw (c .before .before .call2 .given .1) (c .release-on .ensures _))
     (λ c. rw (c .before .enum-told .given .1) (c .tick-on .ensures)))

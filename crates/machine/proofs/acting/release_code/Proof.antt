@@ -1,49 +1,46 @@
 -- The tests in their order; who holds is who sits first in the head's queue.
-use Rattle.folds.proofs.Ground.{_<_, _≤_, arith, needs}
+use Rattle.folds.proofs.Ground.{ℕ, _+_, _<_, cond, _≡_, _∙_, eqb, arith, eq-eqb, ne-eqb, needs}
+use Rattle.refusals.specs.Numbers.{notHeld}
 use Rattle.plan_reading.specs.Plan.{planOf}
 use Rattle.plan_reading.proofs.Laws.{valid-plan}
 use Rattle.analysis_equations.specs.Questions.{taskNumber}
-use Rattle.machine.proofs.Freed.{release-unknown, release-past, Releases, release-free, head-seat, release-holder, release-other}
+use Rattle.machine_rules.specs.Machine.{releaseCode}
+use Rattle.machine_state.specs.Shows.{shows}
+use Rattle.machine_state.proofs.Wholes.{whole-of}
+use Rattle.machine.proofs.Freed.{release-unknown, release-past, Releases, low, release-free, head-seat, release-seat}
 use Rattle.machine.proofs.acting.release_code.Statement.{statement}
 use Rattle.machine.proofs.acting.release_code.Tie as tie
 
 -- ── once the first two tests are passed ──
+abbrev known : tie.Else1 → tie.After-task-number
+known c = c .before .before
+
 abbrev found : tie.Else2 → tie.After-task-number
-found c = c .before .before .before .before
+found c = known (c .before .before)
 
 abbrev start : tie.After-task-number → tie.Start
 start c = c .before .before .before .before
 
+task-low : (c : tie.Else1) → let a = start (known c) .args in taskNumber (planOf (a .file .now)) (a .tag) < planOf (a .file .now) .tasks
+task-low c = omega (arith, c .if1 .left, c .before .wide .ensures .same, known c .task-number .ensures, known c .before .counts .ensures .tasks)
+
 passed : (c : tie.Else2) → let a = start (found c) .args in Releases (planOf (a .file .now)) (a .t3) (a .tag) (a .q) (a .seats .now)
 passed c =
-    let p = start (found c) .pre in
-    let n = found c .before .counts .ensures in
-    let i = found c .task-number .ensures in
-    record {
-      valid = valid-plan _ (p .plan);
-      whole = p .sound;
-      seats-at = p .seated;
-      task = omega (arith, c .before .before .if1 .left, c .before .before .before .wide .ensures .same, i, n .tasks);
-      resource = omega (arith, c .if2 .left, n .resources);
-    }
+    let task = task-low (c .before .before) in
+    let a = start (found c) .args in
+    let resource : a .q < planOf (a .file .now) .resources = omega (arith, c .if2 .left, found c .before .counts .ensures .resources) in
+    search (needs, valid-plan, whole-of)
 
 returns : tie.Need-returns
 returns c =
     let t = c .before .before in
-    let a = start t .args in
-    let l : planOf (a .file .now) .tasks ≤ taskNumber (planOf (a .file .now)) (a .tag) =
-    omega (arith, c .if1 .taken, c .before .wide .ensures .same, t .task-number .ensures, t .before .counts .ensures .tasks) in
-    release-unknown _ _ _ _ l
+    release-unknown _ _ _ _ (c .before .wide .ensures .same ∙ t .before .counts .ensures .tasks) (t .task-number .ensures) (c .if1 .taken)
 
 returns-2 : tie.Need-returns-2
 returns-2 c =
-    let t = c .before .before .before .before in
-    let a = start t .args in
-    let n = t .before .counts .ensures in
-    let l : taskNumber (planOf (a .file .now)) (a .tag) < planOf (a .file .now) .tasks =
-    omega (arith, c .before .before .if1 .left, c .before .before .before .wide .ensures .same, t .task-number .ensures, n .tasks) in
-    let r : planOf (a .file .now) .resources ≤ a .q = omega (arith, c .if2 .taken, n .resources) in
-    release-past _ _ _ _ l r
+    let else = c .before .before in
+    let r = known else .before .counts .ensures .resources in
+    release-past _ _ _ _ (task-low else) (omega (arith, c .if2 .taken, r))
 
 -- ── where the resource is held ──
 abbrev clear : tie.Else3 → tie.Else2
@@ -51,32 +48,31 @@ clear c = c .before .before .before
 
 shared-slice-read-first : tie.Need-shared-slice-read-first
 shared-slice-read-first c =
-    let held = c .before .before .before .before in
-    let a = passed (clear held) in
-    omega (arith, head-seat a (held .if3 .left), c .before .before .wide2 .ensures .same, c .before .wide3 .ensures .same, a .seats-at .long)
+    let else = c .before .before .before .before in
+    let a = passed (clear else) in
+    omega (arith, head-seat a (else .if3 .left), c .before .before .wide2 .ensures .same, c .before .wide3 .ensures .same, a .seated .long)
 
-returns-4 : tie.Need-returns-4
-returns-4 c =
-    let first = c .before in
-    let core = first .before .before in
-    let held = core .before .before .before in
-    release-holder (passed (clear held)) (held .if3 .left) (core .before .wide2 .ensures .same) (core .wide3 .ensures .same)
-    (first .wide4 .ensures .same) (found (clear held) .task-number .ensures) (c .if4 .taken)
+-- ── once the first seat there is read ──
+abbrev core : tie.After-wide4 → tie.After-wide3
+core c = c .before .before
 
-returns-5 : tie.Need-returns-5
-returns-5 c =
-    let first = c .before in
-    let core = first .before .before in
-    let held = core .before .before .before in
-    release-other (passed (clear held)) (held .if3 .left) (core .before .wide2 .ensures .same) (core .wide3 .ensures .same)
-    (first .wide4 .ensures .same) (found (clear held) .task-number .ensures) (c .if4 .left)
+abbrev held : tie.After-wide4 → tie.Else3
+held c = core c .before .before .before
+
+seated : (c : tie.After-wide4) {code : ℕ} → let t = found (clear (held c)) in let a = start t .args in
+    code ≡ cond (eqb (c .wide4 .result) (t .task-number .result + 1)) 0 notHeld
+    → code ≡ releaseCode (planOf (a .file .now)) (shows (planOf (a .file .now)) (a .t3)) (a .tag) (a .q)
+seated c e =
+    release-seat (passed (clear (held c))) (held c .if3 .left) (core c .before .wide2 .ensures .same) (core c .wide3 .ensures .same)
+    (c .wide4 .ensures .same) (found (clear (held c)) .task-number .ensures) e
 
 pub release-code-spec : {M : Type 1} → statement M
 release-code-spec =
     tie.close
     (tie.spec
     (λ c κs. search needs) (λ c κs. search needs) (λ c κs. search needs) returns returns-2 (λ c. search needs)
-    (λ c. let a = passed c in omega (arith, a .resource, a .valid .resources))
-    (λ c. release-free (passed (c .before .before .before)) (c .if3 .taken)) (λ c κs. search needs) (λ c. search needs)
+    (λ c. low (passed c)) (λ c. release-free (passed (c .before .before .before)) (c .if3 .taken))
+    (λ c κs. search needs) (λ c. search needs)
     (λ c. search needs) (λ c κs. search needs) (λ c. search needs) (λ c. search needs) shared-slice-read-first
-    (λ c κs. search needs) (λ c. search needs) returns-4 returns-5)
+    (λ c κs. search needs) (λ c. search needs) (λ c. seated (c .before) (rw (eq-eqb _ _ (c .if4 .taken))))
+    (λ c. seated (c .before) (rw (ne-eqb _ _ (c .if4 .left)))))

@@ -2,52 +2,27 @@
 use Rattle.folds.proofs.Ground.{needs}
 use Rattle.plan_reading.specs.Plan.{planOf}
 use Rattle.plan_reading.proofs.Laws.{valid-plan}
+use Rattle.machine_state.proofs.Wholes.{whole-of}
 use Rattle.machine.proofs.Lengths.{length-mapped}
 use Rattle.machine.proofs.Freed.{Held, free-low, free-ready, free-next, free-done}
 use Rattle.machine.proofs.acting.release_on.Statement.{statement}
 use Rattle.machine.proofs.acting.release_on.Tie as tie
 
 abbrev start : tie.After-wide → tie.Start
-start c = c .before .before .before .before .before
+start c =
+    let known = c .before in
+    known .before .before .before .before
 
 held : (c : tie.After-wide) → let a = start c .args in
     Held (planOf (a .file .now)) (a .t5) (a .q) (c .wide .result) (a .figures .now) (a .keys .now) (a .seats .now)
-held c =
-    let p = start c .pre in
-    record {
-      valid = valid-plan _ (p .on .known .plan);
-      whole = p .on .sound;
-      tables = record {
-        figures-at = p .on .known .figures;
-        keys-at = p .keyed;
-        seats-at = p .on .seated;
-        tasks-long = search (needs, length-mapped);
-        lines-long = search (needs, length-mapped);
-      };
-      resource = p .resource;
-      held = p .held;
-      copy = c .wide .ensures .same;
-    }
-
-granted-requires : tie.Need-granted-requires
-granted-requires c κs =
-    let w = c .before .before .before .before in
-    let on = start w .pre .on in
-    record {
-      plan = on .known .plan;
-      long = on .seated .long;
-      resource = free-low (held w);
-      head = free-next (held w) (c .before .leave .ensures);
-    }
-
-returns : tie.Need-returns
-returns c =
-    let left = c .before .before in
-    free-done (held (left .before .before .before)) (left .leave .ensures) (c .granted .ensures)
+held c = let same = c .wide .ensures .same in search (needs, length-mapped, valid-plan, whole-of)
 
 pub release-on-spec : {M : Type 1} → statement M
 release-on-spec =
     tie.close
     (tie.spec
     (λ c κs. search needs) (λ c. search needs) (λ c. free-low (held c)) (λ c κs. free-ready (held (c .before .before)))
-    (λ c. search needs) (λ c. free-low (held (c .before .before .before))) (λ c. search needs) granted-requires returns)
+    (λ c. search needs) (λ c. free-low (held (c .before .before .before))) (λ c. search needs)
+    (λ c κs. let h = held (c .before .before .before .before) in
+    let low = free-low h in let next = free-next h (c .before .leave .ensures) in search needs)
+    (λ c. let left = c .before .before in free-done (held (left .before .before .before)) (left .leave .ensures) (c .granted .ensures)))

@@ -1,9 +1,15 @@
 -- What refuses the use comes first, then the row of the task.
-use Rattle.folds.proofs.Ground.{_<_, _≡_, sym, _∙_, arith, needs}
+use Rattle.folds.proofs.Ground.{ℕ, _<_, cond, _≡_, sym, _∙_, arith, needs}
+use Rattle.sizes.specs.Sizes.{mostTasks}
+use Rattle.refusals.specs.Numbers.{alreadyInLine}
 use Rattle.plan_reading.specs.Plan.{planOf}
 use Rattle.plan_reading.proofs.Laws.{valid-plan}
 use Rattle.analysis_equations.specs.Questions.{useCode}
-use Rattle.machine.proofs.Asked.{use-task, use-refused, request-by}
+use Rattle.analysis_equations.proofs.Laws.{use-clear}
+use Rattle.machine_rules.specs.Machine.{requestCode}
+use Rattle.machine_state.specs.Shows.{shows}
+use Rattle.machine_state.proofs.Wholes.{whole-of}
+use Rattle.machine.proofs.Asked.{use-refused, request-by}
 use Rattle.machine.proofs.acting.request_code.Statement.{statement}
 use Rattle.machine.proofs.acting.request_code.Tie as tie
 
@@ -17,24 +23,22 @@ start c = c .before .before .before
 clear : (c : tie.Else1) → let a = start (asked c) .args in useCode (planOf (a .file .now)) (a .tag) (a .q) ≡ 0
 clear c = sym (asked c .user-in .ensures .0) ∙ c .if1 .left
 
-low : (c : tie.Else1) → asked c .user-in .result .task < 64
-low c = omega (arith, asked c .user-in .ensures .1, use-task _ _ _ (clear c), valid-plan _ (start (asked c) .pre .0 .plan) .tasks)
+low : (c : tie.Else1) → asked c .user-in .result .task < mostTasks
+low c = omega (arith, asked c .user-in .ensures .1, use-clear _ _ _ (clear c) .task, valid-plan _ (start (asked c) .pre .known .plan) .tasks)
 
-returns-2 : tie.Need-returns-2
-returns-2 c =
-    let else = c .before .before .before in
+-- the row of the task decides
+told : (c : tie.After-is-in-line) {code : ℕ} → let a = start (asked (c .before .before)) .args in
+    code ≡ cond (c .is-in-line .result) alreadyInLine 0 → code ≡ requestCode (planOf (a .file .now)) (shows (planOf (a .file .now)) (a .t3)) (a .tag) (a .q)
+told c e =
+    let else = c .before .before in
     let p = start (asked else) .pre in
-    request-by _ (valid-plan _ (p .0 .plan)) _ (p .1) _ _ (clear else) (asked else .user-in .ensures .1) (c .before .is-in-line .ensures) (rw (c .if2 .taken))
-
-returns-3 : tie.Need-returns-3
-returns-3 c =
-    let else = c .before .before .before in
-    let p = start (asked else) .pre in
-    request-by _ (valid-plan _ (p .0 .plan)) _ (p .1) _ _ (clear else) (asked else .user-in .ensures .1) (c .before .is-in-line .ensures) (rw (c .if2 .left))
+    let v = valid-plan _ (p .known .plan) in
+    request-by _ v _ (whole-of _ v _ (p .sound)) _ _ (clear else) (asked else .user-in .ensures .1) (c .is-in-line .ensures) e
 
 pub request-code-spec : {M : Type 1} → statement M
 request-code-spec =
     tie.close
     (tie.spec
     (λ c κs. search needs) (λ c. use-refused _ _ _ _ (c .before .before .user-in .ensures .0) (c .if1 .taken))
-    (λ c. omega (arith, low c)) (λ c. omega (arith, low c)) (λ c κs. search needs) returns-2 returns-3)
+    (λ c. omega (arith, low c)) (λ c. omega (arith, low c)) (λ c κs. search needs) (λ c. told (c .before) (rw (c .if2 .taken)))
+    (λ c. told (c .before) (rw (c .if2 .left))))

@@ -1,33 +1,30 @@
 -- The tables of the state are at hand, so the tick does what the rules say.
 use Rattle.folds.proofs.Ground.{needs}
-use Rattle.plan_reading.specs.Plan.{planOf}
+use Rattle.plan_reading.specs.Plan.{planOf, Valid}
 use Rattle.plan_reading.proofs.Laws.{valid-plan}
+use Rattle.machine_state.proofs.Good.{Whole}
+use Rattle.machine_state.proofs.Wholes.{whole-of}
 use Rattle.machine_steps.proofs.Ready.{Tabled}
 use Rattle.machine.proofs.Lengths.{length-mapped}
 use Rattle.machine.proofs.Beaten.{beat-ready, beat-done}
 use Rattle.machine.proofs.acting.tick_on.Statement.{statement}
 use Rattle.machine.proofs.acting.tick_on.Tie as tie
 
+abbrev start : tie.After-shared-slice-known4 → tie.Start
+start c = c .before .before .before .before
+
+valid : (c : tie.Start) → Valid (planOf (c .args .file .now))
+valid c = valid-plan _ (c .pre .on .known .plan)
+
+whole : (c : tie.Start) → Whole (planOf (c .args .file .now)) (c .args .state)
+whole c = whole-of _ (valid c) _ (c .pre .on .sound)
+
 tables : (c : tie.Start) → let a = c .args in Tabled (planOf (a .file .now)) (a .state) (a .figures .now) (a .keys .now) (a .seats .now)
-tables c =
-    record {
-      figures-at = c .pre .on .known .figures;
-      keys-at = c .pre .keyed;
-      seats-at = c .pre .on .seated;
-      tasks-long = search (needs, length-mapped);
-      lines-long = search (needs, length-mapped);
-    }
-
-tick-requires : tie.Need-tick-requires
-tick-requires c κs =
-    let a = c .before .before .before .before in
-    beat-ready _ (valid-plan _ (a .pre .on .known .plan)) _ (a .pre .on .sound) (tables a)
-
-returns : tie.Need-returns
-returns c =
-    let t = c .before in
-    let a = t .before .before .before .before .before in
-    beat-done _ (valid-plan _ (a .pre .on .known .plan)) _ (a .pre .on .sound) (tables a) (t .tick .ensures)
+tables c = search (needs, length-mapped)
 
 pub tick-on-spec : {M : Type 1} → statement M
-tick-on-spec = tie.close (tie.spec tick-requires returns)
+tick-on-spec =
+    tie.close
+    (tie.spec
+    (λ c κs. let a = start c in beat-ready (valid a) (whole a) (tables a))
+    (λ c. let t = c .before in let a = start (t .before) in beat-done (valid a) (whole a) (tables a) (t .tick .ensures)))

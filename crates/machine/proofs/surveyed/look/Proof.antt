@@ -12,14 +12,10 @@ fill-figures-requires c κs =
       file .before .pre,
     )
 
-returns-2 : tie.Need-returns-2
-returns-2 c =
-    let h = c .before .before in
-    let i = h .before .before in
-    (record { refusal = sym (i .if1 .left) ∙ i .before .check .ensures; known = λ z. h .fill-figures .ensures }, λ d. absurd (d refl))
-
 pub look-spec : {M : Type 1} → statement M
 look-spec = tie.close (tie.spec
     (λ c κs. search needs)
     (λ c. (record { refusal = c .before .check .ensures; known = λ z. absurd (c .if1 .taken z) }, λ d. refl))
-    fill-figures-requires (λ c. search needs) returns-2)
+    fill-figures-requires (λ c. search needs)
+    (λ c. let h = c .before .before in let i = h .before .before in
+    (record { refusal = sym (i .if1 .left) ∙ i .before .check .ensures; known = λ z. h .fill-figures .ensures }, λ d. absurd (d refl))))

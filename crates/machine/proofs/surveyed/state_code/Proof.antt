@@ -1,5 +1,6 @@
 -- The number of the plan; else the tables of the state tell whether it is sound.
-use Rattle.folds.proofs.Ground.{refl, sym, _∙_, eq-eqb, ne-eqb, needs}
+use Rattle.folds.proofs.Ground.{_≡_, sym, _∙_, eq-eqb, ne-eqb, needs}
+use Rattle.plan.specs.Acceptance.{refusal}
 use Rattle.machine.proofs.surveyed.state_code.Statement.{statement}
 use Rattle.machine.proofs.surveyed.state_code.Tie as tie
 
@@ -7,21 +8,14 @@ use Rattle.machine.proofs.surveyed.state_code.Tie as tie
 abbrev start : tie.After-seats → tie.Start
 start c = c .before .before .before .before
 
-returns-2 : tie.Need-returns-2
-returns-2 c =
-    let s = c .before .before in
-    let p = start (s .before) .pre in
-    rw (eq-eqb _ _ (sym (p .refusal) ∙ s .before .before .if1 .left), ← s .seat-tasks .ensures .sound, c .if2 .taken)
-
-returns-3 : tie.Need-returns-3
-returns-3 c =
-    let s = c .before .before in
-    let p = start (s .before) .pre in
-    rw (eq-eqb _ _ (sym (p .refusal) ∙ s .before .before .if1 .left), ← s .seat-tasks .ensures .sound, c .if2 .left)
+accepted : (c : tie.After-seats) → refusal (start c .args .file .now) ≡ 0
+accepted c = sym (start c .pre .refusal) ∙ c .before .if1 .left
 
 pub state-code-spec : {M : Type 1} → statement M
 state-code-spec =
     tie.close
     (tie.spec
     (λ c. rw (← c .before .before .before .pre .refusal, ne-eqb _ _ (c .if1 .taken))) (λ c. search needs)
-    (λ c κs. (start c .pre .known (c .before .if1 .left), search needs)) returns-2 returns-3)
+    (λ c κs. (start c .pre .known (c .before .if1 .left), search needs))
+    (λ c. let s = c .before .before in rw (eq-eqb _ _ (accepted (s .before)), ← s .seat-tasks .ensures .sound, c .if2 .taken))
+    (λ c. let s = c .before .before in rw (eq-eqb _ _ (accepted (s .before)), ← s .seat-tasks .ensures .sound, c .if2 .left)))
