@@ -20,7 +20,7 @@ ghost use Rattle.analysis.specs.Answers.{requirementRefusal, requirement
 ghost use Rattle.analysis.specs.Answers.{admissionAnswer, admissionOutcome, holdCount, holdTimes};
 
 // The hold times of a plan.
-pub const HOLDS: usize = sizes::TASKS * sizes::RESOURCES;
+pub const HOLDS: usize = analysis_figures::HOLDS;
 
 // A hold time, a longest wait, a budget or a wait time, or why none is given.
 pub enum Figure {

@@ -29,7 +29,7 @@ pub struct Fellows {
 }
 
 // The hold times in a table of figures.
-const HOLDS: usize = sizes::TASKS * sizes::RESOURCES;
+pub const HOLDS: usize = sizes::TASKS * sizes::RESOURCES;
 
 // The figures: those, and the budgets behind them.
 pub const FIGURES: usize = HOLDS + sizes::PROCESSORS * sizes::RESOURCES;

@@ -28,10 +28,7 @@ same-number s t e x =
     rw (task, line .queued, line .hold, line .budget, line .slots (x / mostResources % mostProcessors) (mod-lt (x / mostResources) (omega arith)))
 
 same-self : (s : State) → SameRows s s
-same-self s = record {
-  lines = λ q l. record { queued = refl; slots = λ j b. refl; hold = refl; budget = refl };
-  tasks = λ i l. refl;
-}
+same-self s = record { lines = λ q l. record { queued = refl; slots = λ j b. refl; hold = refl; budget = refl }; tasks = λ i l. refl }
 
 module _ (f : List ℕ) (bytes : (i : ℕ) → i < length f → getD f i 0 < 256) (before : List Call) (s : State) (r : FreshRan f before s) where
   answer-after : (c : Call) → reply f s c ≡ answerAfter f before c

@@ -1,12 +1,10 @@
 // Questions about a plan.
 use analysis::AdmissionAnswer;
+use analysis::HOLDS;
 ghost use mathlib.Core.Path.{_≡_};
 ghost use Rattle.bench_hooks.specs.Asking.{holdNumber, admissionNumber};
 
-// The hold times of a plan.
-const HOLDS: usize = sizes::TASKS * sizes::RESOURCES;
-
-// Works out all hold times of a plan and returns that at x modulo 1,024, where resource q by task i is i * 16 + q, above the
+// Works out all hold times of a plan and returns that at x modulo their number, where resource q by task i is i * RESOURCES + q, above the
 // refusal in the low byte. Which one is asked is not known before, so a caller that measures this measures all.
 #[no_mangle]
 pub extern "C" fn hold_time_at(file: &[u8], x: u16) -> u64

@@ -4,15 +4,11 @@ use crate::print;
 use crate::same;
 use analysis::AdmissionAnswer;
 use analysis::Figure;
+use analysis::HOLDS;
 use analysis::RequirementAnswer;
 use analysis_requirements::Requirement;
+use print_sheet::SHEET;
 use print_text::Handed;
-
-// The entries of the table of all hold times.
-const HOLDS: usize = sizes::TASKS * sizes::RESOURCES;
-
-// A buffer in which every sheet has room.
-const SHEET: usize = 131072;
 
 fn figure(answer: Figure, name: &[u8]) {
     match answer {

@@ -8,10 +8,9 @@ use machine_calls::CallBytes;
 use machine_state::State;
 use print_calls::Batch;
 use print_calls::CallLine;
+use print_lines::LINE;
 
-// A buffer in which every line has room, and one for the lines of a list.
-const LINE: usize = 96;
-
+// A buffer for the lines of a list.
 const LINES: usize = 1024;
 
 // Makes a call, with so many bytes of the buffer lent for its line.

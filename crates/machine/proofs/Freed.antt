@@ -102,7 +102,8 @@ module _ {p : Plan} {seats : List ℕ} {q gone : ℕ} {l : LineRow} (h : NewHead
 
 -- ── what a release does that is not refused ──
 -- what the number 0 of a release tells
-pub release-held : (p : Plan) → Valid p → (s : State) (tag q : ℕ) → releaseCode p (shows p s) tag q ≡ 0 → (q < mostResources) × (1 ≤ lineAt s q .queued)
+pub release-held : (p : Plan) → Valid p → (s : State) (tag q : ℕ) → releaseCode p (shows p s) tag q ≡ 0
+    → (q < mostResources) × (1 ≤ lineAt s q .queued)
 release-held p v s tag q e = (
   omega (arith, v .resources, release-resource p (shows p s) tag q e),
   on-eq (1 ≤ lineAt s q .queued) (lineAt s q .queued) 0

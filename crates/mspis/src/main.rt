@@ -17,7 +17,7 @@ struct Served {
 
 // "refused N".
 fn print_refused(number: u8) {
-    let mut out = [0u8; print_calls::LINE];
+    let mut out = [0u8; print_lines::LINE];
     let line = print_lines::refused_line(number, &mut out);
     let end = line.length;
     io::write_all(STDOUT_FILENO, &out[0..end]);
@@ -25,7 +25,7 @@ fn print_refused(number: u8) {
 
 // "plan P N R S".
 fn print_plan(counts: plan_rules::Counts) {
-    let mut out = [0u8; print_calls::LINE];
+    let mut out = [0u8; print_lines::LINE];
     let line = print_calls::plan_line(counts, &mut out);
     let end = line.length;
     io::write_all(STDOUT_FILENO, &out[0..end]);
@@ -33,7 +33,7 @@ fn print_plan(counts: plan_rules::Counts) {
 
 // "refused 22", where bytes are left over.
 fn print_end(left: usize) {
-    let mut out = [0u8; print_calls::LINE];
+    let mut out = [0u8; print_lines::LINE];
     let line = print_calls::end_line(left, &mut out);
     let end = line.length;
     io::write_all(STDOUT_FILENO, &out[0..end]);

@@ -12,7 +12,8 @@ use Rattle.machine.specs.Replies.{stateRefusal}
 use Rattle.machine.specs.Inner.{AfterBytes}
 use Rattle.print_calls.specs.declared.Step.{Step}
 use Rattle.print_calls.specs.Calls.{callLine}
-use Rattle.print_calls.specs.Buffers.{longestLine, Printed, none, more, linesCode, linesRefusal, Written, Batched}
+use Rattle.print_lines.specs.Lines.{mostLine}
+use Rattle.print_calls.specs.Buffers.{Printed, none, more, linesCode, linesRefusal, Written, Batched}
 use Rattle.print_calls.specs.Inner.{Stepped}
 
 -- nothing yet
@@ -22,7 +23,7 @@ written-none f s calls out =
 
 -- one call more of a list
 one-more : (f : List ℕ) (s : State) (calls : List ℕ) (used : ℕ) → used + callWidth ≤ length calls → {room : ℕ} {t u : State} {text : List ℕ}
-    → Printed f room s (take used calls) t text → length text + longestLine ≤ room
+    → Printed f room s (take used calls) t text → length text + mostLine ≤ room
     → {bytes : CallBytes} → bytes ≡ bytesAt callWidth calls used → AfterBytes f t (callIn bytes) u
     → Printed f room s (take (used + callWidth) calls) u (text ++ callLine f t bytes)
 one-more f s calls used h p r {bytes} e a =
@@ -36,14 +37,14 @@ module _ (f : List ℕ) (s : State) (calls before : List ℕ) where
   pub written-step : {now next : List ℕ} {used end : ℕ} {t : State} {r : Step} {bytes : CallBytes}
       → Written f s calls before now used end t
       → used + callWidth ≤ length calls
-      → end + longestLine ≤ length now
+      → end + mostLine ≤ length now
       → length next ≡ length now
       → bytes ≡ bytesAt callWidth calls used
       → Stepped f t bytes now next end r
       → Written f s calls before next (used + callWidth) (r .end) (r .state)
   written-step {now} {next} {used} {end} {t} {r} {bytes} w a b same e h =
       let text : List ℕ = callLine f t bytes in
-      let room : length (take end now) + longestLine ≤ length before = omega (arith, length-take-le end now (omega arith), w .long) in
+      let room : length (take end now) + mostLine ≤ length before = omega (arith, length-take-le end now (omega arith), w .long) in
       let line = one-more f s calls used a (w .printed) room e (h .after) in
       let last : r .end ≡ end + length text = h .line .put .ends in
       record {
@@ -56,21 +57,21 @@ module _ (f : List ℕ) (s : State) (calls before : List ℕ) where
 
 -- what the loop's test says: a whole call is left, and room for its line
 module _ {f : List ℕ} {s : State} {calls before now : List ℕ} {used end : ℕ} {t : State} (w : Written f s calls before now used end t)
-    (e : (leb callWidth (length calls - used) && leb longestLine (length now - end)) ≡ true) where
+    (e : (leb callWidth (length calls - used) && leb mostLine (length now - end)) ≡ true) where
   pub call-left : used + callWidth ≤ length calls
-  call-left = omega (arith, w .within, leb-true callWidth (length calls - used) (and-parts _ (leb longestLine (length now - end)) e .0))
+  call-left = omega (arith, w .within, leb-true callWidth (length calls - used) (and-parts _ (leb mostLine (length now - end)) e .0))
 
-  pub room-left : end + longestLine ≤ length now
-  room-left = omega (arith, w .fits, w .long, leb-true longestLine (length now - end) (and-parts (leb callWidth (length calls - used)) _ e .1))
+  pub room-left : end + mostLine ≤ length now
+  room-left = omega (arith, w .fits, w .long, leb-true mostLine (length now - end) (and-parts (leb callWidth (length calls - used)) _ e .1))
 
 -- and once it fails, one of them is not
 abbrev Ended : (n used room end : ℕ) → Type 0
-Ended n used room end = (n < used + callWidth) ⊎ (room < end + longestLine)
+Ended n used room end = (n < used + callWidth) ⊎ (room < end + mostLine)
 
-pub ended-by : (n u m e : ℕ) → u ≤ n → e ≤ m → (leb callWidth (n - u) && leb longestLine (m - e)) ≡ false → Ended n u m e
+pub ended-by : (n u m e : ℕ) → u ≤ n → e ≤ m → (leb callWidth (n - u) && leb mostLine (m - e)) ≡ false → Ended n u m e
 ended-by n u m e a b z =
     on-le (Ended n u m e) callWidth (n - u)
-    (λ l. on-le (Ended n u m e) longestLine (m - e) (λ k. absurd (true≢false (rw (le-leb _ _ l, le-leb _ _ k) at z))) (λ k. inr (omega arith)))
+    (λ l. on-le (Ended n u m e) mostLine (m - e) (λ k. absurd (true≢false (rw (le-leb _ _ l, le-leb _ _ k) at z))) (λ k. inr (omega arith)))
     (λ l. inl (omega arith))
 
 -- a call has been made, or nothing has been put yet
@@ -78,7 +79,7 @@ abbrev pub Begun : ℕ → ℕ → Type 0
 Begun used end = ((used ≡ 0) × (end ≡ 0)) ⊎ (callWidth ≤ used)
 
 -- so where there is a call, and room for it, one is made
-one-made : {n m : ℕ} (u e : ℕ) → Begun u e → Ended n u m e → callWidth ≤ n → longestLine ≤ m → callWidth ≤ u
+one-made : {n m : ℕ} (u e : ℕ) → Begun u e → Ended n u m e → callWidth ≤ n → mostLine ≤ m → callWidth ≤ u
 one-made u e (inl (z, y)) (inl l) a b = let bad : ⊥ = omega arith in absurd bad
 one-made u e (inl (z, y)) (inr l) a b = let bad : ⊥ = omega arith in absurd bad
 one-made u e (inr l) h a b = l
@@ -89,11 +90,11 @@ module _ (first n room : ℕ) (e : linesCode first n room ≡ 0) where
   unfolding linesCode
   first-none = first-zero first _ e
 
-  room-for : callWidth ≤ n → longestLine ≤ room
+  room-for : callWidth ≤ n → mostLine ≤ room
   unfolding linesCode
   room-for l =
-      on-le (longestLine ≤ room) longestLine room (λ k. k)
-      (λ k. let z = rw (le-leb callWidth n l, lt-ltb room longestLine k) at (then-zero first _ e) in let bad : ⊥ = omega arith in absurd bad)
+      on-le (mostLine ≤ room) mostLine room (λ k. k)
+      (λ k. let z = rw (le-leb callWidth n l, lt-ltb room mostLine k) at (then-zero first _ e) in let bad : ⊥ = omega arith in absurd bad)
 
 -- what is told, by what the plan and the state gave
 module _ (f : List ℕ) (s : State) (calls before : List ℕ) {first k : ℕ} (a : first ≡ stateRefusal f s)

@@ -10,9 +10,8 @@ use Rattle.machine.specs.Inner.{Surveyed}
 use Rattle.machine.proofs.Answered.{state-accepted}
 use Rattle.machine_calls.specs.declared.CallBytes.{CallBytes}
 use Rattle.machine_calls.specs.Calls.{callIn}
-use Rattle.print_lines.specs.Lines.{refusedLine, answerLine}
+use Rattle.print_lines.specs.Lines.{refusedLine, answerLine, mostLine}
 use Rattle.print_calls.specs.Calls.{callLine}
-use Rattle.print_calls.specs.Buffers.{longestLine}
 use Rattle.print_calls.specs.Inner.{Stepped}
 
 -- a file that was looked at, where neither the plan nor the state is refused
@@ -20,13 +19,13 @@ pub looked-at : {f t : List ℕ} (s : State) {code first : ℕ} → Surveyed f c
 looked-at {f} s h e z = rw (h .refusal ∙ state-accepted f s (sym e ∙ z) .0) at h
 
 module _ (f : List ℕ) (s : State) (b : CallBytes) {before now : List ℕ} {at end : ℕ} where
-  pub stepped-none : callIn b ≡ [] → PutIn before now at longestLine (refusedLine noCall) end
+  pub stepped-none : callIn b ≡ [] → PutIn before now at mostLine (refusedLine noCall) end
       → Stepped f s b before now at (record { end = end; state = s })
   unfolding callLine
   stepped-none e p = record { line = rw e p; after = rw e refl }
 
   pub stepped-call : (c : Call) {a : Answer} {t : State} → callIn b ≡ c ∷ [] → a ≡ reply f s c → Next f s c t
-      → PutIn before now at longestLine (answerLine f (b .tag) (b .resource) a) end
+      → PutIn before now at mostLine (answerLine f (b .tag) (b .resource) a) end
       → Stepped f s b before now at (record { end = end; state = t })
   unfolding callLine
   stepped-call c e r n p = record { line = rw (e, ← r) p; after = rw e n }

@@ -62,7 +62,8 @@ module _ (f : List ℕ) (k : Accepted f) where
       let b : CallBytes = bytesAt callWidth call 0 in
       let at : bytesAt callWidth (l ++ call) (n * callWidth) ≡ b = bytes-behind callWidth (omega arith) l call (n * callWidth) (h .long) in
       let front : callsBelow callWidth n (l ++ call) ≡ callsBelow callWidth n l = calls-front callWidth (omega arith) l call n room in
-      let line : callLine f s b ≡ lineAfter f (callsBelow callWidth n l) b = line-same f b (reply f s) (answer (planOf f) (run (planOf f) (callsBelow callWidth n l))) (λ d. returned-answers f k freshState fresh (fresh-is f k) (callsBelow callWidth n l) s d (h .returned)) (callIn b) in
+      let told = λ (d : Call). returned-answers f k freshState fresh (fresh-is f k) (callsBelow callWidth n l) s d (h .returned) in
+      let line : callLine f s b ≡ lineAfter f (callsBelow callWidth n l) b = line-same f b (reply f s) _ told (callIn b) in
       record {
         count = suc n;
         long = omega (arith, length-append l call, h .long);

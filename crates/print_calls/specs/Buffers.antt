@@ -11,12 +11,9 @@ use Rattle.machine_state.specs.declared.State.{State}
 use Rattle.machine.specs.Replies.{stateRefusal}
 use Rattle.machine_calls.specs.Calls.{callWidth, bytesAt, callIn}
 use Rattle.machine.specs.Inner.{AfterBytes}
+use Rattle.print_lines.specs.Lines.{mostLine}
 use Rattle.print_calls.specs.declared.Batch.{Batch}
 use Rattle.print_calls.specs.Calls.{callLine}
-
--- the bytes of the longest line
-abbrev pub longestLine : ℕ
-longestLine = 96
 
 -- the state beside the line of a call: as it was where there is no line
 abbrev pub StateBeside : (refusal : ℕ) → (before after : State) → (State → Type 0) → Type 0
@@ -25,7 +22,7 @@ StateBeside refusal before after made = (refusal ≡ 0 → made after) × (refus
 -- what stands before the lines of n bytes of calls in a buffer of `room` bytes: the number of the plan or of the state; then 10, where
 -- a whole call is there and not the room for the longest line
 unfoldable pub linesCode : (first n room : ℕ) → ℕ
-linesCode first n room = cond (eqb first 0) (cond (leb callWidth n && ltb room longestLine) noRoom 0) first
+linesCode first n room = cond (eqb first 0) (cond (leb callWidth n && ltb room mostLine) noRoom 0) first
 
 -- "Each operation given a plan file first gives 1 to 9 as reading does; each call given a state then gives 19": nothing is made where
 -- one of these or 10 is told
@@ -36,7 +33,7 @@ linesRefusal f s n room = linesCode (stateRefusal f s) n room
 pub data Printed (f : List ℕ) (room : ℕ) (s : State) : List ℕ → State → List ℕ → Type 0 where
   none : Printed f room s [] s []
   more : {calls text : List ℕ} {t u : State} (call : List ℕ) → length call ≡ callWidth → Printed f room s calls t text
-      → length text + longestLine ≤ room
+      → length text + mostLine ≤ room
       → AfterBytes f t (callIn (bytesAt callWidth call 0)) u
       → Printed f room s (calls ++ call) u (text ++ callLine f t (bytesAt callWidth call 0))
 
@@ -61,5 +58,5 @@ pub record Batched (f : List ℕ) (s : State) (calls before now : List ℕ) (r :
   pub number : r .refusal ≡ linesRefusal f s (length calls) (length before)
   pub unmade : r .refusal ≢ 0 → Unmade s before now r
   pub written : Written f s calls before now (r .used) (r .length) (r .state)
-  pub ended : r .refusal ≡ 0 → (length calls < r .used + callWidth) ⊎ (length before < r .length + longestLine)
+  pub ended : r .refusal ≡ 0 → (length calls < r .used + callWidth) ⊎ (length before < r .length + mostLine)
   pub some : r .refusal ≡ 0 → callWidth ≤ length calls → callWidth ≤ r .used

@@ -9,14 +9,14 @@ use Rattle.machine_calls.specs.Calls.{callIn}
 use Rattle.machine.specs.Inner.{Surveyed, AfterBytes}
 use Rattle.print_calls.specs.declared.Step.{Step}
 use Rattle.print_calls.specs.Calls.{callLine}
-use Rattle.print_calls.specs.Buffers.{longestLine}
+use Rattle.print_lines.specs.Lines.{mostLine}
 
 -- a plan that is accepted, with its hold times and budgets, and room for the longest line at `at`
 pub record Ready (f figures buf : List ℕ) (at : ℕ) : Type 0 where
   pub plan : Surveyed f 0 figures
-  pub room : at + longestLine ≤ length buf
+  pub room : at + mostLine ≤ length buf
 
 -- the bytes of a call put their line at `at`, and were made on the state
 pub record Stepped (f : List ℕ) (s : State) (b : CallBytes) (before now : List ℕ) (at : ℕ) (r : Step) : Type 0 where
-  pub line : PutIn before now at longestLine (callLine f s b) (r .end)
+  pub line : PutIn before now at mostLine (callLine f s b) (r .end)
   pub after : AfterBytes f s (callIn b) (r .state)

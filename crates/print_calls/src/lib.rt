@@ -3,6 +3,7 @@ use machine_calls::CallBytes;
 use machine_calls::WIDTH;
 use machine_state::State;
 use plan_rules::Counts;
+use print_lines::LINE;
 use print_text::Handed;
 ghost use mathlib.Core.Path.{_≡_};
 ghost use lib.ListN.{length};
@@ -15,9 +16,6 @@ ghost use Rattle.print_calls.specs.Output.{endLine};
 ghost use Rattle.print_text.specs.Buffers.{handed, bufferWith, handedUnless, bufferUnless};
 ghost use Rattle.print_calls.specs.Buffers.{StateBeside, linesCode, Batched};
 ghost use Rattle.print_calls.specs.Inner.{Ready, Stepped};
-
-// The bytes of the longest line.
-pub const LINE: usize = 96;
 
 // A line, and the state after its call.
 pub struct CallLine {

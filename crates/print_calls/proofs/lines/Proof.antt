@@ -15,7 +15,8 @@ record Going (file figures calls before now : List ℕ) (start current : State) 
   begun : Begun used end
 
 abbrev Inv-loop : tie.InvT-loop
-Inv-loop file calls out₀ figures code first refusal current₀ used₀ end₀ out current used end = Going file figures calls out₀ out current₀ current used end
+Inv-loop file calls out₀ figures code first refusal current₀ used₀ end₀ out current used end =
+    Going file figures calls out₀ out current₀ current used end
 
 abbrev μ-loop : tie.MeasureT-loop
 μ-loop file calls out₀ figures code first refusal current₀ used₀ end₀ out current used end = length calls - used

@@ -51,5 +51,5 @@ act-spec =
     tie.close
     (tie.spec
     (λ c. search needs) (λ c κs. (c .before .before .before .pre .known, search needs)) (λ c κs. search needs) returns
-    (λ c. search needs) (λ c κs. let sound = sound-is (c .before) in search needs) (λ c κs. search needs) returns-2 (λ c. search needs) (λ c. search needs) make-requires
-    returns-3)
+    (λ c. search needs) (λ c κs. let sound = sound-is (c .before) in search needs) (λ c κs. search needs) returns-2
+    (λ c. search needs) (λ c. search needs) make-requires returns-3)

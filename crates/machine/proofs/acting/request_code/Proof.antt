@@ -28,7 +28,8 @@ low c = omega (arith, asked c .user-in .ensures .1, use-clear _ _ _ (clear c) .t
 
 -- the row of the task decides
 told : (c : tie.After-is-in-line) {code : ℕ} → let a = start (asked (c .before .before)) .args in
-    code ≡ cond (c .is-in-line .result) alreadyInLine 0 → code ≡ requestCode (planOf (a .file .now)) (shows (planOf (a .file .now)) (a .t3)) (a .tag) (a .q)
+    code ≡ cond (c .is-in-line .result) alreadyInLine 0
+    → code ≡ requestCode (planOf (a .file .now)) (shows (planOf (a .file .now)) (a .t3)) (a .tag) (a .q)
 told c e =
     let else = c .before .before in
     let p = start (asked else) .pre in
