@@ -1,2 +1,3 @@
+pub mod Ground
 pub mod Told
 pub mod Users

@@ -1,24 +1,21 @@
 -- What each answer is, case by case: what is refused, what is given, and what it tells.
-use Rattle.folds.proofs.Ground.{ℕ, _<_, _≤_, _/_, _%_, Bool, true, false, cond, not, _||_, _≡_, refl, sym, ap, _∙_, List, [], _∷_, eqb, ltb, getD}
-use Rattle.folds.proofs.Ground.{replicate, div-add-mod', arith, eq-eqb, ne-eqb, lt-ltb, le-ltb, ltb-true}
-use Rattle.folds.specs.Bytes.{placedBelow}
+use Rattle.analysis.proofs.Ground.{ℕ, _<_, _≤_, true, not, _||_, _≡_, refl, sym, ap, _∙_, List, getD, replicate, arith, placedBelow}
+use Rattle.analysis.proofs.Ground.{Plan, planOf, valid-plan, refusal, globalCount, asks, met, admitted, taskNumber, asks-not}
+use Rattle.analysis.proofs.Ground.{requirementOf, Prepared, shareRefusal, holdCount}
+use Rattle.folds.proofs.Ground.{_/_, _%_, Bool, false, cond, [], _∷_, eqb, ltb}
+use Rattle.folds.proofs.Ground.{div-add-mod', eq-eqb, ne-eqb, lt-ltb, le-ltb, ltb-true}
 use Rattle.folds.proofs.Tests.{code-zero, code-next}
 use Rattle.folds.proofs.Arrays.{by-eq, placed-same}
 use Rattle.sizes.specs.Sizes.{mostTasks, mostResources}
 use Rattle.refusals.specs.Outcomes.{Outcome, outcome}
-use Rattle.plan_reading.specs.Plan.{Plan, planOf, Checked}
-use Rattle.plan_reading.proofs.Laws.{valid-plan}
-use Rattle.plan.specs.Acceptance.{refusal}
+use Rattle.plan_reading.specs.Plan.{Checked}
 use Rattle.plan.proofs.Laws.{accepted-checked}
 use Rattle.analysis_equations.specs.HoldTimes.{holdAt}
-use Rattle.analysis_equations.specs.Blocking.{globalCount}
-use Rattle.analysis_equations.specs.Requirement.{asks, met, admitted}
-use Rattle.analysis_equations.specs.Questions.{taskNumber, processorCode, requirementCode}
-use Rattle.analysis_equations.proofs.Laws.{asks-not, asks-some}
+use Rattle.analysis_equations.specs.Questions.{processorCode, requirementCode}
+use Rattle.analysis_equations.proofs.Laws.{asks-some}
 use Rattle.analysis_figures.specs.Figures.{Figures}
 use Rattle.analysis_requirements.specs.declared.Requirement.{Requirement}
-use Rattle.analysis_requirements.specs.Figures.{requirementOf}
-use Rattle.analysis_requirements.specs.Terms.{countCell, Prepared}
+use Rattle.analysis_requirements.specs.Terms.{countCell}
 use Rattle.analysis.specs.declared.Figure.{Figure}
 use Rattle.analysis.specs.declared.Figure.the-variants.{Given, Refused}
 use Rattle.analysis.specs.declared.RequirementAnswer.{RequirementAnswer}
@@ -26,7 +23,7 @@ use Rattle.analysis.specs.declared.RequirementAnswer.the-variants as req
 use Rattle.analysis.specs.declared.AdmissionAnswer.{AdmissionAnswer}
 use Rattle.analysis.specs.declared.AdmissionAnswer.the-variants as admissions
 use Rattle.analysis.specs.Inner.{Share}
-use Rattle.analysis.specs.Answers.{afterReading, figure, figureOutcome, shareRefusal, holdCount, holdTimes, admissionAnswer, admissionOutcome}
+use Rattle.analysis.specs.Answers.{afterReading, figure, figureOutcome, holdTimes, admissionAnswer, admissionOutcome}
 use Rattle.analysis.specs.Answers.{requirementGiven, requirementValues, requirementOutcome, signedAnswered}
 
 -- a file of bytes that was not refused

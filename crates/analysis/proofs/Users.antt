@@ -1,10 +1,7 @@
 -- A task and a resource that are asked about: what is refused, and what is known where nothing is.
-use Rattle.folds.proofs.Ground.{ℕ, _≡_, sym, _∙_, List, getD, arith}
-use Rattle.plan_reading.specs.Plan.{planOf}
-use Rattle.plan.specs.Acceptance.{refusal}
-use Rattle.plan_reading.proofs.Laws.{valid-plan}
+use Rattle.analysis.proofs.Ground.{ℕ, _≡_, sym, _∙_, List, getD, arith, planOf, refusal, valid-plan, taskNumber}
 use Rattle.analysis_equations.specs.HoldTimes.{holdTime}
-use Rattle.analysis_equations.specs.Questions.{taskNumber, useCode}
+use Rattle.analysis_equations.specs.Questions.{useCode}
 use Rattle.analysis_equations.proofs.Laws.{Sharing, use-clear, hold-shared}
 use Rattle.analysis_figures.specs.Figures.{holdCell, Known}
 use Rattle.analysis_figures.specs.declared.User.{User}

@@ -1,8 +1,6 @@
 -- What the table of figures tells of a task or a processor, by numbers that equal theirs.
-use Rattle.folds.proofs.Ground.{ℕ, _<_, _≡_, List, getD}
-use Rattle.plan_reading.specs.Plan.{Plan}
-use Rattle.analysis_equations.specs.HoldTimes.{holdAt, budget}
-use Rattle.analysis_figures.specs.Figures.{holdCell, budgetCell, Figures}
+use Rattle.analysis_figures.proofs.Ground.{ℕ, _<_, _≡_, List, getD, Plan, holdAt, budget, budgetCell, Figures}
+use Rattle.analysis_figures.specs.Figures.{holdCell}
 
 pub hold-of : (p : Plan) (t : List ℕ) {j q r : ℕ} → Figures p t → r ≡ q → j < 64 → q < 16 → getD t (holdCell j r) 0 ≡ holdAt p j q
 hold-of p t {j} {q} c e a b = rw e (c .hold j q a b)

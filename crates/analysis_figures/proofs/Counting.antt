@@ -1,12 +1,13 @@
 -- The fellows of a task, told by the table of hold times: who is of its processor and holds the resource for some time.
-use Rattle.folds.proofs.Ground.{ℕ, _+_, _*_, _≤_, Bool, true, false, cond, _&&_, not, _≡_, refl, ap, _∙_, eqb, arith}
-use Rattle.folds.specs.Below.{countBelow, sumBelow}
-use Rattle.folds.proofs.Figures.{count-step, sum-step}
+use Rattle.analysis_figures.proofs.Ground.{ℕ, _+_, _*_, _≤_, true, cond, not, _≡_, refl, _∙_, eqb, arith, sumBelow, sum-step, Plan}
+use Rattle.analysis_figures.proofs.Ground.{Valid, holdAt}
+use Rattle.folds.proofs.Ground.{Bool, false, _&&_, ap}
+use Rattle.folds.specs.Below.{countBelow}
+use Rattle.folds.proofs.Figures.{count-step}
 use Rattle.folds.proofs.Ranges.{cond-bound}
 use Rattle.plan_rules.specs.declared.TaskRow.{TaskRow}
-use Rattle.plan_reading.specs.Plan.{Plan, Valid}
 use Rattle.analysis_equations.specs.Sharing.{processorOf, uses, global}
-use Rattle.analysis_equations.specs.HoldTimes.{holdTime, holdAt, fellow}
+use Rattle.analysis_equations.specs.HoldTimes.{holdTime, fellow}
 use Rattle.analysis_equations.specs.Blocking.{fellowHolds}
 use Rattle.analysis_equations.specs.Bounds.{mostHold}
 use Rattle.analysis_equations.proofs.Laws.{hold-high, hold-zero, fellow-hold}

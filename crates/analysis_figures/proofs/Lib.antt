@@ -1,3 +1,4 @@
+pub mod Ground
 pub mod Cells
 pub mod Waits
 pub mod Counting

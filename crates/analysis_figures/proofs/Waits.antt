@@ -1,10 +1,8 @@
 -- What the loop over the budgets of the others adds up.
-use Rattle.folds.proofs.Ground.{ℕ, _+_, _<_, cond, _≡_, _∙_, List, eqb, getD}
-use Rattle.folds.specs.Below.{sumBelow}
-use Rattle.folds.proofs.Figures.{sum-step, sum-done}
-use Rattle.plan_reading.specs.Plan.{Plan}
-use Rattle.analysis_equations.specs.HoldTimes.{budget, waitTime}
-use Rattle.analysis_figures.specs.Figures.{budgetCell, Figures}
+use Rattle.analysis_figures.proofs.Ground.{ℕ, _+_, _<_, cond, _≡_, _∙_, List, eqb, getD, sumBelow, sum-step, Plan, budget}
+use Rattle.analysis_figures.proofs.Ground.{budgetCell, Figures}
+use Rattle.folds.proofs.Figures.{sum-done}
+use Rattle.analysis_equations.specs.HoldTimes.{waitTime}
 
 module _ (p : Plan) (k q : ℕ) where
   -- the sum of the budgets on q of the processors below l that are not k

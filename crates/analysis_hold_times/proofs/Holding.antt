@@ -1,14 +1,11 @@
 -- What the walk through a processor's tasks makes of the rows: hold times, and the sums and maxima beside them.
-use Rattle.folds.proofs.Ground.{ℕ, _+_, _*_, _-_, _<_, _≤_, max, Bool, true, false, cond, _&&_, _≡_, refl, sym, ap, _∙_, List, eqb, ltb, length, getD, replicate, arith, lt-ltb, le-ltb, eq-eqb, ne-eqb}
-use Rattle.folds.proofs.Figures.{sum-same}
-use Rattle.folds.proofs.Arrays.{by-eq}
-use Rattle.plan_reading.specs.Plan.{Plan, Valid, planOf}
-use Rattle.plan_reading.proofs.Laws.{valid-plan}
-use Rattle.analysis_equations.specs.Sharing.{uses, global}
-use Rattle.analysis_equations.specs.HoldTimes.{longestOn, longestOff, interference, holdTime, holdAt, budget}
-use Rattle.analysis_equations.proofs.Laws.{budget-holds, off-high, uses-longest}
-use Rattle.analysis_figures.specs.Figures.{figureCount}
-use Rattle.analysis_hold_times.specs.Inner.{cell, Held, RowSet, ResourceRow, Sits, AllAbove, Walk, sharedOn}
+use Rattle.analysis_hold_times.proofs.Ground.{ℕ, _+_, _*_, _-_, _<_, _≤_, max, Bool, true, false, cond, _&&_, _≡_, refl, sym, ap}
+use Rattle.analysis_hold_times.proofs.Ground.{_∙_, List, eqb, ltb, length, getD, replicate, arith, lt-ltb, le-ltb, eq-eqb, ne-eqb}
+use Rattle.analysis_hold_times.proofs.Ground.{sum-same, by-eq, Plan, Valid, planOf, valid-plan, uses, global, longestOn, longestOff}
+use Rattle.analysis_hold_times.proofs.Ground.{holdAt, budget, uses-longest, figureCount, cell, Held, RowSet, ResourceRow, Sits}
+use Rattle.analysis_hold_times.proofs.Ground.{AllAbove, Walk, sharedOn}
+use Rattle.analysis_equations.specs.HoldTimes.{interference, holdTime}
+use Rattle.analysis_equations.proofs.Laws.{budget-holds, off-high}
 use Rattle.analysis_hold_times.proofs.Rows.{row-same}
 use Rattle.analysis_hold_times.proofs.Walks.{passed, passed-none, passed-own, passed-new, passed-above, passed-other, passed-all, the-greatest, the-sum, FoldBelow, fold-none, fold-step, fold-done, sums-high}
 use Rattle.analysis_hold_times.proofs.Tops.{shared-high, top-high, top-own, top-off}

@@ -1,3 +1,4 @@
+pub mod Ground
 pub mod Rows
 pub mod Ranks
 pub mod Walks

@@ -1,15 +1,14 @@
 -- The tables of longest sections, and which resources the processors use.
-use Rattle.folds.proofs.Ground.{ℕ, zero, suc, _+_, _-_, _/_, _<_, _≤_, max, Bool, true, false, cond, _&&_, _||_, and-comm, _≡_, refl, sym, ap, _∙_, List, eqb, ltb, leb, length, getD, set, replicate, length-replicate, arith, lt-ltb, eq-eqb, ne-eqb}
+use Rattle.analysis_hold_times.proofs.Ground.{ℕ, zero, suc, _+_, _-_, _<_, _≤_, max, Bool, true, false, cond, _&&_, _≡_, refl, sym}
+use Rattle.analysis_hold_times.proofs.Ground.{ap, _∙_, List, eqb, ltb, leb, length, getD, set, replicate, length-replicate, arith}
+use Rattle.analysis_hold_times.proofs.Ground.{lt-ltb, eq-eqb, ne-eqb, anyBelow, sumBelow, maxBelow, countBelow, max-same, count-step}
+use Rattle.analysis_hold_times.proofs.Ground.{count-bound, maxedBelow, maxed-length, Plan, Valid, processorOf, sectionOn, uses}
+use Rattle.analysis_hold_times.proofs.Ground.{usedOn, global, longestOn, uses-longest, cell, column, ResourceRow}
+use Rattle.folds.proofs.Ground.{_/_, _||_, and-comm}
 use borrow.Author.Tests as Tests
-use Rattle.folds.specs.Below.{anyBelow, sumBelow, maxBelow, countBelow}
-use Rattle.folds.proofs.Figures.{max-same, count-step, count-bound}
-use Rattle.folds.proofs.Arrays.{maxedBelow, maxed-length, maxed-at, maxed-step, cell-eqb}
+use Rattle.folds.proofs.Arrays.{maxed-at, maxed-step, cell-eqb}
 use Rattle.plan_rules.specs.declared.SectionRow.{SectionRow}
-use Rattle.plan_reading.specs.Plan.{Plan, Valid}
-use Rattle.analysis_equations.specs.Sharing.{processorOf, sectionOn, uses, usedOn, global}
-use Rattle.analysis_equations.specs.HoldTimes.{longestOn}
-use Rattle.analysis_equations.proofs.Laws.{uses-longest}
-use Rattle.analysis_hold_times.specs.Inner.{cell, column, LongestAt, ResourceRow, usedTime}
+use Rattle.analysis_hold_times.specs.Inner.{LongestAt, usedTime}
 use Rattle.analysis_hold_times.proofs.Rows.{by-lt, row-zeros, row-same}
 
 -- the longer of two, as a sum

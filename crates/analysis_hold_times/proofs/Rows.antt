@@ -1,9 +1,11 @@
 -- Rows and tables that a loop over the resources makes.
-use Rattle.folds.proofs.Ground.{ℕ, zero, suc, _+_, _*_, _<_, _≤_, Bool, true, false, cond, _≡_, refl, _∙_, ⊎-elim, List, eqb, ltb, length, getD, set, replicate, length-replicate, getD-replicate, getD-set-same, getD-set-other, not-suc-le-zero, eq-or-lt-of-le, le-of-suc-le-suc, arith, ltb-true, ltb-false, lt-ltb}
-use Rattle.folds.proofs.Tests.{same-test}
+use Rattle.analysis_hold_times.proofs.Ground.{ℕ, zero, suc, _+_, _*_, _<_, _≤_, Bool, true, false, cond, _≡_, refl, _∙_, ⊎-elim}
+use Rattle.analysis_hold_times.proofs.Ground.{List, eqb, ltb, length, getD, set, replicate, length-replicate, getD-replicate}
+use Rattle.analysis_hold_times.proofs.Ground.{getD-set-same, getD-set-other, not-suc-le-zero, arith, ltb-true, ltb-false, lt-ltb}
+use Rattle.analysis_hold_times.proofs.Ground.{same-test, by-eq, stampedBelow, stamped-length, cell, ResourceRow, RowSet}
+use Rattle.folds.proofs.Ground.{eq-or-lt-of-le, le-of-suc-le-suc}
 use Rattle.folds.specs.Bytes.{placedBelow}
-use Rattle.folds.proofs.Arrays.{by-eq, placed-length, placed-at, placed-step, stampedBelow, stamped-length}
-use Rattle.analysis_hold_times.specs.Inner.{cell, ResourceRow, RowSet}
+use Rattle.folds.proofs.Arrays.{placed-length, placed-at, placed-step}
 
 -- the tests of a number below k + 1 and below k agree for all but k
 pub ltb-more : (x k : ℕ) → (x ≡ k → ⊥) → ltb x (k + 1) ≡ ltb x k

@@ -1,15 +1,14 @@
 -- The table of hold times and budgets, processor by processor.
-use Rattle.folds.proofs.Ground.{ℕ, _+_, _<_, _≤_, Bool, false, cond, _&&_, and-false, _≡_, refl, sym, ap, _∙_, List, ltb, length, getD, arith, lt-ltb, le-ltb, eq-eqb, ne-eqb}
-use Rattle.folds.specs.Below.{anyBelow}
+use Rattle.analysis_hold_times.proofs.Ground.{ℕ, _+_, _<_, _≤_, Bool, false, cond, _&&_, and-false, _≡_, refl, sym, ap, _∙_, List}
+use Rattle.analysis_hold_times.proofs.Ground.{ltb, length, getD, arith, lt-ltb, le-ltb, eq-eqb, ne-eqb, anyBelow, by-eq, Plan, Valid}
+use Rattle.analysis_hold_times.proofs.Ground.{processorOf, sectionOn, uses, usedOn, longestOn, holdAt, budget, figureCount, cell}
+use Rattle.analysis_hold_times.proofs.Ground.{Held, RowSet, ResourceRow}
 use Rattle.folds.proofs.Tests.{any-none}
-use Rattle.folds.proofs.Arrays.{by-eq}
 use Rattle.folds.proofs.Ranges.{max-none}
-use Rattle.plan_reading.specs.Plan.{Plan, Valid}
-use Rattle.analysis_equations.specs.Sharing.{processorOf, sectionOn, uses, usedOn}
-use Rattle.analysis_equations.specs.HoldTimes.{longestOn, holdAt, budget, userOn}
+use Rattle.analysis_equations.specs.HoldTimes.{userOn}
 use Rattle.analysis_equations.proofs.Laws.{budget-unused}
-use Rattle.analysis_figures.specs.Figures.{figureCount, Figures}
-use Rattle.analysis_hold_times.specs.Inner.{cell, Sections, Held, RowSet, ResourceRow}
+use Rattle.analysis_figures.specs.Figures.{Figures}
+use Rattle.analysis_hold_times.specs.Inner.{Sections}
 use Rattle.analysis_hold_times.proofs.Rows.{ltb-more, by-lt}
 
 module _ (p : Plan) where

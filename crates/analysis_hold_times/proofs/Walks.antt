@@ -1,13 +1,10 @@
 -- A walk through a processor's tasks from the highest down: which are passed, and what the rows hold that it makes.
-use Rattle.folds.proofs.Ground.{ℕ, _+_, _-_, _<_, _≤_, max, Bool, true, false, cond, _&&_, and-false, _≡_, refl, sym, ap, _∙_, List, eqb, ltb, length, getD, replicate, arith, lt-ltb, le-ltb, eq-eqb}
-use Rattle.folds.specs.Below.{maxBelow, sumBelow}
-use Rattle.folds.proofs.Figures.{max-bound, max-same, sum-same}
+use Rattle.analysis_hold_times.proofs.Ground.{ℕ, _+_, _-_, _<_, _≤_, max, Bool, true, false, cond, _&&_, and-false, _≡_, refl, sym}
+use Rattle.analysis_hold_times.proofs.Ground.{ap, _∙_, List, eqb, ltb, length, getD, replicate, arith, lt-ltb, le-ltb, eq-eqb}
+use Rattle.analysis_hold_times.proofs.Ground.{maxBelow, sumBelow, max-bound, max-same, sum-same, by-eq, Plan, Valid, planOf, Checked}
+use Rattle.analysis_hold_times.proofs.Ground.{valid-plan, processorOf, priorityOf, higher, part, ResourceRow, rankOf, Sits, AllAbove}
+use Rattle.analysis_hold_times.proofs.Ground.{Orders}
 use Rattle.folds.proofs.Ranges.{max-insert, sum-none, sum-where-bound, sum-insert}
-use Rattle.folds.proofs.Arrays.{by-eq}
-use Rattle.plan_reading.specs.Plan.{Plan, Valid, planOf, Checked}
-use Rattle.plan_reading.proofs.Laws.{valid-plan}
-use Rattle.analysis_equations.specs.Sharing.{processorOf, priorityOf, higher}
-use Rattle.analysis_hold_times.specs.Inner.{part, ResourceRow, rankOf, Sits, AllAbove, Orders}
 use Rattle.analysis_hold_times.proofs.Rows.{ltb-more, row-zeros, row-same}
 use Rattle.analysis_hold_times.proofs.Ranks.{rank-order, rank-tasks, rank-distinct}
 

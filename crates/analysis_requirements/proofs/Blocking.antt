@@ -1,10 +1,10 @@
 -- Equations 4 and 5 over the table of terms.
-use Rattle.analysis_requirements.proofs.Ground.{ℕ, _+_, _*_, _<_, _≤_, min, Bool, true, false, cond, not, _≡_, refl, _∙_, List, eqb, length}
-use Rattle.analysis_requirements.proofs.Ground.{getD, mul-le-mul, arith, maxBelow, mostTasks, mostResources, mostSections, mostSectionTicks}
-use Rattle.analysis_requirements.proofs.Ground.{Plan, planOf, Valid, valid-plan, global, lower, globalCount, blocks, longestLocal, blocking1}
-use Rattle.analysis_requirements.proofs.Ground.{longestGlobal, mostBlocking1, longestCell, precedenceCell, countCell, sharedCell, termCount}
-use Rattle.analysis_requirements.proofs.Ground.{Prepared, under, TaskTerms}
-use Rattle.folds.proofs.Ranges.{cond-bound}
+use Rattle.analysis_requirements.proofs.Ground.{ℕ, _+_, _*_, _<_, _≤_, min, Bool, true, false, cond, not, _≡_, refl, _∙_, List, eqb}
+use Rattle.analysis_requirements.proofs.Ground.{length, getD, mul-le-mul, arith, maxBelow, mostTasks, mostResources, mostSections}
+use Rattle.analysis_requirements.proofs.Ground.{mostSectionTicks, Plan, planOf, Valid, valid-plan, global, lower, globalCount}
+use Rattle.analysis_requirements.proofs.Ground.{blocks, longestLocal, blocking1, longestGlobal, mostBlocking1, longestCell}
+use Rattle.analysis_requirements.proofs.Ground.{precedenceCell, countCell, sharedCell, termCount, Prepared, under, TaskTerms}
+use Rattle.analysis_requirements.proofs.Ground.{cond-bound}
 use Rattle.analysis_equations.proofs.Laws.{count-high, global-high}
 use Rattle.analysis_requirements.proofs.Precedences.{table-under}
 use Rattle.analysis_requirements.proofs.Terms.{flag-clear}

@@ -1,14 +1,12 @@
 -- Laws of the demand of the tasks above a task.
-use Rattle.analysis_requirements.proofs.Ground.{ℕ, _+_, _*_, _-_, _<_, _≤_, true, false, _≡_, refl, ap, _∙_, List, getD, set, replicate}
-use Rattle.analysis_requirements.proofs.Ground.{mul-le-mul, arith, countBelow, sum-bound, mostTasks, TaskRow, Plan, Valid, higher, ceilDiv}
-use Rattle.analysis_requirements.proofs.Ground.{demand, left, tolerance, mostPeriod, mostDemandOfOne, mostDemand, HigherTasks, Timed, TimedTo}
-use Rattle.analysis_requirements.proofs.Ground.{Scanned, demandOf}
-use lib.IntN.{ℤ, pos, _-ℤ_}
+use Rattle.analysis_requirements.proofs.Ground.{ℕ, _+_, _*_, _-_, _<_, _≤_, true, false, _≡_, refl, ap, _∙_, List, getD, set}
+use Rattle.analysis_requirements.proofs.Ground.{replicate, mul-le-mul, arith, countBelow, sum-bound, mostTasks, TaskRow, Plan, Valid}
+use Rattle.analysis_requirements.proofs.Ground.{higher, ceilDiv, demand, left, tolerance, mostPeriod, mostDemandOfOne, mostDemand}
+use Rattle.analysis_requirements.proofs.Ground.{HigherTasks, Timed, TimedTo, Scanned, demandOf, ℤ, pos, _-ℤ_, greatestTo, ceil-bound}
 use Rattle.folds.specs.Packed.{packedBelow}
-use Rattle.folds.specs.Signed.{maxZ, greatestTo}
+use Rattle.folds.specs.Signed.{maxZ}
 use Rattle.folds.proofs.PackedLaws.{packed-length, packed-all, packed-sum, packed-step, packed-skip, count-taken, count-skipped}
 use Rattle.folds.proofs.SignedLaws.{greatest-step, greatest-same}
-use Rattle.analysis_equations.proofs.Laws.{ceil-bound}
 
 -- the demand up to t of one task of period v and execution time u: v is not 0, and all fits
 pub record DemandOfOne (t v u : ℕ) : Type 0 where

@@ -1,7 +1,7 @@
 -- What a task's precedence tells of its processor and its priority.
-use Rattle.analysis_requirements.proofs.Ground.{ℕ, _+_, _*_, _/_, _%_, _<_, Bool, _&&_, _≡_, refl, List, ltb, getD, arith, ltb-true, lt-ltb}
-use Rattle.analysis_requirements.proofs.Ground.{Plan, Valid, processorOf, priorityOf, higher, lower, precedenceCell, precedenceOf, Terms}
-use Rattle.analysis_requirements.proofs.Ground.{above, under}
+use Rattle.analysis_requirements.proofs.Ground.{ℕ, _+_, _*_, _/_, _%_, _<_, Bool, _&&_, _≡_, refl, List, ltb, getD, arith, ltb-true}
+use Rattle.analysis_requirements.proofs.Ground.{lt-ltb, Plan, Valid, processorOf, priorityOf, higher, lower, precedenceCell}
+use Rattle.analysis_requirements.proofs.Ground.{precedenceOf, Terms, above, under}
 use Rattle.folds.proofs.Tests.{same-test}
 use Rattle.folds.proofs.Arrays.{by-eq}
 

@@ -1,10 +1,10 @@
 -- What a section that was read names, and a table of how many sections there are by resource.
-use Rattle.analysis_requirements.proofs.Ground.{ℕ, _+_, _<_, _≤_, Bool, cond, _&&_, and-comm, _≡_, sym, _∙_, List, eqb, getD, replicate}
-use Rattle.analysis_requirements.proofs.Ground.{length-replicate, arith, countBelow, sum-same, sum-count, count-bound, count-same, mostTasks}
-use Rattle.analysis_requirements.proofs.Ground.{mostResources, SectionRow, Plan, Valid, sectionBy, countOn, PerResource}
+use Rattle.analysis_requirements.proofs.Ground.{ℕ, _+_, _<_, _≤_, Bool, cond, _&&_, and-comm, _≡_, sym, _∙_, List, eqb, getD}
+use Rattle.analysis_requirements.proofs.Ground.{replicate, length-replicate, arith, countBelow, sum-same, sum-count, count-bound}
+use Rattle.analysis_requirements.proofs.Ground.{count-same, mostTasks, mostResources, SectionRow, Plan, Valid, sectionBy, countOn}
+use Rattle.analysis_requirements.proofs.Ground.{PerResource, gatheredBelow, cond-bound}
 use Rattle.folds.proofs.Tests.{cond-both}
-use Rattle.folds.proofs.Arrays.{gatheredBelow, gathered-length, gathered-at}
-use Rattle.folds.proofs.Ranges.{cond-bound}
+use Rattle.folds.proofs.Arrays.{gathered-length, gathered-at}
 
 -- section s of the plan, as it was read: of task j, on resource q
 pub record SectionRead (p : Plan) (s j q : ℕ) (row : SectionRow) : Type 0 where

@@ -1,13 +1,13 @@
 -- What the tables tell of Equations 6 and 7 and of the requirement, and the bounds that the code's steps need.
-use Rattle.analysis_requirements.proofs.Ground.{ℕ, _+_, _*_, _-_, _<_, _≤_, Bool, true, false, and-false, _≡_, _∙_, List, getD, mul-le-mul}
-use Rattle.analysis_requirements.proofs.Ground.{arith, lt-ltb, le-ltb, mostProcessors, mostSections, TaskRow, Plan, planOf, Valid, valid-plan}
-use Rattle.analysis_requirements.proofs.Ground.{processorOf, uses, global, ceilDiv, countOn, blocking1, blocking2, fellowHolds, waitingOn}
-use Rattle.analysis_requirements.proofs.Ground.{waitingSide, tolerance, slack, met, mostBudget, mostFellowHolds, mostTurns, mostWaiting}
-use Rattle.analysis_requirements.proofs.Ground.{Waiter, WaitingTold, comparison}
-use lib.IntN.{ℤ, pos, _-ℤ_}
+use Rattle.analysis_requirements.proofs.Ground.{ℕ, _+_, _*_, _-_, _<_, _≤_, Bool, true, false, and-false, _≡_, _∙_, List, getD}
+use Rattle.analysis_requirements.proofs.Ground.{mul-le-mul, arith, lt-ltb, le-ltb, mostProcessors, mostSections, TaskRow, Plan}
+use Rattle.analysis_requirements.proofs.Ground.{planOf, Valid, valid-plan, processorOf, uses, global, ceilDiv, countOn, blocking1}
+use Rattle.analysis_requirements.proofs.Ground.{blocking2, fellowHolds, waitingOn, waitingSide, tolerance, slack, met, mostBudget}
+use Rattle.analysis_requirements.proofs.Ground.{mostFellowHolds, mostTurns, mostWaiting, Waiter, WaitingTold, comparison, ℤ, pos}
+use Rattle.analysis_requirements.proofs.Ground.{_-ℤ_, ceil-bound}
 use lib.Signed.{leZ}
 use Rattle.analysis_equations.specs.HoldTimes.{budget, waitTime}
-use Rattle.analysis_equations.proofs.Laws.{ceil-bound, used-at, budget-low, budget-high, count-on-high, fellow-high, uses-count, waiting-high}
+use Rattle.analysis_equations.proofs.Laws.{used-at, budget-low, budget-high, count-on-high, fellow-high, uses-count, waiting-high}
 use Rattle.analysis_figures.specs.Figures.{budgetCell}
 use Rattle.analysis_requirements.specs.declared.Requirement.{Requirement}
 use Rattle.analysis_requirements.specs.Figures.{requirementOf}

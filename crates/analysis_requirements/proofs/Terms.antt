@@ -1,12 +1,12 @@
 -- The table of terms as it is filled: a turn of each of the three loops, and what stands there in the end.
-use Rattle.analysis_requirements.proofs.Ground.{ℕ, _+_, _%_, _<_, _≤_, max, Bool, true, false, cond, not, _≡_, refl, sym, ap, _∙_, List, eqb}
-use Rattle.analysis_requirements.proofs.Ground.{length, getD, set, replicate, length-set, length-replicate, getD-replicate, getD-set-same}
-use Rattle.analysis_requirements.proofs.Ground.{getD-set-other, arith, eq-eqb, ne-eqb, not-true, not-false, maxBelow, countBelow, max-step}
-use Rattle.analysis_requirements.proofs.Ground.{count-step, count-bound, mostTasks, mostResources, mostSections, SectionRow, Plan, Valid}
-use Rattle.analysis_requirements.proofs.Ground.{priorityOf, globalBy, global, globalCount, longestGlobal, longestCell, precedenceCell}
-use Rattle.analysis_requirements.proofs.Ground.{countCell, ceilingCell, sharedCell, termCount, precedenceOf, Terms, TermsBelow}
+use Rattle.analysis_requirements.proofs.Ground.{ℕ, _+_, _%_, _<_, _≤_, max, Bool, true, false, cond, not, _≡_, refl, sym, ap, _∙_}
+use Rattle.analysis_requirements.proofs.Ground.{List, eqb, length, getD, set, replicate, length-set, length-replicate}
+use Rattle.analysis_requirements.proofs.Ground.{getD-replicate, getD-set-same, getD-set-other, arith, eq-eqb, ne-eqb, not-true}
+use Rattle.analysis_requirements.proofs.Ground.{not-false, maxBelow, countBelow, max-step, count-step, count-bound, mostTasks}
+use Rattle.analysis_requirements.proofs.Ground.{mostResources, mostSections, SectionRow, Plan, Valid, priorityOf, globalBy, global}
+use Rattle.analysis_requirements.proofs.Ground.{globalCount, longestGlobal, longestCell, precedenceCell, countCell, ceilingCell}
+use Rattle.analysis_requirements.proofs.Ground.{sharedCell, termCount, precedenceOf, Terms, TermsBelow, cond-bound}
 use Rattle.folds.proofs.Searches.{on-eq}
-use Rattle.folds.proofs.Ranges.{cond-bound}
 use Rattle.analysis_equations.proofs.Laws.{ceiling-section}
 use Rattle.analysis_requirements.proofs.Precedences.{precedence-priority}
 use Rattle.analysis_requirements.proofs.Rows.{SectionRead, names}

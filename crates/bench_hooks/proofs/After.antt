@@ -1,10 +1,9 @@
 -- What a call is answered on the state that a list of calls returned is what the rules say after that list, and the state is the one
 -- that the lines of the rules tell.
-use Rattle.folds.proofs.Ground.{ℕ, _/_, _%_, _<_, Bool, cond, _≡_, refl, sym, ap, List, [], _∷_, length, getD, mod-lt, arith}
-use Rattle.folds.proofs.Arrays.{by-eq}
+use Rattle.bench_hooks.proofs.Ground.{ℕ, Bool, cond, _≡_, refl, sym, ap, List, arith, by-eq, planOf, refusal, answerNumber}
+use Rattle.folds.proofs.Ground.{_/_, _%_, _<_, [], _∷_, length, getD, mod-lt}
 use Rattle.sizes.specs.Sizes.{mostProcessors, mostTasks, mostResources}
-use Rattle.plan_reading.specs.Plan.{planOf}
-use Rattle.plan.specs.Acceptance.{refusal, Accepted}
+use Rattle.plan.specs.Acceptance.{Accepted}
 use Rattle.plan.proofs.Laws.{accepted-valid}
 use Rattle.machine_rules.specs.declared.Call.{Call}
 use Rattle.machine_rules.specs.declared.Answer.the-variants.{Refused}
@@ -18,7 +17,7 @@ use Rattle.machine.specs.Replies.{reply}
 use Rattle.machine.specs.Promise.{FreshRan}
 use Rattle.machine.proofs.Answered.{plan-refused, refused-reply}
 use Rattle.machine.proofs.Kept.{fresh-is, returned-answers}
-use Rattle.bench_hooks.specs.Calling.{answerNumber, answerAfter, callNumber, rowNumber, viewAfter, stateAfter}
+use Rattle.bench_hooks.specs.Calling.{answerAfter, callNumber, rowNumber, viewAfter, stateAfter}
 
 -- states that agree in all rows have the same numbers
 same-number : (s t : State) → SameRows s t → (x : ℕ) → rowNumber s x ≡ rowNumber t x

@@ -1,8 +1,5 @@
 -- The number of an answer, case by case.
-use Rattle.folds.proofs.Ground.{ℕ, _*_, Bool, cond, _≡_, refl, sym, ap, _∙_, List}
-use Rattle.folds.proofs.Arrays.{by-eq}
-use Rattle.plan.specs.Acceptance.{refusal}
-use Rattle.plan_reading.specs.Plan.{planOf}
+use Rattle.bench_hooks.proofs.Ground.{ℕ, _*_, Bool, cond, _≡_, refl, sym, ap, _∙_, List, by-eq, refusal, planOf}
 use Rattle.analysis_equations.specs.Requirement.{admitted}
 use Rattle.analysis.specs.declared.AdmissionAnswer.{AdmissionAnswer}
 use Rattle.analysis.specs.declared.AdmissionAnswer.the-variants.{Decided, Refused}

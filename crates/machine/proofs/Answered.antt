@@ -1,24 +1,16 @@
 -- What a call is answered, refused or not: its number, and the cuts of a tick.
-use Rattle.folds.proofs.Ground.{ℕ, Bool, true, cond, _≡_, refl, sym, ap, _∙_, List, [], _∷_, ne-eqb}
+use Rattle.machine.proofs.Ground.{ℕ, Bool, true, cond, _≡_, refl, sym, ap, _∙_, List, [], _∷_, ne-eqb, code-zero, first-zero}
+use Rattle.machine.proofs.Ground.{then-zero, by-eq, refusal, Plan, planOf, taskNumber, Call, Request, Release, Tick, Answer, View}
+use Rattle.machine.proofs.Ground.{callCode, requestAnswer, answerOutcome, State, shows, sound, stateRefusal, callRefusal, reply}
+use Rattle.machine.proofs.Ground.{Replied, cutsIn}
 use Rattle.folds.specs.Below.{countBelow}
-use Rattle.folds.proofs.Tests.{code-zero, first-zero, then-zero}
 use Rattle.folds.proofs.WordLaws.{word-ones}
-use Rattle.folds.proofs.Arrays.{by-eq}
-use Rattle.plan.specs.Acceptance.{refusal}
-use Rattle.plan_reading.specs.Plan.{Plan, planOf}
-use Rattle.analysis_equations.specs.Questions.{taskNumber}
 use Rattle.queue_rules.specs.Rules as Rules
 use Rattle.queue_rules.specs.Rules.{line, turn, cut, released}
-use Rattle.machine_rules.specs.declared.Call.{Call}
-use Rattle.machine_rules.specs.declared.Call.the-variants.{Request, Release, Tick}
-use Rattle.machine_rules.specs.declared.Answer.{Answer}
 use Rattle.machine_rules.specs.declared.Answer.the-variants.{Refused}
-use Rattle.machine_rules.specs.Machine.{View, terms, callCode, requestAnswer, releaseAnswer, acceptedAnswer, answerOutcome}
-use Rattle.machine_state.specs.declared.State.{State}
-use Rattle.machine_state.specs.Shows.{shows}
-use Rattle.machine_state.specs.Sound.{sound}
-use Rattle.machine.specs.Replies.{stateRefusal, callRefusal, reply, replyOutcome, cutCount}
-use Rattle.machine.specs.Inner.{refusedAt, Replied, cutsIn}
+use Rattle.machine_rules.specs.Machine.{terms, releaseAnswer, acceptedAnswer}
+use Rattle.machine.specs.Replies.{replyOutcome, cutCount}
+use Rattle.machine.specs.Inner.{refusedAt}
 
 -- an answer by the rules has number 0
 request-number : (p : Plan) (i q : ℕ) (l : Rules.Line) → answerOutcome (requestAnswer p i q l) .number ≡ 0

@@ -1,28 +1,23 @@
 -- What a request is refused for, what it tells where it is not, and what it then does.
-use Rattle.folds.proofs.Ground.{ℕ, _+_, _*_, _<_, _≤_, Bool, false, cond, not, _≡_, sym, _∙_, _≢_, _⊎_, inl, inr, List, eqb, length, mul-le-mul, arith, ne-eqb, eqb-true, not-false}
-use Rattle.folds.proofs.Tests.{is-not-true, first-zero, then-zero}
-use Rattle.sizes.specs.Sizes.{mostProcessors, mostTasks, mostResources, absent}
-use Rattle.refusals.specs.Numbers.{alreadyInLine}
-use Rattle.plan_reading.specs.Plan.{Plan, Valid}
+use Rattle.machine.proofs.Ground.{ℕ, _+_, _*_, _<_, _≤_, Bool, false, cond, _≡_, sym, _∙_, _≢_, List, eqb, length, arith, ne-eqb}
+use Rattle.machine.proofs.Ground.{not-false, first-zero, then-zero, mostProcessors, mostTasks, mostResources, alreadyInLine, Plan}
+use Rattle.machine.proofs.Ground.{Valid, taskNumber, useCode, use-clear, Answer, Request, View, requestCode, requestAnswer, State}
+use Rattle.machine.proofs.Ground.{lineAt, shows, Seats, Whole, sound-of, Acted}
+use Rattle.folds.proofs.Ground.{not, _⊎_, inl, inr, mul-le-mul, eqb-true}
+use Rattle.folds.proofs.Tests.{is-not-true}
+use Rattle.sizes.specs.Sizes.{absent}
 use Rattle.analysis_equations.specs.Sharing.{processorOf}
 use Rattle.analysis_equations.specs.HoldTimes.{holdAt, waitTime}
-use Rattle.analysis_equations.specs.Questions.{taskNumber, useCode}
-use Rattle.analysis_equations.proofs.Laws.{use-clear, hold-shared, hold-low}
-use Rattle.machine_rules.specs.declared.Answer.{Answer}
+use Rattle.analysis_equations.proofs.Laws.{hold-shared, hold-low}
 use Rattle.machine_rules.specs.declared.Answer.the-variants.{Granted, Waits}
-use Rattle.machine_rules.specs.declared.Call.the-variants.{Request}
-use Rattle.machine_rules.specs.Machine.{View, busy, requestCode, requestAnswer}
+use Rattle.machine_rules.specs.Machine.{busy}
 use Rattle.analysis_figures.specs.Figures.{Figures}
-use Rattle.machine_state.specs.declared.State.{State}
-use Rattle.machine_state.specs.Shows.{standing, lineAt, shows, noneInLine}
-use Rattle.machine_state.specs.Inner.{Seats}
+use Rattle.machine_state.specs.Shows.{standing, noneInLine}
 use Rattle.machine_state.proofs.Tables.{low-processor}
-use Rattle.machine_state.proofs.Good.{Whole}
-use Rattle.machine_state.proofs.Wholes.{hold-resource, sound-of}
+use Rattle.machine_state.proofs.Wholes.{hold-resource}
 use Rattle.machine_steps.specs.Inner.{Joining, joinedBy, taken, takenHolds}
 use Rattle.machine_steps.proofs.Joins.{aheadOf, entering, join-room, joined-whole, joined-shows}
 use Rattle.machine_steps.proofs.Asking.{taken-is, request-granted, request-waits, busy-is}
-use Rattle.machine.specs.Inner.{Acted}
 
 -- ── the number ──
 -- 11 to 14 are those of the use

@@ -1,17 +1,12 @@
 -- A tick: what it does to a sound state.
-use Rattle.folds.proofs.Ground.{ℕ, ap₂, _∙_, List}
-use Rattle.plan_reading.specs.Plan.{Plan, Valid}
+use Rattle.machine.proofs.Ground.{ℕ, _∙_, List, Plan, Valid, Tick, State, Whole, sound-of, Tabled, sized, Acted}
+use Rattle.folds.proofs.Ground.{ap₂}
 use Rattle.machine_rules.specs.declared.Answer.the-variants.{Ticked}
-use Rattle.machine_rules.specs.declared.Call.the-variants.{Tick}
-use Rattle.machine_state.specs.declared.State.{State}
-use Rattle.machine_state.proofs.Good.{Whole}
-use Rattle.machine_state.proofs.Wholes.{sound-of}
 use Rattle.machine_state.specs.Inner.{Sized}
 use Rattle.machine_steps.specs.declared.Ticked.{Ticked as Beat}
 use Rattle.machine_steps.specs.Inner.{AllRunning, tickedBy, TickedOf}
-use Rattle.machine_steps.proofs.Ready.{Tabled, sized, running}
+use Rattle.machine_steps.proofs.Ready.{running}
 use Rattle.machine_steps.proofs.Ticks.{ticked-whole, ticked-shows, cut-word, grant-word}
-use Rattle.machine.specs.Inner.{Acted}
 
 module _ {p : Plan} (v : Valid p) {s : State} (w : Whole p s) {figures keys seats : List ℕ} (t : Tabled p s figures keys seats) where
   pub beat-ready : (Sized figures keys seats) × (AllRunning seats (s .lines))

@@ -1,12 +1,10 @@
 -- The state after a list of calls in bytes.
-use Rattle.folds.proofs.Ground.{ℕ, _+_, _*_, _/_, _≡_, List, _++_, append-nil, length, add-one}
-use Rattle.machine_rules.specs.declared.Call.{Call}
+use Rattle.machine.proofs.Ground.{ℕ, _+_, _*_, _≡_, List, _++_, length, Call, callsBelow, State, Returned, called}
+use Rattle.folds.proofs.Ground.{_/_, append-nil, add-one}
 use Rattle.machine_calls.specs.declared.CallBytes.{CallBytes}
-use Rattle.machine_calls.specs.Calls.{bytesAt, callIn, callsBelow, callsOf}
+use Rattle.machine_calls.specs.Calls.{bytesAt, callIn, callsOf}
 use Rattle.machine_calls.proofs.Calls.{AtMostOne, none, one, at-most-one}
-use Rattle.machine_state.specs.declared.State.{State}
-use Rattle.machine.specs.Promise.{Returned, called}
-use Rattle.machine.specs.Inner.{AfterBytes}
+use Rattle.machine.specs.Replies.{AfterBytes}
 
 -- a turn of the loop over a list of calls
 one-returned : (f : List ℕ) (start : State) (before : List Call) (s t : State) (cs : List Call) → AtMostOne cs

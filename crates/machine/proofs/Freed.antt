@@ -1,29 +1,21 @@
 -- A release: the number by which it is refused, and what it does where it is not.
-use Rattle.folds.proofs.Ground.{ℕ, _+_, _*_, _-_, _<_, _≤_, true, cond, true≢false, _≡_, refl, sym, _∙_, _≢_, List, eqb, ltb, getD, arith, ltb-true, ne-eqb, lt-ltb, le-ltb}
-use mir.Val.{boolByte}
-use Rattle.folds.proofs.Tests.{code-zero, code-next}
-use Rattle.sizes.specs.Sizes.{mostProcessors, mostTasks, mostResources}
-use Rattle.refusals.specs.Numbers.{unknownTag, unknownResource, notHeld}
-use Rattle.plan_rules.specs.declared.TaskRow.{TaskRow}
-use Rattle.plan_reading.specs.Plan.{Plan, Valid}
-use Rattle.analysis_equations.specs.Questions.{taskNumber}
+use Rattle.machine.proofs.Ground.{ℕ, _+_, _*_, _-_, _<_, _≤_, true, cond, _≡_, refl, sym, _∙_, _≢_, List, eqb, getD, arith, ne-eqb}
+use Rattle.machine.proofs.Ground.{boolByte, code-zero, mostProcessors, mostTasks, mostResources, notHeld, TaskRow, Plan, Valid}
+use Rattle.machine.proofs.Ground.{taskNumber, Answer, Release, View, releaseCode, State, lineAt, slot, shows, Seats, Whole, sound-of}
+use Rattle.machine.proofs.Ground.{Tabled, sized, Acted, NewHead, grantedAnswer}
+use Rattle.folds.proofs.Ground.{true≢false, ltb, ltb-true, lt-ltb, le-ltb}
+use Rattle.folds.proofs.Tests.{code-next}
+use Rattle.refusals.specs.Numbers.{unknownTag, unknownResource}
 use Rattle.queue_rules.specs.Rules.{holds}
-use Rattle.machine_rules.specs.declared.Answer.{Answer}
 use Rattle.machine_rules.specs.declared.Answer.the-variants.{Next}
-use Rattle.machine_rules.specs.declared.Call.the-variants.{Release}
-use Rattle.machine_rules.specs.Machine.{View, releaseCode}
 use Rattle.folds.proofs.Searches.{on-eq}
 use Rattle.machine_state.specs.declared.LineRow.{LineRow}
-use Rattle.machine_state.specs.declared.State.{State}
-use Rattle.machine_state.specs.Shows.{lineAt, slot, shows}
-use Rattle.machine_state.specs.Inner.{seat, seatCount, Seats}
-use Rattle.machine_state.proofs.Good.{Whole}
-use Rattle.machine_state.proofs.Wholes.{sound-of}
+use Rattle.machine_state.specs.Inner.{seat, seatCount}
 use Rattle.machine_steps.specs.Inner.{Leaving, leftBy}
 use Rattle.machine_steps.proofs.Passing.{flag, seat-read}
-use Rattle.machine_steps.proofs.Ready.{Tabled, sized, ready}
+use Rattle.machine_steps.proofs.Ready.{ready}
 use Rattle.machine_steps.proofs.Leaving.{head-low, holder-none, holder-seat, left-whole, left-shows, next-seat, next-told}
-use Rattle.machine.specs.Inner.{Acted, headSeat, NewHead, grantedAnswer}
+use Rattle.machine.specs.Inner.{headSeat}
 
 -- ── the number, test by test ──
 module _ (p : Plan) (m : View) (tag q : ℕ) where

@@ -1,26 +1,21 @@
 -- The states that the operations return show the lines of the rules, whatever the calls; demand 3, and the longest wait.
-use Rattle.folds.proofs.Ground.{ℕ, _<_, Bool, true, _≡_, refl, sym, ap, _∙_, List, [], _∷_, _++_, length, getD, ne-eqb, eq-eqb}
-use Rattle.folds.proofs.Arrays.{by-eq}
-use Rattle.plan_reading.specs.Plan.{Plan, planOf, Valid}
+use Rattle.machine.proofs.Ground.{ℕ, _<_, Bool, true, _≡_, refl, sym, ap, _∙_, List, [], _∷_, _++_, length, getD, ne-eqb, eq-eqb}
+use Rattle.machine.proofs.Ground.{by-eq, Plan, planOf, Valid, refusal, accepted-checked, accepted-valid, Call, Request, View}
+use Rattle.machine.proofs.Ground.{callCode, step, answer, State, shows, sound, fresh-sound, fresh-shows, stateRefusal, callRefusal}
+use Rattle.machine.proofs.Ground.{reply, Returned, started, called}
 use Rattle.plan_reading.proofs.Laws.{tags-differ}
-use Rattle.plan.specs.Acceptance.{refusal, Accepted}
-use Rattle.plan.proofs.Laws.{accepted-checked, accepted-valid}
-use Rattle.machine_rules.specs.declared.Call.{Call}
-use Rattle.machine_rules.specs.declared.Call.the-variants.{Request}
-use Rattle.machine_rules.specs.Machine.{View, fresh, callCode, step, answer, after, run}
+use Rattle.plan.specs.Acceptance.{Accepted}
+use Rattle.machine_rules.specs.Machine.{fresh, after, run}
 use Rattle.machine_rules.proofs.OnceLines.{Orderly, orderly-fresh}
 use Rattle.machine_rules.proofs.Since.{after-last, each-since}
 use Rattle.machine_rules.proofs.Promise.{all-served}
 use Rattle.machine_rules.proofs.Longest.{waits-asked, never-more, never-longer}
 use Rattle.machine_rules.proofs.Reached.{each-reached}
-use Rattle.machine_state.specs.declared.State.{State}
-use Rattle.machine_state.specs.Shows.{freshState, shows}
-use Rattle.machine_state.specs.Sound.{sound}
-use Rattle.machine_state.proofs.FreshLaws.{fresh-sound, fresh-shows}
+use Rattle.machine_state.specs.Shows.{freshState}
 use Rattle.machine_state.proofs.Shown.{shown-orderly}
 use Rattle.machine_state.proofs.One.{Shaped, one-state}
-use Rattle.machine.specs.Replies.{stateRefusal, callRefusal, reply, Next}
-use Rattle.machine.specs.Promise.{Returned, started, called, Promise, Demand3, Start, FromSound, Ran, FreshRan, LongestWait}
+use Rattle.machine.specs.Replies.{Next}
+use Rattle.machine.specs.Promise.{Promise, Demand3, Start, FromSound, Ran, FreshRan, LongestWait}
 use Rattle.machine.proofs.Answered.{state-refusal, state-accepted, plan-refused}
 use Rattle.machine.proofs.Replied.{sound-answer}
 

@@ -1,3 +1,4 @@
+pub mod Ground
 pub mod Lengths
 pub mod Answered
 pub mod Replied

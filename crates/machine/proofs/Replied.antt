@@ -1,16 +1,8 @@
 -- A call on a plan that is accepted: its refusal, and the reply where there is none.
-use Rattle.folds.proofs.Ground.{ℕ, true, false, _≡_, _∙_, List, eq-eqb}
+use Rattle.machine.proofs.Ground.{ℕ, true, false, _≡_, _∙_, List, eq-eqb, refusal, planOf, Call, callCode, step, answer, State}
+use Rattle.machine.proofs.Ground.{shows, sound, callRefusal, reply, Acted, Replied}
 use Rattle.refusals.specs.Numbers.{unsound}
-use Rattle.plan.specs.Acceptance.{refusal}
-use Rattle.plan_reading.specs.Plan.{planOf}
-use Rattle.machine_rules.specs.declared.Call.{Call}
-use Rattle.machine_rules.specs.Machine.{callCode, step, answer}
-use Rattle.machine_state.specs.declared.State.{State}
-use Rattle.machine_state.specs.Shows.{shows}
-use Rattle.machine_state.specs.Sound.{sound}
 use Rattle.machine.specs.declared.Reply.{Reply}
-use Rattle.machine.specs.Replies.{callRefusal, reply}
-use Rattle.machine.specs.Inner.{Acted, Replied}
 
 module _ (f : List ℕ) (none : refusal f ≡ 0) (s : State) (c : Call) where
   pub unsound-code : sound (planOf f) s ≡ false → callRefusal f s c ≡ unsound

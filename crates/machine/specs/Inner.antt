@@ -114,9 +114,4 @@ cutsIn (Waits ahead most) = 0
 cutsIn (Next tag) = 0
 cutsIn Free = 0
 cutsIn (Ticked cuts grants) = ones cuts
-cutsIn (Refused k) = 0
-
--- the state after bytes that are one call or none: as it was where they are none
-abbrev pub AfterBytes : List ℕ → State → List Call → State → Type 0
-AfterBytes f s [] t = t ≡ s
-AfterBytes f s (c ∷ cs) t = Replies.Next f s c t
+cutsIn (Refused code) = 0

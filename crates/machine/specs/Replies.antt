@@ -2,7 +2,7 @@
 -- refuses, in order".
 use Prim.Native.Nat.{ℕ}
 use mathlib.Core.Bool.{true, cond}
-use mathlib.Core.List.{List}
+use mathlib.Core.List.{List, [], _∷_}
 use mathlib.Core.Logic.{_≢_}
 use mathlib.Core.Path.{_≡_}
 use lib.Dec.{eqb}
@@ -41,6 +41,11 @@ pub record Next (f : List ℕ) (s : State) (c : Call) (next : State) : Type 0 wh
   pub unchanged : callRefusal f s c ≢ 0 → next ≡ s
   pub sound : callRefusal f s c ≡ 0 → sound (planOf f) next ≡ true
   pub shows : callRefusal f s c ≡ 0 → shows (planOf f) next ≡ step (planOf f) (shows (planOf f) s) c
+
+-- the state after bytes that are one call or none: as it was where they are none
+abbrev pub AfterBytes : List ℕ → State → List Call → State → Type 0
+AfterBytes f s [] t = t ≡ s
+AfterBytes f s (c ∷ cs) t = Next f s c t
 
 -- what the answer tells: the refusal, or 0 and the values of the rules' answer
 unfoldable pub replyOutcome : List ℕ → State → Call → Outcome

@@ -14,8 +14,8 @@ ghost use Rattle.machine_rules.specs.Machine.{answerOutcome, fresh};
 ghost use Rattle.machine_calls.specs.Calls.{callWidth, callIn, callsOf};
 ghost use Rattle.machine_state.specs.Shows.{freshState, shows};
 ghost use Rattle.machine_state.specs.Sound.{sound};
-ghost use Rattle.machine.specs.Replies.{reply, replyOutcome, Next, cutCount};
-ghost use Rattle.machine.specs.Inner.{cutsIn, AfterBytes};
+ghost use Rattle.machine.specs.Replies.{reply, replyOutcome, Next, AfterBytes, cutCount};
+ghost use Rattle.machine.specs.Inner.{cutsIn};
 ghost use Rattle.machine.specs.Promise.{Ran, FreshRan};
 
 mod acting;

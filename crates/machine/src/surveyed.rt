@@ -28,7 +28,7 @@ pub fn look(file: &[u8], figures: &mut [u16]) -> u8
 
 // What comes before a call's own numbers, with what a look at the file gave: the first check that the plan fails, then 19 for a state
 // that is not sound; 0 for neither.
-pub fn state_code(file: &[u8], code: u8, figures: &[u16], state: State) -> u8
+pub fn state_refusal(file: &[u8], code: u8, figures: &[u16], state: State) -> u8
     requires { ⌜ Surveyed (now file) code (now figures) ⌝ }
     ensures { λ r. ⌜ r ≡ stateRefusal (now (file .entry)) state ⌝ }
 {

@@ -1,18 +1,13 @@
 -- From all orderly lines: whoever waits has what it waits for within its bound.
-use Rattle.folds.proofs.Ground.{ℕ, _+_, _-_, _≤_, _<_, Bool, true, false, not, and-false, or-true, true≢false, _≡_, refl, sym, ap, _∙_, _⊎_, inl, inr, List, [], _∷_, _++_, arith, not-true}
-use Rattle.folds.proofs.Tests.{and-parts}
-use Rattle.plan_reading.specs.Plan.{Plan, Valid}
-use Rattle.analysis_equations.specs.Sharing.{processorOf}
-use Rattle.analysis_equations.specs.Questions.{taskNumber}
-use Rattle.queue_rules.specs.Rules.{Line, inLine, holds, queued, isHead, waiting, without, aheadIn, limit}
-use Rattle.queue_rules.proofs.Cases.{by-bool}
+use Rattle.machine_rules.proofs.Ground.{ℕ, _+_, _-_, _≤_, _<_, Bool, true, false, not, and-false, or-true, true≢false, _≡_, refl}
+use Rattle.machine_rules.proofs.Ground.{sym, ap, _∙_, _⊎_, inl, inr, List, [], _∷_, _++_, arith, not-true, and-parts, Plan, Valid}
+use Rattle.machine_rules.proofs.Ground.{processorOf, taskNumber, Line, inLine, holds, queued, isHead, waiting, without, aheadIn}
+use Rattle.machine_rules.proofs.Ground.{limit, by-bool, Call, Request, Release, Tick, View, terms, step, after, isTick, ticks, Event}
+use Rattle.machine_rules.proofs.Ground.{grants, ends, occurs, Within, Bounded, TaskKept, ServedFrom}
 use Rattle.queue_rules.proofs.Kept.{Kept, Waiting, kept-entered, kept-released, kept-ticked, kept-some}
 use Rattle.queue_rules.proofs.Waiting.{Tasks, task-kept, wait-bound}
 use Rattle.queue_rules.proofs.Heads.{Some, core-kept, head-bound}
-use Rattle.machine_rules.specs.declared.Call.{Call}
-use Rattle.machine_rules.specs.declared.Call.the-variants.{Request, Release, Tick}
-use Rattle.machine_rules.specs.Machine.{View, terms, step, after}
-use Rattle.machine_rules.specs.Waiting.{isTick, ticks, Event, grants, ends, heads, occurs, Within, Bounded, TaskKept, CoreKept, ServedFrom}
+use Rattle.machine_rules.specs.Waiting.{heads, CoreKept}
 use Rattle.machine_rules.proofs.Moves.{Move, stays, enters, leaves, moved}
 use Rattle.machine_rules.proofs.Moves as Moves
 use Rattle.machine_rules.proofs.SoundLines.{known, fits}

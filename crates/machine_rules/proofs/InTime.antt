@@ -1,9 +1,6 @@
 -- What `Within` says of a list of calls: the event occurs in the calls up to the tick that fills the limit, that tick included.
-use Rattle.folds.proofs.Ground.{ℕ, _-_, _<_, true, cond, or-true, _≡_, List, [], _∷_, _++_, eqb, arith, ne-eqb}
-use Rattle.plan_reading.specs.Plan.{Plan}
-use Rattle.machine_rules.specs.declared.Call.{Call}
-use Rattle.machine_rules.specs.Machine.{View, step, after}
-use Rattle.machine_rules.specs.Waiting.{isTick, ticks, Event, occurs, Within}
+use Rattle.machine_rules.proofs.Ground.{ℕ, _-_, _<_, true, cond, or-true, _≡_, List, [], _∷_, _++_, eqb, arith, ne-eqb, Plan, Call}
+use Rattle.machine_rules.proofs.Ground.{View, step, after, isTick, ticks, Event, occurs, Within}
 
 -- the calls up to tick n, n from 1
 abbrev pub upTo : ℕ → List Call → List Call

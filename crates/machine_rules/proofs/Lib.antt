@@ -1,3 +1,4 @@
+pub mod Ground
 pub mod Moves
 pub mod SoundLines
 pub mod OnceLines

@@ -1,25 +1,20 @@
 -- The longest wait: its figures, and that no request is told more. Who stands ahead of a task is one of its fellows, and stands there
 -- once; so their hold times are at most those of all fellows.
-use Rattle.folds.proofs.Ground.{ℕ, _+_, _*_, _≤_, _<_, true, false, true≢false, _≡_, sym, ap, _∙_, List, [], _∷_, length, arith, eq-eqb, ne-eqb}
-use Rattle.folds.specs.Below.{countBelow, listBelow}
-use Rattle.folds.proofs.Tests.{first-zero}
+use Rattle.machine_rules.proofs.Ground.{ℕ, _+_, _≤_, _<_, true, false, true≢false, _≡_, sym, ap, _∙_, List, [], _∷_, length, arith}
+use Rattle.machine_rules.proofs.Ground.{eq-eqb, ne-eqb, listBelow, first-zero, Plan, Valid, processorOf, global, holdAt, fellow}
+use Rattle.machine_rules.proofs.Ground.{waitTime, taskNumber, useCode, Line, line, among, inLine, queueOf, aheadIn, limit, EachOnce}
+use Rattle.machine_rules.proofs.Ground.{Waits, Call, Request, View, terms, requestCode, requestAnswer, answer, after, Event, Bounded}
+use Rattle.machine_rules.proofs.Ground.{Asked, fellows, longestWait}
+use Rattle.folds.proofs.Ground.{_*_}
+use Rattle.folds.specs.Below.{countBelow}
 use Rattle.folds.proofs.Figures.{sum-same}
-use Rattle.plan_reading.specs.Plan.{Plan, Valid}
-use Rattle.analysis_equations.specs.Sharing.{processorOf, global}
-use Rattle.analysis_equations.specs.HoldTimes.{holdAt, fellow, waitTime}
 use Rattle.analysis_equations.specs.Blocking.{fellowHolds}
-use Rattle.analysis_equations.specs.Questions.{taskNumber, useCode}
 use Rattle.analysis_equations.proofs.Laws.{fellow-hold}
-use Rattle.queue_rules.specs.Rules.{Line, line, among, inLine, tasksOf, queueOf, sumOf, aheadIn, limit}
+use Rattle.queue_rules.specs.Rules.{tasksOf, sumOf}
 use Rattle.queue_rules.proofs.Lists.{list-length, list-sum}
 use Rattle.queue_rules.proofs.Sound.{sound-queue}
-use Rattle.queue_rules.proofs.Once.{Once, EachOnce, once-tasks, ahead-among, ahead-once, tasks-none, tasks-own, once-sum, once-length, limit-more}
-use Rattle.machine_rules.specs.declared.Answer.the-variants.{Waits}
-use Rattle.machine_rules.specs.declared.Call.{Call}
-use Rattle.machine_rules.specs.declared.Call.the-variants.{Request}
-use Rattle.machine_rules.specs.Machine.{View, terms, requestCode, requestAnswer, answer, after}
-use Rattle.machine_rules.specs.Waiting.{Event, Bounded, Asked}
-use Rattle.machine_rules.specs.Longest.{fellows, longestWait, NeverLonger}
+use Rattle.queue_rules.proofs.Once.{Once, once-tasks, ahead-among, ahead-once, tasks-none, tasks-own, once-sum, once-length, limit-more}
+use Rattle.machine_rules.specs.Longest.{NeverLonger}
 use Rattle.machine_rules.proofs.SoundLines.{known, SoundAt, accepted, known-sharing}
 use Rattle.machine_rules.proofs.OnceLines.{Orderly, orderly-after}
 use Rattle.machine_rules.proofs.Promise.{told, all-served}

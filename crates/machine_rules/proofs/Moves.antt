@@ -1,14 +1,9 @@
 -- What a call does to the line of a resource: nothing, or one of the moves. Proofs about calls go by these cases and no others, so that
 -- a call that is added has one case here, one line in `moved`, and a clause where each claim is made of the moves.
-use Rattle.folds.proofs.Ground.{ℕ, Bool, cond, _≡_, refl, sym}
-use Rattle.folds.proofs.Arrays.{by-eq}
-use Rattle.plan_reading.specs.Plan.{Plan}
-use Rattle.analysis_equations.specs.Questions.{taskNumber}
-use Rattle.queue_rules.specs.Rules.{Line, entered, released, ticked}
-use Rattle.machine_rules.specs.declared.Call.{Call}
-use Rattle.machine_rules.specs.declared.Call.the-variants.{Request, Release, Tick}
-use Rattle.machine_rules.specs.Machine.{View, terms, callCode, effect, step}
-use Rattle.machine_rules.specs.Waiting.{isTick}
+use Rattle.machine_rules.proofs.Ground.{ℕ, Bool, cond, _≡_, refl, sym, by-eq, Plan, taskNumber, Line, entered, Call, Request}
+use Rattle.machine_rules.proofs.Ground.{Release, Tick, View, terms, callCode, step, isTick}
+use Rattle.queue_rules.specs.Rules.{released, ticked}
+use Rattle.machine_rules.specs.Machine.{effect}
 
 pub data Move (p : Plan) (s : View) (q : ℕ) : Call → Line → Type 0 where
   stays : {c : Call} → isTick c ≡ 0 → Move p s q c (s .lines q)

@@ -1,13 +1,9 @@
 -- What is asked of the lines that a list of calls starts from: they are sound, and nobody stands in one twice. Every call keeps that.
-use Rattle.folds.proofs.Ground.{ℕ, List, [], _∷_}
-use Rattle.plan_reading.specs.Plan.{Plan, Valid}
-use Rattle.analysis_equations.specs.Questions.{taskNumber}
-use Rattle.queue_rules.specs.Rules.{Line, queueOf}
+use Rattle.machine_rules.proofs.Ground.{ℕ, List, [], _∷_, Plan, Valid, taskNumber, Line, queueOf, EachOnce, Call, View, fresh, terms}
+use Rattle.machine_rules.proofs.Ground.{step, after}
 use Rattle.queue_rules.proofs.Sound.{is-free}
 use Rattle.queue_rules.proofs.Moves.{sound-entered, sound-released, sound-ticked}
-use Rattle.queue_rules.proofs.Once.{EachOnce, empty, each-entered, each-released, each-ticked}
-use Rattle.machine_rules.specs.declared.Call.{Call}
-use Rattle.machine_rules.specs.Machine.{View, fresh, terms, step, after}
+use Rattle.queue_rules.proofs.Once.{empty, each-entered, each-released, each-ticked}
 use Rattle.machine_rules.proofs.Moves.{Move, stays, enters, leaves, ticks, moved}
 use Rattle.machine_rules.proofs.SoundLines.{known, SoundAt, accepted, fits}
 

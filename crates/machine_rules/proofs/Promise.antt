@@ -1,15 +1,12 @@
 -- The promise of Waiting.antt holds for every valid plan, every list of calls and every start.
-use Rattle.folds.proofs.Ground.{ℕ, Bool, true, false, cond, true≢false, _≡_, refl, ap, _∙_, List, [], _∷_, _++_, eq-eqb}
-use Rattle.folds.proofs.Arrays.{by-eq}
-use Rattle.plan_reading.specs.Plan.{Plan, Valid}
-use Rattle.analysis_equations.specs.Questions.{taskNumber}
-use Rattle.queue_rules.specs.Rules.{Line, line, inLine, waiting, entered, aheadIn, limit}
+use Rattle.machine_rules.proofs.Ground.{ℕ, Bool, true, false, cond, true≢false, _≡_, refl, ap, _∙_, List, [], _∷_, _++_, eq-eqb}
+use Rattle.machine_rules.proofs.Ground.{by-eq, Plan, Valid, taskNumber, Line, line, inLine, waiting, entered, aheadIn, limit, Waits}
+use Rattle.machine_rules.proofs.Ground.{Call, Request, View, terms, callCode, requestAnswer, step, answer, after, ServedFrom}
+use Rattle.machine_rules.proofs.Ground.{TaskKept, Asked}
 use Rattle.queue_rules.proofs.Waiting.{entered-stands, entered-waits, entered-ahead}
-use Rattle.machine_rules.specs.declared.Answer.the-variants.{Waits, Refused}
-use Rattle.machine_rules.specs.declared.Call.{Call}
-use Rattle.machine_rules.specs.declared.Call.the-variants.{Request}
-use Rattle.machine_rules.specs.Machine.{View, terms, callCode, requestAnswer, acceptedAnswer, step, answer, after}
-use Rattle.machine_rules.specs.Waiting.{ServedFrom, TaskKept, afterCall, Asked, Served}
+use Rattle.machine_rules.specs.declared.Answer.the-variants.{Refused}
+use Rattle.machine_rules.specs.Machine.{acceptedAnswer}
+use Rattle.machine_rules.specs.Waiting.{afterCall, Served}
 use Rattle.machine_rules.proofs.SoundLines.{accepted}
 use Rattle.machine_rules.proofs.OnceLines.{Orderly, orderly-after}
 use Rattle.machine_rules.proofs.Bounds.{served-from}

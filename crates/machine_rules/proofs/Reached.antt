@@ -1,25 +1,23 @@
 -- The longest wait is reached. A global resource has a user on another processor too: that one asks for it first and holds it, then
 -- the fellows of the task ask, one after the other, and wait. Each of them is known by its tag, as tags are unique, and is in line
 -- nowhere when it asks, so no call is refused. The task that asks then has every fellow ahead of it.
-use Rattle.folds.proofs.Ground.{ℕ, zero, suc, _<_, _≤_, Bool, true, false, cond, _&&_, not, _≡_, refl, sym, ap, _∙_, List, [], _∷_, _++_, append-nil, eqb, length, arith, lt-ltb, leb-true, eqb-true, eqb-false, eq-eqb, ne-eqb, not-true}
-use Rattle.folds.specs.Below.{listBelow}
-use Rattle.folds.proofs.Tests.{and-parts, is-not-true, any-none}
+use Rattle.machine_rules.proofs.Ground.{ℕ, _<_, _≤_, Bool, true, false, cond, _&&_, not, _≡_, refl, sym, ap, _∙_, List, [], _∷_}
+use Rattle.machine_rules.proofs.Ground.{_++_, eqb, length, arith, eq-eqb, ne-eqb, not-true, listBelow, and-parts, is-not-true, Plan}
+use Rattle.machine_rules.proofs.Ground.{Valid, processorOf, uses, global, fellow, taskNumber, useCode, Sharing, use-clear, Line}
+use Rattle.machine_rules.proofs.Ground.{among, inLine, entered, by-bool, Call, Request, Waits, View, fresh, terms, busy, requestCode}
+use Rattle.machine_rules.proofs.Ground.{requestAnswer, step, answer, fellows, longestWait}
+use Rattle.folds.proofs.Ground.{zero, suc, append-nil, lt-ltb, leb-true, eqb-true, eqb-false}
+use Rattle.folds.proofs.Tests.{any-none}
 use Rattle.folds.proofs.Ranges.{count-other}
 use Rattle.folds.proofs.Searches.{on-eq, find-is}
-use Rattle.plan_reading.specs.Plan.{Plan, Valid}
-use Rattle.analysis_equations.specs.Sharing.{processorOf, uses, usedOn, global}
-use Rattle.analysis_equations.specs.HoldTimes.{fellow}
-use Rattle.analysis_equations.specs.Questions.{taskNumber, sharingCode, useCode}
-use Rattle.analysis_equations.proofs.Laws.{used-out, Sharing, use-clear}
-use Rattle.queue_rules.specs.Rules.{Terms, Line, free, among, inLine, entered}
-use Rattle.queue_rules.proofs.Cases.{by-bool}
+use Rattle.analysis_equations.specs.Sharing.{usedOn}
+use Rattle.analysis_equations.specs.Questions.{sharingCode}
+use Rattle.analysis_equations.proofs.Laws.{used-out}
+use Rattle.queue_rules.specs.Rules.{Terms, free}
 use Rattle.queue_rules.proofs.Lists.{among-below}
 use Rattle.queue_rules.proofs.Held.{heldBy, held-without, held-tasks, held-entered}
-use Rattle.machine_rules.specs.declared.Call.{Call}
-use Rattle.machine_rules.specs.declared.Call.the-variants.{Request}
-use Rattle.machine_rules.specs.declared.Answer.the-variants.{Waits}
-use Rattle.machine_rules.specs.Machine.{View, fresh, terms, busy, requestCode, requestAnswer, step, answer, run}
-use Rattle.machine_rules.specs.Longest.{fellows, longestWait, Reached, EachReached}
+use Rattle.machine_rules.specs.Machine.{run}
+use Rattle.machine_rules.specs.Longest.{Reached, EachReached}
 use Rattle.machine_rules.proofs.SoundLines.{known-sharing}
 use Rattle.machine_rules.proofs.Since.{after-last}
 

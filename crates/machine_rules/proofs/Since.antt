@@ -1,15 +1,11 @@
 -- Everybody who waits after a list of calls has done so since the start, or since a call of the list.
-use Rattle.folds.proofs.Ground.{ℕ, Bool, true, false, _&&_, _||_, not, and-false, true≢false, _≡_, refl, sym, ap, _∙_, _⊎_, inl, inr, ⊎-elim, List, [], _∷_, _++_, eq-eqb, not-true}
-use Rattle.folds.proofs.Tests.{and-parts}
-use Rattle.plan_reading.specs.Plan.{Plan, Valid}
-use Rattle.analysis_equations.specs.Questions.{taskNumber}
-use Rattle.queue_rules.specs.Rules.{Line, line, inLine, holds, queued, isHead, waiting, without, entered}
+use Rattle.machine_rules.proofs.Ground.{ℕ, Bool, true, false, _&&_, not, and-false, true≢false, _≡_, refl, sym, ap, _∙_, _⊎_, inl}
+use Rattle.machine_rules.proofs.Ground.{inr, List, [], _∷_, _++_, eq-eqb, not-true, and-parts, Plan, Valid, taskNumber, Line, line}
+use Rattle.machine_rules.proofs.Ground.{inLine, holds, queued, isHead, waiting, without, entered, Waits, Call, Request, View, fresh}
+use Rattle.machine_rules.proofs.Ground.{terms, callCode, requestAnswer, step, answer, after, Event, grants, ends, occurs}
+use Rattle.folds.proofs.Ground.{_||_, ⊎-elim}
 use Rattle.queue_rules.proofs.Stays.{entered-waiting, released-waiting, ticked-waiting}
-use Rattle.machine_rules.specs.declared.Answer.the-variants.{Waits}
-use Rattle.machine_rules.specs.declared.Call.{Call}
-use Rattle.machine_rules.specs.declared.Call.the-variants.{Request}
-use Rattle.machine_rules.specs.Machine.{View, fresh, terms, callCode, requestAnswer, step, answer, after}
-use Rattle.machine_rules.specs.Waiting.{Event, grants, ends, occurs, StillWaits, StillWithout, TaskSince, asked-since, task-since-start, CoreSince, sent-since, core-since-start, EachSince}
+use Rattle.machine_rules.specs.Waiting.{StillWaits, StillWithout, TaskSince, asked-since, task-since-start, CoreSince, sent-since, core-since-start, EachSince}
 use Rattle.machine_rules.proofs.Moves.{Move, stays, enters, leaves, ticks, moved}
 use Rattle.machine_rules.proofs.SoundLines.{known, fits}
 use Rattle.machine_rules.proofs.OnceLines.{Orderly, orderly-fresh, orderly-step}

@@ -1,14 +1,10 @@
 -- What the bound on waiting asks of a plan's figures, and of the tasks that come to a line.
-use Rattle.folds.proofs.Ground.{ℕ, Bool, true, false, _&&_, _≡_, arith}
-use Rattle.folds.proofs.Tests.{and-parts, is-not-true, first-zero, then-zero, any-at}
-use Rattle.plan_reading.specs.Plan.{Plan, Valid}
-use Rattle.analysis_equations.specs.Sharing.{uses, global}
-use Rattle.analysis_equations.specs.HoldTimes.{holdAt, waitTime}
-use Rattle.analysis_equations.specs.Questions.{taskNumber, useCode}
-use Rattle.analysis_equations.proofs.Laws.{uses-out, Sharing, use-clear, hold-low, hold-within}
-use Rattle.queue_rules.specs.Rules.{Line, inLine}
+use Rattle.machine_rules.proofs.Ground.{ℕ, Bool, true, false, _&&_, _≡_, arith, and-parts, is-not-true, first-zero, Plan, Valid}
+use Rattle.machine_rules.proofs.Ground.{uses, global, holdAt, waitTime, taskNumber, useCode, Sharing, use-clear, Line, inLine, View}
+use Rattle.machine_rules.proofs.Ground.{terms, busy, requestCode}
+use Rattle.folds.proofs.Tests.{then-zero, any-at}
+use Rattle.analysis_equations.proofs.Laws.{uses-out, hold-low, hold-within}
 use Rattle.queue_rules.proofs.Sound.{Fits, Sound}
-use Rattle.machine_rules.specs.Machine.{View, terms, busy, requestCode}
 
 -- the tasks that may come to the line of q: its users, where it is global
 abbrev pub known : Plan → ℕ → ℕ → Bool

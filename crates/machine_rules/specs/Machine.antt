@@ -7,7 +7,9 @@ use lib.ListN.{length}
 use Rattle.folds.specs.Below.{anyBelow}
 use Rattle.folds.specs.Words.{wordBelow}
 use Rattle.plan_reading.specs.Plan.{Plan}
+use Rattle.refusals.specs.Numbers.{unknownTag, unknownResource, alreadyInLine, notHeld}
 use Rattle.refusals.specs.Outcomes.{Outcome}
+use Rattle.sizes.specs.Sizes.{mostResources}
 use Rattle.analysis_equations.specs.Sharing.{processorOf}
 use Rattle.analysis_equations.specs.HoldTimes.{holdAt, budget, waitTime}
 use Rattle.analysis_equations.specs.Questions.{taskNumber, useCode}
@@ -50,12 +52,14 @@ module _ (p : Plan) where
 
   -- "Request: 11, unknown tag; 12, resource ≥ R; 13, no section of the task on it; 14, local; 15, the task already holds or waits."
   unfoldable pub requestCode : View → ℕ → ℕ → ℕ
-  requestCode s tag q = cond (eqb (useCode p tag q) 0) (cond (busy s (taskNumber p tag)) 15 0) (useCode p tag q)
+  requestCode s tag q = cond (eqb (useCode p tag q) 0) (cond (busy s (taskNumber p tag)) alreadyInLine 0) (useCode p tag q)
 
   -- "Release: 11; 12; 16, the task does not hold it."
   unfoldable pub releaseCode : View → ℕ → ℕ → ℕ
   releaseCode s tag q =
-      cond (ltb (taskNumber p tag) (p .tasks)) (cond (ltb q (p .resources)) (cond (holds (taskNumber p tag) (s .lines q)) 0 16) 12) 11
+      cond (ltb (taskNumber p tag) (p .tasks))
+      (cond (ltb q (p .resources)) (cond (holds (taskNumber p tag) (s .lines q)) 0 notHeld) unknownResource)
+      unknownTag
 
   -- "A start, a tick and the question of admission refuse nothing further."
   abbrev pub callCode : View → Call → ℕ
@@ -94,7 +98,7 @@ module _ (p : Plan) where
   abbrev pub acceptedAnswer : View → Call → Answer
   acceptedAnswer s (Request tag q) = requestAnswer (taskNumber p tag) q (s .lines q)
   acceptedAnswer s (Release tag q) = releaseAnswer (released (terms q) (s .lines q))
-  acceptedAnswer s Tick = Ticked (wordBelow 16 (λ q. cut (s .lines q))) (wordBelow 16 (regranted s))
+  acceptedAnswer s Tick = Ticked (wordBelow mostResources (λ q. cut (s .lines q))) (wordBelow mostResources (regranted s))
 
   -- what a call is answered
   unfoldable pub answer : View → Call → Answer
@@ -116,4 +120,4 @@ answerOutcome (Waits ahead most) = record { number = 0; values = 1 ∷ ahead ∷
 answerOutcome (Next tag) = record { number = 0; values = 2 ∷ tag ∷ [] }
 answerOutcome Free = record { number = 0; values = 3 ∷ [] }
 answerOutcome (Ticked cuts grants) = record { number = 0; values = 4 ∷ cuts ∷ grants ∷ [] }
-answerOutcome (Refused k) = record { number = k; values = [] }
+answerOutcome (Refused code) = record { number = code; values = [] }

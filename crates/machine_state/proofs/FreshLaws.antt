@@ -1,16 +1,13 @@
 -- A fresh state is sound, shows nobody in line, and is what such lines tell.
-use Rattle.folds.proofs.Ground.{ℕ, _<_, true, false, _≡_, refl, ap, fun-ext, leb, length-replicate, getD-replicate, List·getD-eq-default, arith, eq-eqb, le-ltb, leb-true}
-use Rattle.folds.proofs.Tests.{all-from, any-none, is-not-true, find-none}
-use Rattle.sizes.specs.Sizes.{mostProcessors, mostTasks, mostResources, absent}
-use Rattle.plan_reading.specs.Plan.{Plan, Valid}
+use Rattle.machine_state.proofs.Ground.{ℕ, _<_, true, false, _≡_, refl, ap, leb, length-replicate, getD-replicate}
+use Rattle.machine_state.proofs.Ground.{List·getD-eq-default, arith, eq-eqb, le-ltb, leb-true, all-from, any-none, is-not-true}
+use Rattle.machine_state.proofs.Ground.{find-none, mostProcessors, mostTasks, mostResources, absent, Plan, Valid, listFrom, on-le}
+use Rattle.machine_state.proofs.Ground.{Standing, standing, noneInLine, noLine, lineAt, rank, shows, taskFits, serves, slotFits}
+use Rattle.machine_state.proofs.Ground.{coreFits, clockFits, lineFits, sound, resourceOf, standingOf, stateOf}
+use Rattle.folds.proofs.Ground.{fun-ext}
 use Rattle.machine_rules.specs.Machine.{Lines, fresh}
-use Rattle.queue_ranks.specs.Ranks.{listFrom}
 use Rattle.queue_ranks.proofs.Lists.{list-same}
-use Rattle.folds.proofs.Searches.{on-le}
-use Rattle.machine_state.specs.declared.Standing.{Standing}
-use Rattle.machine_state.specs.Shows.{standing, noneInLine, noLine, freeLine, lineAt, rank, shows, freshState}
-use Rattle.machine_state.specs.Sound.{taskFits, serves, slotFits, coreFits, clockFits, lineFits, sound}
-use Rattle.machine_state.specs.Rows.{resourceOf, standingOf, stateOf}
+use Rattle.machine_state.specs.Shows.{freeLine, freshState}
 use Rattle.machine_state.proofs.Wholes.{both, state-same, rank-of}
 
 row-fresh : (u : ℕ) → u < mostTasks → standing (freshState .tasks) u ≡ noneInLine

@@ -1,14 +1,7 @@
 -- A sound state over ranks: what the laws of ranks ask of each line, and what is left to say of each task's row.
-use Rattle.folds.proofs.Ground.{ℕ, _<_, _≤_, _≡_, _⊎_, List}
-use Rattle.sizes.specs.Sizes.{mostProcessors, mostTasks, mostResources, absent}
-use Rattle.plan_reading.specs.Plan.{Plan}
-use Rattle.analysis_equations.specs.HoldTimes.{holdAt}
-use Rattle.machine_rules.specs.Machine.{terms}
-use Rattle.queue_ranks.proofs.Ranked.{Ranked, Queued, Timed}
-use Rattle.machine_state.specs.declared.Standing.{Standing}
-use Rattle.machine_state.specs.declared.LineRow.{LineRow}
-use Rattle.machine_state.specs.declared.State.{State}
-use Rattle.machine_state.specs.Shows.{standing, noneInLine, lineAt, slot, rank}
+use Rattle.machine_state.proofs.Ground.{ℕ, _<_, _≤_, _≡_, _⊎_, List, mostProcessors, mostTasks, mostResources, absent, Plan, holdAt}
+use Rattle.machine_state.proofs.Ground.{terms, Ranked, Queued, Timed, Standing, LineRow, State, standing, noneInLine, lineAt, slot}
+use Rattle.machine_state.proofs.Ground.{rank}
 
 -- the line of q, with the tasks' rows
 pub record Good (p : Plan) (ts : List Standing) (q : ℕ) (l : LineRow) : Type 0 where

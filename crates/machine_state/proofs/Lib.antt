@@ -1,3 +1,4 @@
+pub mod Ground
 pub mod Tables
 pub mod Numbers
 pub mod Passing

@@ -1,12 +1,10 @@
 -- Laws of eight bytes as one number: it tells whether all of them are 0, and whether those from some place on are 255.
-use Rattle.folds.proofs.Ground.{ℕ, zero, suc, _+_, _-_, _*_, _/_, _^_, _<_, _≤_, Bool, true, _&&_, _||_, and-assoc, or-true, _≡_, refl, ap, _∙_, _↔_, List, eqb, ltb, getD, pow-succ', div-lt-iff-lt-mul, arith, eqb-true, eq-eqb, ne-eqb, ltb-true, lt-ltb}
+use Rattle.machine_state.proofs.Ground.{ℕ, zero, suc, _+_, _-_, _*_, _/_, _<_, _≤_, Bool, true, _&&_, _||_, and-assoc, or-true, _≡_}
+use Rattle.machine_state.proofs.Ground.{refl, ap, _∙_, List, eqb, ltb, getD, arith, eqb-true, eq-eqb, ne-eqb, ltb-true, lt-ltb}
+use Rattle.machine_state.proofs.Ground.{allBelow, number, same-test, all-at, all-from, or-out, by-eq, on-eq, on-le, tailTest}
+use Rattle.folds.proofs.Ground.{_^_, _↔_, pow-succ', div-lt-iff-lt-mul}
 use lib.Pow.{pow-pos, pow-add}
-use Rattle.folds.specs.Below.{allBelow}
-use Rattle.folds.specs.Bytes.{number}
-use Rattle.folds.proofs.Tests.{same-test, all-at, all-from, or-out}
-use Rattle.folds.proofs.Arrays.{by-eq}
-use Rattle.folds.proofs.Searches.{on-eq, on-le, same-eqb}
-use Rattle.machine_state.specs.Inner.{tailTest}
+use Rattle.folds.proofs.Searches.{same-eqb}
 
 module _ (s : List ℕ) where
   number-more : (w at : ℕ) → number (suc w) s at ≡ getD s at 0 + 256 * number w s (at + 1)

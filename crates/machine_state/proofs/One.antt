@@ -1,15 +1,9 @@
 -- A sound state is the one that its lines tell, so two that show the same are the same.
-use Rattle.folds.proofs.Ground.{ℕ, _<_, true, _≡_, sym, ap, ap₂, _∙_, List, length, ext-getD}
-use Rattle.sizes.specs.Sizes.{mostProcessors, mostTasks, mostResources}
-use Rattle.plan_reading.specs.Plan.{Plan, Valid}
+use Rattle.machine_state.proofs.Ground.{ℕ, _<_, true, _≡_, sym, ap, ap₂, _∙_, List, length, mostProcessors, mostTasks, mostResources}
+use Rattle.machine_state.proofs.Ground.{Plan, Valid, View, list-length, LineRow, State, noStanding, noLine, lineAt, shows, sound}
+use Rattle.machine_state.proofs.Ground.{slotOf, lineOf, standingOf, stateOf}
+use Rattle.folds.proofs.Ground.{ext-getD}
 use Rattle.queue_rules.specs.Rules as Rules
-use Rattle.machine_rules.specs.Machine.{View}
-use Rattle.queue_ranks.proofs.Lists.{list-length}
-use Rattle.machine_state.specs.declared.LineRow.{LineRow}
-use Rattle.machine_state.specs.declared.State.{State}
-use Rattle.machine_state.specs.Shows.{noStanding, noLine, lineAt, shows}
-use Rattle.machine_state.specs.Sound.{sound}
-use Rattle.machine_state.specs.Rows.{slotOf, lineOf, standingOf, stateOf}
 use Rattle.machine_state.proofs.Wholes.{state-same}
 use Rattle.machine_state.proofs.Told.{SameRow, SameRows, line-at, rows-told}
 

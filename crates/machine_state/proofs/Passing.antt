@@ -1,14 +1,14 @@
 -- The queue of a resource by what is left of its processors' first seats, what a test that has passed tells of its head, and the
 -- row of a free resource.
-use Rattle.folds.proofs.Ground.{ℕ, zero, suc, _<_, _≤_, Bool, true, false, cond, _&&_, _||_, not, and-true, and-false, and-assoc, or-true, or-false, _≡_, refl, sym, ap, _∙_, List, eqb, leb, ltb, length, getD, set, replicate, length-replicate, getD-set-same, getD-set-other, arith, ltb-true, leb-true, lt-ltb, le-ltb}
-use Rattle.sizes.specs.Sizes.{mostProcessors, mostTasks}
-use Rattle.folds.specs.Below.{allBelow, anyBelow}
-use Rattle.folds.specs.Bytes.{number, placedBelow}
-use Rattle.folds.proofs.Tests.{and-parts, all-at, all-same, all-fails}
-use Rattle.folds.proofs.Arrays.{by-eq, placed-length, placed-at, stampedBelow, stamped-length}
-use Rattle.machine_state.specs.declared.LineRow.{LineRow}
-use Rattle.machine_state.specs.Shows.{slot}
-use Rattle.machine_state.specs.Inner.{seat, LineTables, Headed, firstSeat, stands, tailTest, slotTest, coreTest, queueTest, clockTest, freeTest, lineTest}
+use Rattle.machine_state.proofs.Ground.{ℕ, zero, suc, _<_, _≤_, Bool, true, false, cond, _&&_, _||_, not, and-true, and-assoc}
+use Rattle.machine_state.proofs.Ground.{or-true, _≡_, refl, sym, ap, _∙_, List, eqb, leb, ltb, length, getD, set, replicate}
+use Rattle.machine_state.proofs.Ground.{length-replicate, getD-set-same, getD-set-other, arith, ltb-true, leb-true, lt-ltb, le-ltb}
+use Rattle.machine_state.proofs.Ground.{mostProcessors, mostTasks, allBelow, anyBelow, number, placedBelow, and-parts, all-at}
+use Rattle.machine_state.proofs.Ground.{all-same, by-eq, placed-length, placed-at, stampedBelow, stamped-length, LineRow, slot, seat}
+use Rattle.machine_state.proofs.Ground.{Headed, firstSeat, tailTest, slotTest, coreTest, queueTest, clockTest, freeTest, lineTest}
+use Rattle.folds.proofs.Ground.{and-false, or-false}
+use Rattle.folds.proofs.Tests.{all-fails}
+use Rattle.machine_state.specs.Inner.{LineTables, stands}
 use Rattle.machine_state.proofs.Numbers.{all-zero}
 
 -- what stands at x of a list in which the numbers f k with k below n are struck off

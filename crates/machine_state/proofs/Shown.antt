@@ -1,22 +1,17 @@
 -- A sound state shows sound lines, in which nobody stands twice.
-use Rattle.folds.proofs.Ground.{ℕ, zero, suc, _+_, _<_, _≤_, Bool, true, false, true≢false, _≡_, refl, sym, ap, _∙_, _∷_, eqb, length, List·getD-eq-default, arith, eqb-true, ne-eqb}
-use Rattle.sizes.specs.Sizes.{mostResources}
-use Rattle.folds.specs.Below.{maxBelow}
-use Rattle.folds.proofs.Tests.{or-out, is-not-true}
-use Rattle.plan_reading.specs.Plan.{Plan, Valid}
-use Rattle.analysis_equations.specs.HoldTimes.{holdAt}
-use Rattle.queue_rules.specs.Rules.{Terms, line, queueOf, among, hasTurn}
+use Rattle.machine_state.proofs.Ground.{ℕ, zero, suc, _+_, _<_, _≤_, Bool, true, false, true≢false, _≡_, refl, sym, ap, _∙_, eqb}
+use Rattle.machine_state.proofs.Ground.{length, List·getD-eq-default, arith, eqb-true, ne-eqb, mostResources, maxBelow, or-out}
+use Rattle.machine_state.proofs.Ground.{is-not-true, Plan, Valid, holdAt, queueOf, listFrom, taskRanked, turnOf, queueFrom, on-le}
+use Rattle.machine_state.proofs.Ground.{Ranked, Queued, Timed, task-rank, full, State, noLine, lineAt, slot, shows, sound}
+use Rattle.folds.proofs.Ground.{_∷_}
+use Rattle.queue_rules.specs.Rules.{Terms, line, among, hasTurn}
 use Rattle.queue_rules.proofs.Sound.{Owns, Proper, nobody, stands, Sound, is-free, is-held}
 use Rattle.queue_rules.proofs.Once.{Once, none, more, EachOnce, empty, next}
 use Rattle.machine_rules.proofs.SoundLines.{known, SoundAt}
 use Rattle.machine_rules.proofs.OnceLines.{Orderly}
-use Rattle.queue_ranks.specs.Ranks.{listFrom, taskRanked, othersOf, turnOf, queueFrom}
-use Rattle.folds.proofs.Searches.{on-le}
+use Rattle.queue_ranks.specs.Ranks.{othersOf}
 use Rattle.queue_ranks.proofs.Reading.{all-tasks}
-use Rattle.queue_ranks.proofs.Ranked.{Ranked, Queued, Timed, task-rank, owner, full}
-use Rattle.machine_state.specs.declared.State.{State}
-use Rattle.machine_state.specs.Shows.{noLine, lineAt, slot, shows}
-use Rattle.machine_state.specs.Sound.{sound}
+use Rattle.queue_ranks.proofs.Ranked.{owner}
 use Rattle.machine_state.proofs.Wholes.{hold-user, whole-of}
 
 -- one of a list is one of its numbers' figures

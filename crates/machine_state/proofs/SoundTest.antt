@@ -1,25 +1,19 @@
 -- The test by the tables is the test of soundness.
-use Rattle.folds.proofs.Ground.{ℕ, _+_, _-_, _/_, _%_, _<_, _≤_, Bool, true, false, cond, _&&_, _||_, not, and-true, and-assoc, or-true, true≢false, _≡_, refl, sym, ap, ap₂, _∙_, _⊎_, inl, inr, ⊎-elim, List, eqb, leb, ltb, getD, arith, eqb-true, eq-eqb, ne-eqb, lt-ltb, le-ltb, leb-true, le-leb, not-true}
-use Rattle.sizes.specs.Sizes.{mostProcessors, mostTasks, mostResources}
-use Rattle.folds.specs.Below.{allBelow, anyBelow, maxBelow}
-use Rattle.folds.proofs.Tests.{and-parts, is-not-true, same-test, all-at, all-from, all-same, all-both, any-at, any-none, any-out}
-use Rattle.folds.proofs.Figures.{max-at}
-use Rattle.folds.proofs.Arrays.{by-eq}
+use Rattle.machine_state.proofs.Ground.{ℕ, _+_, _-_, _/_, _%_, _<_, _≤_, Bool, true, false, cond, _&&_, _||_, not, and-true}
+use Rattle.machine_state.proofs.Ground.{and-assoc, or-true, true≢false, _≡_, refl, sym, ap, ap₂, _∙_, _⊎_, inl, inr, ⊎-elim, List}
+use Rattle.machine_state.proofs.Ground.{eqb, leb, ltb, getD, arith, eqb-true, eq-eqb, ne-eqb, lt-ltb, le-ltb, leb-true, le-leb}
+use Rattle.machine_state.proofs.Ground.{not-true, mostProcessors, mostTasks, mostResources, allBelow, anyBelow, maxBelow, and-parts}
+use Rattle.machine_state.proofs.Ground.{is-not-true, same-test, all-at, all-from, all-same, any-at, any-none, any-out, max-at, by-eq}
+use Rattle.machine_state.proofs.Ground.{on-eq, on-le, Plan, Valid, processorOf, uses, global, holdAt, holdCell, Figures, terms}
+use Rattle.machine_state.proofs.Ground.{taskRanked, Ranked, task-rank, sole, full, Standing, LineRow, State, standing, noneInLine}
+use Rattle.machine_state.proofs.Ground.{lineAt, slot, rank, idle, beside, backed, taskFits, serves, slotFits, coreFits, holderOf}
+use Rattle.machine_state.proofs.Ground.{clockFits, lineFits, sound, seat, resourceSeats, noSeat, keyOf, Keys, Seats, InQueue}
+use Rattle.machine_state.proofs.Ground.{taskTest, firstSeat, tailTest, slotTest, coreTest, queueTest, clockTest, lineTest, stateTest}
+use Rattle.folds.proofs.Tests.{all-both}
 use Rattle.folds.proofs.Ranges.{any-max}
-use Rattle.folds.proofs.Searches.{on-eq, on-le}
-use Rattle.plan_reading.specs.Plan.{Plan, Valid}
-use Rattle.analysis_equations.specs.Sharing.{processorOf, uses, global}
-use Rattle.analysis_equations.specs.HoldTimes.{holdAt, budget}
-use Rattle.analysis_figures.specs.Figures.{holdCell, Figures}
-use Rattle.machine_rules.specs.Machine.{terms}
-use Rattle.queue_ranks.specs.Ranks.{taskRanked}
-use Rattle.queue_ranks.proofs.Ranked.{Ranked, task-rank, seated, sole, ranks-few, full}
-use Rattle.machine_state.specs.declared.Standing.{Standing}
-use Rattle.machine_state.specs.declared.LineRow.{LineRow}
-use Rattle.machine_state.specs.declared.State.{State}
-use Rattle.machine_state.specs.Shows.{standing, noneInLine, lineAt, slot, rank}
-use Rattle.machine_state.specs.Sound.{idle, beside, backed, taskFits, serves, slotFits, coreFits, holderOf, clockFits, lineFits, sound}
-use Rattle.machine_state.specs.Inner.{seat, resourceSeats, noSeat, keyOf, Keys, seatedAt, Seats, InQueue, taskTest, firstSeat, tailTest, slotTest, coreTest, queueTest, clockTest, lineTest, stateTest}
+use Rattle.analysis_equations.specs.HoldTimes.{budget}
+use Rattle.queue_ranks.proofs.Ranked.{seated, ranks-few}
+use Rattle.machine_state.specs.Inner.{seatedAt}
 use Rattle.machine_state.proofs.Tables.{low-processor, key-own, key-on, rank-out}
 use Rattle.machine_state.proofs.Passing.{slot-high, head-passed}
 use Rattle.machine_state.proofs.Wholes.{both, row-none, rank-own, serves-max, server-low, alone-from, hold-test, hold-user, hold-task, hold-resource, row-of, servedAt, ranked}

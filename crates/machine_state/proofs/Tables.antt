@@ -1,19 +1,16 @@
 -- Laws of the tables: the seats of the tasks, and who sits where.
-use Rattle.folds.proofs.Ground.{ℕ, zero, suc, _+_, _<_, _≤_, max, Bool, true, false, cond, _&&_, _≡_, refl, sym, _∙_, _≢_, List, eqb, ltb, length, getD, set, set-getD, replicate, length-replicate, getD-replicate, getD-set-same, getD-set-other, max-zero, arith, eqb-true, eq-eqb, ltb-true, lt-ltb}
-use Rattle.sizes.specs.Sizes.{mostProcessors, mostTasks, mostResources}
-use Rattle.folds.specs.Below.{maxBelow}
-use Rattle.folds.specs.Bytes.{placedBelow}
-use Rattle.folds.proofs.Tests.{and-parts, is-not-false, same-test}
+use Rattle.machine_state.proofs.Ground.{ℕ, zero, suc, _+_, _<_, _≤_, Bool, true, false, cond, _&&_, _≡_, refl, sym, _∙_, _≢_, List}
+use Rattle.machine_state.proofs.Ground.{eqb, ltb, length, getD, set, replicate, length-replicate, getD-replicate, getD-set-same}
+use Rattle.machine_state.proofs.Ground.{getD-set-other, arith, eqb-true, eq-eqb, ltb-true, lt-ltb, mostProcessors, mostTasks}
+use Rattle.machine_state.proofs.Ground.{mostResources, maxBelow, placedBelow, and-parts, same-test, by-eq, placed-length, placed-at}
+use Rattle.machine_state.proofs.Ground.{placed-step, stampedBelow, stamped-length, on-eq, on-le, Plan, Valid, processorOf, Figures}
+use Rattle.machine_state.proofs.Ground.{Standing, standing, rank, seat, noSeat, seatCount, keyOf, Keys, Seats, InQueue}
+use Rattle.folds.proofs.Ground.{max, set-getD, max-zero}
+use Rattle.folds.proofs.Tests.{is-not-false}
 use Rattle.folds.proofs.Figures.{max-same}
 use Rattle.folds.proofs.Ranges.{max-where-bound}
-use Rattle.folds.proofs.Arrays.{by-eq, placed-length, placed-later, placed-at, placed-step, stampedBelow, stamped-length}
-use Rattle.folds.proofs.Searches.{on-eq, on-le}
-use Rattle.plan_reading.specs.Plan.{Plan, Valid}
-use Rattle.analysis_equations.specs.Sharing.{processorOf}
-use Rattle.analysis_figures.specs.Figures.{Figures}
-use Rattle.machine_state.specs.declared.Standing.{Standing}
-use Rattle.machine_state.specs.Shows.{standing, rank}
-use Rattle.machine_state.specs.Inner.{seat, noSeat, seatCount, keyOf, Keys, Seats, InQueue, SeatSized, Sized}
+use Rattle.folds.proofs.Arrays.{placed-later}
+use Rattle.machine_state.specs.Inner.{SeatSized, Sized}
 
 module _ (p : Plan) where
   -- the seats of the tasks below n

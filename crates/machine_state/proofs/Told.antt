@@ -1,25 +1,16 @@
 -- A sound state is told by what it shows: each row of a resource, and each row of a task.
-use Rattle.folds.proofs.Ground.{ℕ, zero, suc, _+_, _<_, _≤_, Bool, true, false, cond, not, _≡_, refl, sym, ap, _∙_, ⊎-elim, _≢_, List, eqb, leb, length, arith, eq-eqb, ne-eqb, lt-ltb, le-ltb, le-leb, lt-leb}
-use Rattle.sizes.specs.Sizes.{mostProcessors, mostTasks, mostResources}
-use Rattle.folds.specs.Below.{maxBelow}
-use Rattle.folds.proofs.Tests.{all-from, find-none}
-use Rattle.folds.proofs.Figures.{max-at}
-use Rattle.folds.proofs.Searches.{on-eq, on-le, find-is}
-use Rattle.plan_reading.specs.Plan.{Plan, Valid}
-use Rattle.analysis_equations.specs.Sharing.{processorOf}
-use Rattle.analysis_equations.specs.HoldTimes.{holdAt}
-use Rattle.queue_rules.specs.Rules.{queueOf, inLine, tasksOf, aheadOf}
-use Rattle.machine_rules.specs.Machine.{View}
-use Rattle.queue_ranks.specs.Ranks.{listFrom, taskRanked, turnOf, queueFrom}
-use Rattle.queue_ranks.proofs.Lists.{list-length, list-get}
-use Rattle.queue_ranks.proofs.Ranked.{task-rank, full, sole}
+use Rattle.machine_state.proofs.Ground.{ℕ, zero, suc, _+_, _<_, _≤_, Bool, true, false, cond, not, _≡_, refl, sym, ap, _∙_, ⊎-elim}
+use Rattle.machine_state.proofs.Ground.{_≢_, List, eqb, leb, length, arith, eq-eqb, ne-eqb, lt-ltb, le-ltb, le-leb, lt-leb}
+use Rattle.machine_state.proofs.Ground.{mostProcessors, mostTasks, mostResources, maxBelow, all-from, find-none, max-at, on-eq}
+use Rattle.machine_state.proofs.Ground.{on-le, find-is, Plan, Valid, processorOf, holdAt, queueOf, View, listFrom, taskRanked}
+use Rattle.machine_state.proofs.Ground.{turnOf, queueFrom, list-length, task-rank, full, sole, Standing, LineRow, State, noStanding}
+use Rattle.machine_state.proofs.Ground.{noLine, noneInLine, standing, lineAt, slot, rank, shows, sound, slotOf, lineOf, resourceOf}
+use Rattle.machine_state.proofs.Ground.{standingOf, stateOf}
+use Rattle.queue_rules.specs.Rules.{inLine, tasksOf, aheadOf}
+use Rattle.queue_ranks.proofs.Lists.{list-get}
 use Rattle.queue_ranks.proofs.Reading.{tasks-in, in-line, out-line}
-use Rattle.machine_state.specs.declared.Standing.{Standing}
-use Rattle.machine_state.specs.declared.LineRow.{LineRow}
-use Rattle.machine_state.specs.declared.State.{State}
-use Rattle.machine_state.specs.Shows.{noStanding, noLine, noneInLine, inLineAt, standing, lineAt, slot, rank, shows}
-use Rattle.machine_state.specs.Sound.{sound}
-use Rattle.machine_state.specs.Rows.{slotOf, lineOf, resourceOf, placeOf, standingOf, stateOf}
+use Rattle.machine_state.specs.Shows.{inLineAt}
+use Rattle.machine_state.specs.Rows.{placeOf}
 use Rattle.machine_state.proofs.Good.{Good, Whole}
 use Rattle.machine_state.proofs.Wholes.{row-same, rank-own, hold-task, hold-resource, whole-of}
 

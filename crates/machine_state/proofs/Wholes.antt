@@ -1,23 +1,18 @@
 -- A state passes the test of soundness exactly when it is whole: the test says what the laws of ranks ask, and nothing less.
-use Rattle.folds.proofs.Ground.{ℕ, _+_, _-_, _<_, _≤_, Bool, true, false, cond, _&&_, _||_, not, or-true, _≡_, refl, sym, ap, ap₂, _∙_, _⊎_, inl, inr, ⊎-elim, _≢_, List, eqb, leb, arith, eqb-true, eqb-false, eq-eqb, ne-eqb, lt-ltb, le-ltb, leb-true, le-leb, not-true}
-use Rattle.sizes.specs.Sizes.{mostProcessors, mostTasks, mostResources, absent}
-use Rattle.folds.specs.Below.{allBelow, anyBelow, maxBelow}
-use Rattle.folds.proofs.Tests.{and-parts, or-out, is-not-true, all-at, all-from, any-at, any-out}
-use Rattle.folds.proofs.Figures.{max-at}
-use Rattle.folds.proofs.Arrays.{by-eq}
-use Rattle.plan_reading.specs.Plan.{Plan, Valid}
-use Rattle.analysis_equations.specs.Sharing.{processorOf, uses, global}
-use Rattle.analysis_equations.specs.HoldTimes.{holdTime, holdAt}
+use Rattle.machine_state.proofs.Ground.{ℕ, _+_, _-_, _<_, _≤_, Bool, true, false, cond, _&&_, _||_, not, or-true, _≡_, refl, sym, ap}
+use Rattle.machine_state.proofs.Ground.{ap₂, _∙_, _⊎_, inl, inr, ⊎-elim, _≢_, List, eqb, leb, arith, eqb-true, eq-eqb, ne-eqb}
+use Rattle.machine_state.proofs.Ground.{lt-ltb, le-ltb, leb-true, le-leb, not-true, mostProcessors, mostTasks, mostResources, absent}
+use Rattle.machine_state.proofs.Ground.{allBelow, anyBelow, maxBelow, and-parts, or-out, is-not-true, all-at, all-from, any-at}
+use Rattle.machine_state.proofs.Ground.{any-out, max-at, by-eq, Plan, Valid, processorOf, uses, global, holdAt, terms, taskRanked}
+use Rattle.machine_state.proofs.Ground.{on-eq, on-le, find-is, Ranked, task-rank, sole, Standing, LineRow, State, standing}
+use Rattle.machine_state.proofs.Ground.{noneInLine, lineAt, slot, rank, idle, beside, backed, taskFits, serves, slotFits, coreFits}
+use Rattle.machine_state.proofs.Ground.{holderOf, clockFits, lineFits, sound}
+use Rattle.folds.proofs.Ground.{eqb-false}
+use Rattle.analysis_equations.specs.HoldTimes.{holdTime}
 use Rattle.analysis_equations.proofs.Laws.{uses-out, hold-low}
-use Rattle.machine_rules.specs.Machine.{terms}
-use Rattle.queue_ranks.specs.Ranks.{taskRanked}
-use Rattle.folds.proofs.Searches.{on-eq, on-le, find-is}
-use Rattle.queue_ranks.proofs.Ranked.{At, Ranked, task-rank, task-first, max-there, sole}
-use Rattle.machine_state.specs.declared.Standing.{Standing}
-use Rattle.machine_state.specs.declared.LineRow.{LineRow}
-use Rattle.machine_state.specs.declared.State.{State}
-use Rattle.machine_state.specs.Shows.{standing, noneInLine, isIdle, lineAt, slot, rank}
-use Rattle.machine_state.specs.Sound.{idle, beside, alone, backed, taskFits, serves, slotFits, coreFits, holderOf, clockFits, lineFits, sound}
+use Rattle.queue_ranks.proofs.Ranked.{At, task-first, max-there}
+use Rattle.machine_state.specs.Shows.{isIdle}
+use Rattle.machine_state.specs.Sound.{alone}
 use Rattle.machine_state.proofs.Tables.{Stands, rank-in, rank-out}
 use Rattle.machine_state.proofs.Good.{Good, Whole}
 

@@ -1,19 +1,19 @@
 -- What the tables tell of the tasks ahead, what a request is answered, and which tasks are in line.
-use Rattle.folds.proofs.Ground.{ℕ, zero, suc, _+_, _*_, _-_, _<_, _≤_, Bool, true, false, not, _≡_, refl, sym, ap, _∙_, _⊎_, inl, inr, List, [], _∷_, _++_, eqb, length, getD, arith, eqb-true, eqb-false, eq-eqb, ne-eqb, not-true}
-use Rattle.folds.specs.Below.{anyBelow, sumBelow, maxBelow}
-use Rattle.folds.proofs.Tests.{same-test, all-from, any-at, any-out, any-same, find-none}
+use Rattle.machine_steps.proofs.Ground.{ℕ, zero, suc, _+_, _*_, _-_, _<_, _≤_, Bool, true, false, not, _≡_, refl, sym, ap, _∙_, _⊎_}
+use Rattle.machine_steps.proofs.Ground.{inl, inr, List, eqb, length, getD, arith, eqb-true, eq-eqb, ne-eqb, anyBelow, sumBelow}
+use Rattle.machine_steps.proofs.Ground.{maxBelow, same-test, any-at, any-out, find-none, Plan, Valid, processorOf, holdAt, waitTime}
+use Rattle.machine_steps.proofs.Ground.{holdCell, Figures, terms, busy, requestAnswer, listFrom, taskRanked, queueFrom, Standing}
+use Rattle.machine_steps.proofs.Ground.{LineRow, State, standing, lineAt, slot, rank, shows, noneInLine, seat, Seats, Whole, on-le}
+use Rattle.machine_steps.proofs.Ground.{full, low-processor, hold-resource, taken, takenHolds}
+use Rattle.folds.proofs.Ground.{[], _∷_, _++_, eqb-false, not-true}
+use Rattle.folds.proofs.Tests.{all-from, any-same}
 use Rattle.folds.proofs.Figures.{sum-same}
-use Rattle.machine_steps.proofs.Names.{Plan, Valid, processorOf, holdAt, waitTime, holdCell, Figures, terms, busy, requestAnswer, listFrom, taskRanked, queueFrom, Standing, LineRow, State, standing, lineAt, slot, rank, shows, noneInLine, seat, Seats, Whole}
 use Rattle.queue_rules.specs.Rules.{line, inLine, tasksOf, sumOf, limit}
 use Rattle.machine_rules.specs.declared.Answer.the-variants.{Granted, Waits}
-use Rattle.folds.proofs.Searches.{on-le, find-is}
+use Rattle.folds.proofs.Searches.{find-is}
 use Rattle.machine_steps.proofs.Ready.{seats-few, seat-taken, seat-empty}
 use Rattle.queue_ranks.proofs.Lists.{list-snoc, list-length}
-use Rattle.queue_ranks.proofs.Ranked.{full}
-use Rattle.machine_state.proofs.Tables.{low-processor}
-use Rattle.machine_state.proofs.Wholes.{hold-resource}
 use Rattle.machine_state.proofs.Told.{ahead-list, stands-is}
-use Rattle.machine_steps.specs.Inner.{taken, takenHolds}
 
 -- a sum over a list goes from its head, one over a range from its end
 sum-last : (f : ℕ → ℕ) (us : List ℕ) (u : ℕ) → sumOf f (us ++ (u ∷ [])) ≡ sumOf f us + f u

@@ -1,17 +1,13 @@
 -- The rows once some lines lost their holders: in those the queue of the head has moved up, in all others nothing has.
-use Rattle.folds.proofs.Ground.{ℕ, _+_, _-_, _/_, _<_, _≤_, Bool, true, false, cond, _&&_, and-false, _≡_, refl, sym, _∙_, _≢_, _⊎_, inl, inr, ⊎-elim, ap, lt-ltb, eqb-true, List, eqb, ltb, getD, sub-zero, arith, eq-eqb, ne-eqb}
-use Rattle.folds.proofs.Figures.{max-at}
+use Rattle.machine_steps.proofs.Ground.{ℕ, _+_, _-_, _/_, _<_, _≤_, Bool, true, false, cond, _&&_, and-false, _≡_, refl, sym, _∙_}
+use Rattle.machine_steps.proofs.Ground.{_≢_, _⊎_, inl, inr, ⊎-elim, ap, lt-ltb, eqb-true, List, eqb, ltb, getD, arith, eq-eqb}
+use Rattle.machine_steps.proofs.Ground.{ne-eqb, max-at, anyBelow, by-eq, stampedBelow, stamped-at, each-at, Plan, Valid, processorOf}
+use Rattle.machine_steps.proofs.Ground.{holdAt, Standing, State, noStanding, noneInLine, movedUp, standing, lineAt, slot, rank}
+use Rattle.machine_steps.proofs.Ground.{queueAt, seat, noSeat, keyOf, Whole, on-le, Leaves, low-processor, noMarks, fallen, lowered}
+use Rattle.machine_steps.proofs.Ground.{ranks-few}
+use Rattle.folds.proofs.Ground.{sub-zero}
 use Rattle.folds.proofs.Ranges.{cond-bound}
-use Rattle.folds.specs.Below.{anyBelow}
-use Rattle.folds.proofs.Arrays.{by-eq, stampedBelow, stamped-at}
-use Rattle.folds.proofs.EachLaws.{each-at}
-use Rattle.machine_steps.proofs.Names.{Plan, Valid, processorOf, holdAt, Standing, State, noStanding, noneInLine, movedUp, standing, lineAt, slot, rank, queueAt, seat, noSeat, keyOf, Whole}
-use Rattle.folds.proofs.Searches.{on-le}
-use Rattle.queue_ranks.proofs.Leave.{Leaves}
-use Rattle.machine_state.proofs.Tables.{low-processor}
 use Rattle.machine_state.proofs.Wholes.{rank-own}
-use Rattle.machine_steps.specs.Inner.{noMarks, fallen, lowered}
-use Rattle.queue_ranks.proofs.Ranked.{ranks-few}
 use Rattle.machine_steps.proofs.Ready.{Tabled}
 use Rattle.machine_steps.proofs.Marks.{no-mark}
 

@@ -1,17 +1,18 @@
 -- Task i joins the line of q: the state stays sound, and shows what the rule makes of that line.
-use Rattle.folds.proofs.Ground.{ℕ, _+_, _<_, _≤_, Bool, cond, and-false, _≡_, refl, sym, ap, _∙_, _≢_, _⊎_, inr, List, eqb, length, getD, set, List·getD-eq-default, getD-set-same, getD-set-other, add-one, arith, eq-eqb, ne-eqb}
-use Rattle.folds.specs.Below.{maxBelow}
-use Rattle.machine_steps.proofs.Names.{Plan, Valid, processorOf, holdAt, budget, terms, change, Standing, LineRow, State, noStanding, noLine, standing, lineAt, slot, rank, shownLine, shows, noneInLine, inLineAt, Good, Whole}
-use Rattle.analysis_equations.proofs.Laws.{hold-within}
+use Rattle.machine_steps.proofs.Ground.{ℕ, _+_, _<_, _≤_, Bool, cond, and-false, _≡_, refl, sym, ap, _∙_, _≢_, _⊎_, inr, List, eqb}
+use Rattle.machine_steps.proofs.Ground.{length, getD, set, List·getD-eq-default, getD-set-same, getD-set-other, arith, eq-eqb}
+use Rattle.machine_steps.proofs.Ground.{ne-eqb, maxBelow, Plan, Valid, processorOf, holdAt, budget, terms, change, Standing, LineRow}
+use Rattle.machine_steps.proofs.Ground.{State, noStanding, noLine, standing, lineAt, slot, rank, shownLine, shows, noneInLine}
+use Rattle.machine_steps.proofs.Ground.{inLineAt, Good, Whole, hold-within, by-eq, on-eq, on-le, Ranked, Timed, hold-resource}
+use Rattle.machine_steps.proofs.Ground.{pushed, joinedLines}
+use Rattle.folds.proofs.Ground.{add-one}
 use Rattle.queue_rules.specs.Rules as Rules
 use Rattle.queue_rules.specs.Rules.{entered}
-use Rattle.folds.proofs.Arrays.{by-eq}
-use Rattle.folds.proofs.Searches.{on-eq, on-le}
-use Rattle.queue_ranks.proofs.Ranked.{At, Ranked, Timed, queued-few}
+use Rattle.queue_ranks.proofs.Ranked.{At, queued-few}
 use Rattle.queue_ranks.proofs.Join.{Joins, enter-free, enter-new, enter-there}
 use Rattle.queue_ranks.proofs.JoinKeeps.{join-ranked, join-queued, join-queued-new, join-timed, join-timed-new}
-use Rattle.machine_state.proofs.Wholes.{rank-none, hold-resource}
-use Rattle.machine_steps.specs.Inner.{pushed, joinedLines, joined}
+use Rattle.machine_state.proofs.Wholes.{rank-none}
+use Rattle.machine_steps.specs.Inner.{joined}
 use Rattle.machine_steps.proofs.Shown.{Shown, Changes, changed-whole, changed-shows}
 
 -- a task has no rank for another resource than its row names

@@ -1,15 +1,15 @@
 -- The holder of a line leaves: the state after it shows what the rule makes of what it showed, and is sound.
-use Rattle.folds.proofs.Ground.{ℕ, zero, suc, _+_, _-_, _<_, _≤_, Bool, false, cond, _&&_, and-true, and-false, _≡_, refl, sym, ap, _∙_, List, eqb, getD, set, getD-set-same, getD-set-other, arith, eq-eqb, ne-eqb, lt-ltb}
-use Rattle.folds.specs.Below.{anyBelow}
-use Rattle.folds.proofs.Arrays.{by-eq, cell-eqb, stampedBelow}
-use Rattle.machine_steps.proofs.Names.{Plan, Valid, change, terms, releaseAnswer, listFrom, taskRanked, queueFrom, LineRow, State, noLine, lineAt, slot, rank, shows, queueAt, seat, Seats, Whole}
+use Rattle.machine_steps.proofs.Ground.{ℕ, zero, suc, _+_, _-_, _<_, _≤_, Bool, false, cond, _&&_, and-false, _≡_, refl, sym, ap}
+use Rattle.machine_steps.proofs.Ground.{_∙_, List, eqb, getD, set, getD-set-same, getD-set-other, arith, eq-eqb, ne-eqb, lt-ltb}
+use Rattle.machine_steps.proofs.Ground.{anyBelow, by-eq, stampedBelow, Plan, Valid, change, terms, releaseAnswer, listFrom}
+use Rattle.machine_steps.proofs.Ground.{taskRanked, queueFrom, LineRow, State, noLine, lineAt, slot, rank, shows, queueAt, seat}
+use Rattle.machine_steps.proofs.Ground.{Seats, Whole, same-eqb, full, Leaves, noMarks, passed}
+use Rattle.folds.proofs.Ground.{and-true}
+use Rattle.folds.proofs.Arrays.{cell-eqb}
 use Rattle.queue_rules.specs.Rules as Rules
 use Rattle.machine_rules.specs.declared.Answer.the-variants.{Next, Free}
-use Rattle.folds.proofs.Searches.{same-eqb}
-use Rattle.queue_ranks.proofs.Ranked.{full}
 use Rattle.queue_ranks.proofs.Reading.{holds-none, holds-first}
-use Rattle.queue_ranks.proofs.Leave.{Leaves}
-use Rattle.machine_steps.specs.Inner.{noMarks, passed, leftBy}
+use Rattle.machine_steps.specs.Inner.{leftBy}
 use Rattle.machine_steps.proofs.Ready.{Tabled, low-slot, seat-taken}
 use Rattle.machine_steps.proofs.Falling.{Ended, ended-by, ranks-leave, ranks-stay, rows-after}
 use Rattle.machine_steps.proofs.Shown.{Changes, changed-whole, changed-shows}

@@ -1,4 +1,4 @@
-pub mod Names
+pub mod Ground
 pub mod Marks
 pub mod Passing
 pub mod Taken

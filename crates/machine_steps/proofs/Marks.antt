@@ -1,16 +1,16 @@
 -- Laws of what a tick tells: the words of resources, and the queues that lose their first.
-use Rattle.folds.proofs.Ground.{ℕ, zero, suc, _+_, _*_, _/_, _<_, _≤_, Bool, true, false, cond, _&&_, true≢false, _≡_, refl, sym, ap, ap₂, _∙_, List, eqb, ltb, length, getD, set, set-getD, arith, ltb-true}
+use Rattle.machine_steps.proofs.Ground.{ℕ, zero, suc, _+_, _*_, _/_, _<_, _≤_, Bool, true, false, cond, _&&_, _≡_, refl, sym, ap}
+use Rattle.machine_steps.proofs.Ground.{ap₂, _∙_, List, eqb, ltb, length, getD, set, arith, anyBelow, and-parts, any-at, eachBelow}
+use Rattle.machine_steps.proofs.Ground.{bitOf, wordBelow, stamped-at, each-at, word-done, word-same, Standing, LineRow, noStanding}
+use Rattle.machine_steps.proofs.Ground.{noLine, slot, seatCount, fallen, lowered, cutsHolder, lostQueue, endedBelow, endedOf}
+use Rattle.machine_steps.proofs.Ground.{stepped, steppedLines, cutWord, grantWord}
+use Rattle.folds.proofs.Ground.{true≢false, set-getD, ltb-true}
 use lib.Count.{ones}
-use Rattle.folds.specs.Below.{anyBelow}
-use Rattle.folds.proofs.Tests.{and-parts, is-not-true, any-at}
+use Rattle.folds.proofs.Tests.{is-not-true}
 use Rattle.folds.proofs.Ranges.{any-count}
-use Rattle.folds.specs.Each.{eachBelow}
-use Rattle.folds.specs.Words.{bitOf, wordBelow}
-use Rattle.folds.proofs.Arrays.{stamped-step, stamped-at}
-use Rattle.folds.proofs.EachLaws.{each-at, each-later}
-use Rattle.folds.proofs.WordLaws.{word-ones, word-done, word-same}
-use Rattle.machine_steps.proofs.Names.{Standing, LineRow, noStanding, noLine, slot, seatCount}
-use Rattle.machine_steps.specs.Inner.{fallen, lowered, cutsHolder, lostQueue, endedBelow, endedOf, stepped, steppedLines, cutWord, grantWord}
+use Rattle.folds.proofs.Arrays.{stamped-step}
+use Rattle.folds.proofs.EachLaws.{each-later}
+use Rattle.folds.proofs.WordLaws.{word-ones}
 
 -- what stands for a queue that loses nobody
 pub no-mark : (b : Bool) → cond {A = ℕ} b 0 0 ≡ 0

@@ -1,15 +1,13 @@
 -- A held line whose holder leaves: what the tables make of it is what the rule does, and is sound.
-use Rattle.folds.proofs.Ground.{ℕ, zero, suc, _+_, _-_, _<_, _≤_, Bool, cond, _≡_, refl, sym, ap, _∙_, _≢_, List, eqb, ltb, getD, getD-set-same, getD-set-other, arith, eq-eqb, ne-eqb, lt-ltb, le-leb, lt-leb}
-use Rattle.folds.specs.Below.{maxBelow}
-use Rattle.folds.proofs.Arrays.{by-eq}
-use Rattle.machine_steps.proofs.Names.{Plan, Valid, holdAt, budget, terms, taskRanked, queueFrom, Standing, LineRow, State, lineAt, slot, rank, shows, seat, Good, Whole}
-use Rattle.analysis_equations.proofs.Laws.{hold-within}
+use Rattle.machine_steps.proofs.Ground.{ℕ, zero, suc, _+_, _-_, _<_, _≤_, Bool, cond, _≡_, refl, sym, ap, _∙_, _≢_, List, eqb, ltb}
+use Rattle.machine_steps.proofs.Ground.{getD, getD-set-same, getD-set-other, arith, eq-eqb, ne-eqb, lt-ltb, le-leb, lt-leb, maxBelow}
+use Rattle.machine_steps.proofs.Ground.{by-eq, Plan, Valid, holdAt, budget, terms, taskRanked, queueFrom, Standing, LineRow, State}
+use Rattle.machine_steps.proofs.Ground.{lineAt, slot, rank, shows, seat, Good, Whole, hold-within, on-eq, on-le, Ranked, Timed, full}
+use Rattle.machine_steps.proofs.Ground.{Leaves, shifted, turned, holdOf, begun, passed}
 use Rattle.queue_rules.specs.Rules as Rules
-use Rattle.folds.proofs.Searches.{on-eq, on-le}
-use Rattle.queue_ranks.proofs.Ranked.{Ranked, Queued, Timed, full}
-use Rattle.queue_ranks.proofs.Leave.{Leaves, leave-max, after-first, begin-none, begin-some, leave-last, leave-next, leave-back}
+use Rattle.queue_ranks.proofs.Ranked.{Queued}
+use Rattle.queue_ranks.proofs.Leave.{leave-max, after-first, begin-none, begin-some, leave-last, leave-next, leave-back}
 use Rattle.queue_ranks.proofs.LeaveKeeps.{leave-ranked, next-queued, last-queued, back-queued, free-timed, begin-timed, next-timed}
-use Rattle.machine_steps.specs.Inner.{shifted, turned, holdOf, begun, passed}
 use Rattle.machine_steps.proofs.Ready.{Tabled, low-slot, seat-task, seat-taken, seat-empty}
 use Rattle.machine_steps.proofs.Shown.{Shown, shown-as}
 

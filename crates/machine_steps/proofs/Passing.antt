@@ -1,9 +1,8 @@
 -- What the tables tell of a line that goes on to its next task.
-use Rattle.folds.proofs.Ground.{ℕ, _+_, _*_, _-_, _≤_, _<_, _≡_, refl, ap, _∙_, List, getD, getD-set-other, arith, eq-eqb, ne-eqb}
-use Rattle.folds.proofs.Searches.{on-eq}
+use Rattle.machine_steps.proofs.Ground.{ℕ, _+_, _*_, _-_, _≤_, _<_, _≡_, refl, ap, _∙_, List, getD, getD-set-other, arith, eq-eqb}
+use Rattle.machine_steps.proofs.Ground.{ne-eqb, on-eq, LineRow, slot, seat, seatCount, Ready, shifted, turned}
 pub use Rattle.folds.proofs.Tests.{byte-count as flag, byte-le as flag-low}
-use Rattle.machine_steps.proofs.Names.{LineRow, slot, seat, seatCount}
-use Rattle.machine_steps.specs.Inner.{Ready, Begins, shifted, turned}
+use Rattle.machine_steps.specs.Inner.{Begins}
 
 -- a seat read by a copy w of its processor's number
 pub seat-read : (t : List ℕ) (q k j : ℕ) {w r : ℕ} → w ≡ k → r ≡ getD t ((q * 8 + w) * 64 + j) 0 → r ≡ getD t (seat q k j) 0

@@ -1,12 +1,10 @@
 -- What the functions rely on, from a sound state and its tables.
-use Rattle.folds.proofs.Ground.{ℕ, _+_, _<_, _≤_, cond, _≡_, _∙_, List, ltb, length, getD, arith, lt-ltb, le-ltb}
-use Rattle.machine_steps.proofs.Names.{Plan, Valid, Figures, taskRanked, State, lineAt, slot, rank, seat, Keys, Seats, Sized, Whole}
-use Rattle.folds.specs.Below.{maxBelow}
-use Rattle.folds.proofs.Figures.{max-at}
-use Rattle.folds.proofs.Searches.{on-le}
-use Rattle.queue_ranks.proofs.Ranked.{task-rank, ranks-few, seated, sole, full}
+use Rattle.machine_steps.proofs.Ground.{ℕ, _+_, _<_, _≤_, cond, _≡_, _∙_, List, ltb, length, getD, arith, lt-ltb, Plan, Valid}
+use Rattle.machine_steps.proofs.Ground.{Figures, taskRanked, State, lineAt, slot, rank, seat, Keys, Seats, Sized, Whole, maxBelow}
+use Rattle.machine_steps.proofs.Ground.{max-at, on-le, ranks-few, full, Ready, Running}
+use Rattle.folds.proofs.Ground.{le-ltb}
+use Rattle.queue_ranks.proofs.Ranked.{task-rank, seated, sole}
 use Rattle.machine_state.proofs.Tables.{sized-by}
-use Rattle.machine_steps.specs.Inner.{Ready, Running}
 
 -- the tables of a state, and the lengths of its rows
 pub record Tabled (p : Plan) (s : State) (figures keys seats : List ℕ) : Type 0 where

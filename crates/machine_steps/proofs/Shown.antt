@@ -1,8 +1,9 @@
 -- What a step makes of a state: a line that is sound and shows what the rule makes of it, and the whole state once each line does.
-use Rattle.folds.proofs.Ground.{ℕ, _<_, _≤_, Bool, cond, _≡_, refl, sym, ap, _∙_, fun-ext, _≢_, _⊎_, List, length, List·getD-eq-default, arith, ne-eqb}
-use Rattle.folds.proofs.Arrays.{by-eq}
-use Rattle.folds.proofs.Searches.{on-le}
-use Rattle.machine_steps.proofs.Names.{Plan, holdAt, Lines, terms, change, listFrom, Standing, LineRow, State, noLine, noneInLine, standing, lineAt, slot, rank, shownLine, shows, Good, Whole}
+use Rattle.machine_steps.proofs.Ground.{ℕ, _<_, _≤_, Bool, cond, _≡_, refl, sym, ap, _∙_, _≢_, _⊎_, List, length}
+use Rattle.machine_steps.proofs.Ground.{List·getD-eq-default, arith, ne-eqb, by-eq, on-le, Plan, holdAt, Lines, terms, change}
+use Rattle.machine_steps.proofs.Ground.{listFrom, Standing, LineRow, State, noLine, noneInLine, standing, lineAt, slot, rank}
+use Rattle.machine_steps.proofs.Ground.{shownLine, shows, Good, Whole}
+use Rattle.folds.proofs.Ground.{fun-ext}
 use Rattle.queue_rules.specs.Rules as Rules
 use Rattle.queue_ranks.proofs.Same.{same-ranked, same-queued, same-timed, same-queue}
 

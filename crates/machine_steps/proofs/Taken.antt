@@ -1,10 +1,10 @@
 -- Counting the taken seats of a queue, from the first on, with the hold times of those who sit there.
-use Rattle.folds.proofs.Ground.{ℕ, _+_, _*_, _-_, _≤_, _<_, Bool, true, not, _≡_, refl, sym, ap, _∙_, List, eqb, getD, arith, eq-eqb, ne-eqb}
-use Rattle.folds.specs.Below.{allBelow, sumBelow}
-use Rattle.folds.proofs.Tests.{all-more, find-at, find-none}
+use Rattle.machine_steps.proofs.Ground.{ℕ, _+_, _*_, _-_, _≤_, _<_, Bool, true, not, _≡_, refl, sym, ap, _∙_, List, eqb, getD, arith}
+use Rattle.machine_steps.proofs.Ground.{eq-eqb, ne-eqb, sumBelow, find-none, holdCell, seat, taken, takenHolds, holdOf}
+use Rattle.folds.specs.Below.{allBelow}
+use Rattle.folds.proofs.Tests.{all-more, find-at}
 use Rattle.folds.proofs.Figures.{sum-step}
-use Rattle.machine_steps.proofs.Names.{holdCell, seat}
-use Rattle.machine_steps.specs.Inner.{taken, takenHolds, holdOf, AheadOf}
+use Rattle.machine_steps.specs.Inner.{AheadOf}
 
 module _ (figures seats : List ℕ) (q k : ℕ) where
   -- nobody has the i-th seat of the queue of processor k for q

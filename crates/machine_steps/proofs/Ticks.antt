@@ -1,16 +1,15 @@
 -- A tick: the state after it shows what the rules make of what it showed, and is sound; and the two words of its answer.
-use Rattle.folds.proofs.Ground.{ℕ, zero, suc, _-_, _<_, _≤_, Bool, true, false, _&&_, and-false, _≡_, refl, sym, ap, ap₂, _∙_, _≢_, List, eqb, ltb, arith, eqb-true, eq-eqb, ne-eqb, lt-ltb}
-use Rattle.folds.specs.Below.{anyBelow}
-use Rattle.folds.specs.Words.{wordBelow}
-use Rattle.folds.proofs.Tests.{and-parts, same-test, any-at, any-out}
-use Rattle.folds.proofs.WordLaws.{word-same}
-use Rattle.folds.proofs.EachLaws.{each-at, each-length}
-use Rattle.machine_steps.proofs.Names.{Plan, Valid, terms, held, regranted, listFrom, queueFrom, LineRow, State, noLine, lineAt, slot, rank, shownLine, shows, queueAt, Good, Whole}
+use Rattle.machine_steps.proofs.Ground.{ℕ, zero, suc, _-_, _<_, _≤_, Bool, true, false, _&&_, and-false, _≡_, refl, sym, ap, ap₂}
+use Rattle.machine_steps.proofs.Ground.{_∙_, _≢_, List, eqb, ltb, arith, eqb-true, eq-eqb, ne-eqb, lt-ltb, anyBelow, wordBelow}
+use Rattle.machine_steps.proofs.Ground.{and-parts, same-test, any-at, any-out, word-same, each-at, Plan, Valid, terms, held}
+use Rattle.machine_steps.proofs.Ground.{regranted, listFrom, queueFrom, LineRow, State, noLine, lineAt, slot, rank, shownLine, shows}
+use Rattle.machine_steps.proofs.Ground.{queueAt, Good, Whole, on-eq, same-eqb, passed, stepped, cutsHolder, lostQueue, endedOf}
+use Rattle.machine_steps.proofs.Ground.{steppedLines, cutWord, grantWord}
+use Rattle.folds.proofs.EachLaws.{each-length}
 use Rattle.queue_rules.specs.Rules as Rules
-use Rattle.folds.proofs.Searches.{on-eq, same-eqb}
 use Rattle.queue_ranks.proofs.Leave.{tick-none, tick-some}
 use Rattle.queue_ranks.proofs.LeaveKeeps.{tick-timed}
-use Rattle.machine_steps.specs.Inner.{passed, stepped, cutsHolder, lostQueue, endedOf, steppedLines, tickedBy, cutWord, grantWord}
+use Rattle.machine_steps.specs.Inner.{tickedBy}
 use Rattle.machine_steps.proofs.Ready.{Tabled, low-slot}
 use Rattle.machine_steps.proofs.Falling.{mark, Ended, ended-by, ranks-leave, ranks-stay, rows-after}
 use Rattle.machine_steps.proofs.Marks.{cut-queued}

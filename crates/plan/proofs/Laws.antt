@@ -1,19 +1,18 @@
 -- What an accepted plan file passed, and what reading one tells.
-use Rattle.folds.proofs.Ground.{ℕ, _<_, Bool, cond, _≡_, refl, sym, _∙_, List, [], eqb, ltb, arith, ltb-true, eq-eqb, ne-eqb}
+use Rattle.plan.proofs.Ground.{_<_, _≡_, sym, _∙_, arith, eq-eqb, ne-eqb, Counts, countsOf, Reading, Accepted, refusal, reading}
+use Rattle.plan.proofs.Ground.{readOutcome, nameRefusal}
+use Rattle.folds.proofs.Ground.{ℕ, Bool, cond, refl, List, [], eqb, ltb, ltb-true}
 use Rattle.refusals.specs.Numbers.{unknownResource}
 use Rattle.refusals.specs.Outcomes.{Outcome, outcome}
 use Rattle.folds.proofs.Tests.{code-zero, first-zero, then-zero}
 use Rattle.folds.proofs.Arrays.{by-eq}
-use Rattle.plan_rules.specs.declared.Counts.{Counts}
-use Rattle.plan_layout.specs.Layout.{countsOf, rowsOf}
+use Rattle.plan_layout.specs.Layout.{rowsOf}
 use Rattle.plan_reading.specs.Checks.{checkCode}
 use Rattle.plan_reading.specs.Plan.{planOf, Checked, Valid}
 use Rattle.plan_reading.proofs.Laws.{valid-plan}
-use Rattle.plan.specs.declared.Reading.{Reading}
-use Rattle.plan.specs.declared.ReadAnswer.the-variants.{Accepted, Refused}
+use Rattle.plan.specs.declared.ReadAnswer.the-variants.{Refused}
 use Rattle.plan.specs.Acceptance as acceptance
-use Rattle.plan.specs.Acceptance.{refusal}
-use Rattle.plan.specs.Reading.{given, reading, refusedWith, readOutcome, readingOutcome, nameRefusal}
+use Rattle.plan.specs.Reading.{given, refusedWith, readingOutcome}
 
 -- a plan that is not refused passed checks 1 to 9
 pub none-failed : (f : List ℕ) → refusal f ≡ 0 → checkCode f ≡ 0

@@ -1,9 +1,6 @@
 -- What the format of each edition keeps: rows written and then read are the same rows, and rows read and then written too.
-use Rattle.folds.proofs.Ground.{ℕ, true, _≡_, refl, List, length, getD}
-use Rattle.folds.specs.Bytes.{fields, rowAt}
+use Rattle.plan_layout.proofs.Ground.{ℕ, true, _≡_, refl, List, length, getD, fields, rowAt, TaskRow, Edition, edition1, formatOf}
 use Rattle.folds.proofs.RowLaws.{solid}
-use Rattle.plan_rules.specs.declared.TaskRow.{TaskRow}
-use Rattle.plan_layout.specs.Editions.{Edition, edition1, formatOf}
 use Rattle.plan_layout.specs.Layout.{sectionIn, sectionNumbers, resourceNumbers}
 
 -- the numbers of row i

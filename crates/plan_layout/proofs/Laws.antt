@@ -1,16 +1,16 @@
 -- What the rows of a part tell of the rows by value: the same rows, under the same rules.
-use Rattle.folds.proofs.Ground.{ℕ, _+_, _*_, _<_, _≤_, true, _&&_, _≡_, refl, ap, _∙_, List, [], _∷_, eqb, length, getD, replicate, length-replicate, add-zero, arith, eqb-true}
-use Rattle.sizes.specs.Sizes.{mostTasks, mostResources, mostSections}
-use Rattle.folds.specs.Below.{sumBelow}
-use Rattle.folds.proofs.Tests.{all-at, all-from, all-same}
-use Rattle.folds.proofs.Figures.{sum-same}
-use Rattle.folds.specs.Bytes.{number, rowAt, fields}
+use Rattle.plan_layout.proofs.Ground.{ℕ, _+_, _*_, _<_, _≤_, true, _&&_, _≡_, refl, ap, _∙_, List, eqb, length, getD, replicate}
+use Rattle.plan_layout.proofs.Ground.{arith, mostTasks, mostSections, sumBelow, all-at, all-same, sum-same, number, rowAt, fields}
+use Rattle.plan_layout.proofs.Ground.{noTask, noSection, sectionOk, taskOf, Edition, edition1, formatOf, taskAt, lengthAt, sectionAt}
+use Rattle.plan_layout.proofs.Ground.{taskRows, lengthRows, sectionRows, taskRowsOk, lengthRowsOk, sectionRowsOk}
+use Rattle.folds.proofs.Ground.{[], _∷_, length-replicate, add-zero, eqb-true}
+use Rattle.sizes.specs.Sizes.{mostResources}
+use Rattle.folds.proofs.Tests.{all-from}
 use Rattle.folds.proofs.Arrays.{placed-at}
 use Rattle.folds.proofs.RowLaws.{number-drop, number-byte}
-use Rattle.plan_rules.specs.Rules.{noTask, noSection, taskOk, sectionOk, tasksOk, sectionsOk, lengthOf, taskOf, sectionOf}
+use Rattle.plan_rules.specs.Rules.{taskOk, tasksOk, sectionsOk, lengthOf, sectionOf}
 use Rattle.plan_rules.proofs.Laws.{test-rest, test-last, facts}
-use Rattle.plan_layout.specs.Editions.{Edition, edition1, formatOf}
-use Rattle.plan_layout.specs.Layout.{headerIn, countsOf, lengthSaid, taskAt, taskSpare, startAt, lengthAt, resourceSpare, sectionAt, taskRows, lengthRows, sectionRows, taskRowsOk, lengthRowsOk, sectionRowsOk}
+use Rattle.plan_layout.specs.Layout.{headerIn, countsOf, lengthSaid, taskSpare, startAt, resourceSpare}
 
 -- where the numbers of a header stand in a file of edition 1
 module _ (f : List ℕ) where

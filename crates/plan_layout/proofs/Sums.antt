@@ -1,16 +1,10 @@
 -- The table of the sums of section lengths by task, and what it tells of the sections by value.
-use Rattle.folds.proofs.Ground.{ℕ, _+_, _*_, _%_, _<_, _≤_, Bool, true, false, cond, _≡_, _∙_, List, eqb, getD, replicate, arith}
-use Rattle.folds.specs.Bytes.{number}
-use Rattle.folds.proofs.RowLaws.{Bytes}
-use Rattle.folds.proofs.Tests.{all-at, all-same}
-use Rattle.folds.proofs.Figures.{sum-bound, sum-same}
-use Rattle.folds.proofs.Arrays.{gatheredBelow, gathered-at}
-use Rattle.refusals.specs.Numbers.{sectionsAbove}
+use Rattle.plan_layout.proofs.Ground.{ℕ, _+_, _*_, _%_, _<_, _≤_, Bool, true, false, cond, _≡_, _∙_, List, eqb, getD, replicate}
+use Rattle.plan_layout.proofs.Ground.{arith, number, Bytes, all-at, all-same, sum-same, gatheredBelow, sectionsAbove, mostTasks}
+use Rattle.plan_layout.proofs.Ground.{mostSections, edition1, sectionAt, taskRows, sectionRows, sectionRowsOk, sumsFit, sectionCode}
+use Rattle.folds.proofs.Figures.{sum-bound}
+use Rattle.folds.proofs.Arrays.{gathered-at}
 use Rattle.plan_rules.specs.Rules.{sectionSum, sumsOk}
-use Rattle.sizes.specs.Sizes.{mostTasks, mostSections}
-use Rattle.plan_layout.specs.Editions.{edition1}
-use Rattle.plan_layout.specs.Layout.{sectionAt, taskRows, sectionRows, sectionRowsOk}
-use Rattle.plan_layout.specs.Inner.{sumsFit, sectionCode}
 use Rattle.plan_rules.proofs.Laws.{section-facts}
 use Rattle.plan_layout.proofs.Laws.{section-fields, task-read, section-read}
 

@@ -1,17 +1,12 @@
 -- Tags and places seen in a pass over task rows, and what they tell once every row keeps its rule.
-use Rattle.folds.proofs.Ground.{ℕ, _+_, _*_, _%_, _<_, _≤_, Bool, true, false, cond, _&&_, not, _≡_, sym, ap, ap₂, _∙_, List, eqb, replicate, arith}
-use Rattle.folds.specs.Below.{allBelow}
-use Rattle.folds.proofs.Tests.{all-same}
-use Rattle.folds.proofs.Arrays.{markedBelow}
-use Rattle.folds.proofs.RowLaws.{Bytes}
-use Rattle.plan_rules.specs.Rules.{taskOf, tagNew, priorityNew, uniqueOk}
-use Rattle.plan_rules.specs.declared.TaskRow.{TaskRow}
+use Rattle.plan_layout.proofs.Ground.{ℕ, _+_, _*_, _%_, _<_, _≤_, Bool, true, false, cond, _&&_, _≡_, sym, ap, ap₂, _∙_, List, eqb}
+use Rattle.plan_layout.proofs.Ground.{replicate, arith, allBelow, all-same, markedBelow, Bytes, taskOf, TaskRow, wrongTask, repeated}
+use Rattle.plan_layout.proofs.Ground.{mostTasks, edition1, formatOf, taskAt, taskRows, taskRowsOk, taskCode}
+use Rattle.folds.proofs.Ground.{not}
+use Rattle.plan_rules.specs.Rules.{tagNew, priorityNew, uniqueOk}
 use Rattle.plan_rules.proofs.Laws.{place-eqb, task-facts}
-use Rattle.refusals.specs.Numbers.{wrongTask, repeated}
-use Rattle.sizes.specs.Sizes.{mostProcessors, mostTasks}
-use Rattle.plan_layout.specs.Editions.{edition1, formatOf}
-use Rattle.plan_layout.specs.Layout.{taskAt, taskRows, taskRowsOk}
-use Rattle.plan_layout.specs.Inner.{TasksFit, taskCode}
+use Rattle.sizes.specs.Sizes.{mostProcessors}
+use Rattle.plan_layout.specs.Inner.{TasksFit}
 use Rattle.plan_layout.proofs.Laws.{task-fields, task-read, task-kept}
 
 -- row k's tag, and its place in the table of priorities

@@ -1,19 +1,21 @@
 -- What a file that passed its checks tells.
-use Rattle.folds.proofs.Ground.{ℕ, suc, _+_, _*_, _<_, _≤_, Bool, true, false, cond, _≡_, refl, sym, ap, _∙_, List, eqb, ltb, length, getD, drop, length-drop, length-take, List·getD-eq-default, getD-drop, arith, ltb-true, ltb-false, eqb-true, eq-eqb, ne-eqb}
+use Rattle.plan_reading.proofs.Ground.{ℕ, _+_, _≤_, _≡_, sym, ap, _∙_, length, length-drop, arith, eq-eqb, ne-eqb, countsOk, Counts}
+use Rattle.plan_reading.proofs.Ground.{known, headerLength, countsOf, resourcesAt, sectionsAt, namesAt, offsetsOk, taskRowsOf}
+use Rattle.plan_reading.proofs.Ground.{lengthsOf, sectionsOf, planOf, namePart, countsCode, headerCode}
+use Rattle.folds.proofs.Ground.{suc, _*_, _<_, Bool, true, false, cond, refl, List, eqb, ltb, getD, drop, length-take, List·getD-eq-default, getD-drop, ltb-true, ltb-false, eqb-true}
 use Rattle.folds.specs.Bytes.{number}
 use Rattle.folds.proofs.Tests.{code-zero, code-next, first-zero, then-zero, all-at}
 use Rattle.folds.proofs.Figures.{sum-at}
 use Rattle.folds.proofs.RowLaws.{Bytes}
-use Rattle.plan_rules.specs.Rules.{taskOf, countsOk, uniqueOk, namesOk, sumsOk, Tests}
-use Rattle.plan_rules.specs.declared.Counts.{Counts}
+use Rattle.plan_rules.specs.Rules.{taskOf, uniqueOk, namesOk, sumsOk, Tests}
 use Rattle.plan_rules.specs.declared.TaskRow.{TaskRow}
 use Rattle.sizes.specs.Sizes.{mostNameBytes}
-use Rattle.plan_layout.specs.Editions.{formatOf, known, headerLength}
-use Rattle.plan_layout.specs.Layout.{headerIn, countsOf, editionIn, lengthSaid, tasksAt, resourcesAt, sectionsAt, namesAt, offsetsOk, taskAt, sectionAt, taskRowsOk, lengthRowsOk, sectionRowsOk, partsTests, partsCode, taskRowsOf, lengthsOf, sectionsOf, namesOf, startAt, lengthAt}
+use Rattle.plan_layout.specs.Editions.{formatOf}
+use Rattle.plan_layout.specs.Layout.{headerIn, editionIn, lengthSaid, tasksAt, taskAt, sectionAt, taskRowsOk, lengthRowsOk, sectionRowsOk, partsTests, partsCode, namesOf, startAt, lengthAt}
 use Rattle.plan_rules.proofs.Laws.{facts, InRange, counts-facts, task-facts, unique-facts, once, names-facts, section-facts, length-facts, tests-facts}
 use Rattle.plan_layout.proofs.Laws.{task-read, length-read, start-read, task-fields, task-kept, resource-kept}
-use Rattle.plan_reading.specs.Plan.{planOf, namePart, Checked, TaskFits, SectionFits, Valid}
-use Rattle.plan_reading.specs.Checks.{countsCode, headerCode, rowsCode, checkCode}
+use Rattle.plan_reading.specs.Plan.{Checked, TaskFits, SectionFits, Valid}
+use Rattle.plan_reading.specs.Checks.{rowsCode, checkCode}
 
 -- the first check that a file fails, by whether one of its header's does
 module _ (f : List ℕ) where

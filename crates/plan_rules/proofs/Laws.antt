@@ -1,16 +1,17 @@
 -- What counts, rows and lengths that keep their rules have, and the laws of the numbers of names.
-use Rattle.folds.proofs.Ground.{ℕ, _+_, _-_, _*_, _/_, _<_, _≤_, Bool, true, false, cond, _&&_, not, and-comm, true≢false, _≡_, refl, sym, ap, ap₂, _∙_, List, leb, ltb, eqb, length, getD, replicate, add-zero, add-assoc, arith, le-leb, ltb-true, ltb-false, leb-true, eq-eqb, eqb-true, eqb-false, not-true}
-use Rattle.sizes.specs.Sizes.{mostProcessors, mostTasks, mostResources, mostSections, mostNameBytes, mostSectionTicks}
+use Rattle.plan_rules.proofs.Ground.{ℕ, _+_, _-_, _*_, _<_, _≤_, Bool, true, _&&_, not, _≡_, refl, sym, _∙_, List, leb, eqb, length}
+use Rattle.plan_rules.proofs.Ground.{getD, replicate, add-assoc, arith, eq-eqb, mostResources, mostNameBytes, sumBelow, number}
+use Rattle.plan_rules.proofs.Ground.{lengthOf, startOf, lengthsOk, sameBytes, differ, nameNew, namesDiffer, namesOk, digestOf}
+use Rattle.plan_rules.proofs.Ground.{digestsOf, numberNew, numbersDiffer}
+use Rattle.folds.proofs.Ground.{_/_, false, cond, and-comm, true≢false, ap, ap₂, ltb, add-zero, le-leb, ltb-true, ltb-false, leb-true, eqb-true, eqb-false, not-true}
+use Rattle.sizes.specs.Sizes.{mostProcessors, mostTasks, mostSections, mostSectionTicks}
 use Rattle.folds.proofs.Tests.{and-parts, is-not-true, code-zero, code-next, all-at, all-from}
-use Rattle.folds.specs.Below.{sumBelow}
-use Rattle.folds.specs.Bytes.{number}
 use Rattle.folds.proofs.RowLaws.{number-same}
 use Rattle.folds.proofs.Arrays.{cell-eqb, placed-at}
 use Rattle.plan_rules.specs.declared.Counts.{Counts}
 use Rattle.plan_rules.specs.declared.TaskRow.{TaskRow}
 use Rattle.plan_rules.specs.declared.SectionRow.{SectionRow}
-use Rattle.plan_rules.specs.Rules.{taskOf, countsOk, taskOk, tasksOk, tagsOk, sectionOk, lengthOf, startOf, lengthsOk, sameBytes, differ, nameNew, namesDiffer, namesOk, tagNew, priorityNew, uniqueOk, Tests, testsCode}
-use Rattle.plan_rules.specs.Inner.{digestOf, digestsOf, numberNew, numbersDiffer}
+use Rattle.plan_rules.specs.Rules.{taskOf, countsOk, taskOk, tasksOk, tagsOk, sectionOk, tagNew, priorityNew, uniqueOk, Tests, testsCode}
 
 -- tests that hold together hold each
 pub test-rest : (a b : Bool) → (a && b) ≡ true → a ≡ true

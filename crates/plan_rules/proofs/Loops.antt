@@ -1,11 +1,11 @@
 -- Loops over a range: what is known after the turns below i of n, and once all are made.
-use Rattle.folds.proofs.Ground.{ℕ, _+_, _<_, _≤_, Bool, true, _&&_, _≡_, refl, List, set, arith}
-use Rattle.folds.specs.Below.{allBelow, sumBelow}
+use Rattle.plan_rules.proofs.Ground.{ℕ, _+_, _<_, _≤_, Bool, true, _&&_, _≡_, refl, List, arith, allBelow, sumBelow, all-done}
+use Rattle.plan_rules.proofs.Ground.{sum-step, lengthOf, startOf}
+use Rattle.folds.proofs.Ground.{set}
 use Rattle.folds.specs.Bytes.{placedBelow}
-use Rattle.folds.proofs.Tests.{all-step, all-done}
-use Rattle.folds.proofs.Figures.{sum-step, sum-at}
+use Rattle.folds.proofs.Tests.{all-step}
+use Rattle.folds.proofs.Figures.{sum-at}
 use Rattle.folds.proofs.Arrays.{placed-step, placed-done}
-use Rattle.plan_rules.specs.Rules.{lengthOf, startOf}
 
 -- tests are made, and `ok` says whether all of them held
 pub record Tested (n : ℕ) (f : ℕ → Bool) (ok : Bool) (i : ℕ) : Type 0 where

@@ -1,3 +1,4 @@
+pub mod Ground
 pub mod Same
 pub mod Values
 pub mod RoundTrip

@@ -1,19 +1,17 @@
 -- What writing, reading back and copying come to, by the number of the refusal.
-use Rattle.folds.proofs.Ground.{ℕ, _-_, _<_, _≤_, _≡_, refl, sym, ap, _∙_, List, _++_, leb, length, getD, take, drop, take-at, sub-zero, arith, eq-eqb, ne-eqb, le-leb, lt-leb, leb-true}
+use Rattle.plan_writing.proofs.Ground.{ℕ, _-_, _<_, _≤_, _≡_, refl, sym, ap, _∙_, List, _++_, leb, length, getD, take, drop, arith}
+use Rattle.plan_writing.proofs.Ground.{eq-eqb, le-leb, leb-true, code-zero, Counts, Rows, countsOf, rowsOf, namesOf, valuesCode}
+use Rattle.plan_writing.proofs.Ground.{Reading, refusal, Written, fileLength, fileOf, trimmed}
+use Rattle.folds.proofs.Ground.{take-at, sub-zero, ne-eqb, lt-leb}
 use Rattle.refusals.specs.Numbers.{noRoom}
-use Rattle.folds.proofs.Tests.{code-zero, first-zero, then-zero}
-use Rattle.plan_rules.specs.declared.Counts.{Counts}
-use Rattle.plan_rules.specs.declared.Rows.{Rows}
-use Rattle.plan_layout.specs.Layout.{countsOf, rowsOf, namesOf, valuesCode}
-use Rattle.plan.specs.declared.Reading.{Reading}
+use Rattle.folds.proofs.Tests.{first-zero, then-zero}
 use Rattle.plan.specs.declared.ReadAnswer.the-variants.{Accepted}
-use Rattle.plan.specs.Acceptance.{refusal}
 use Rattle.plan.specs.Reading.{given, reading, refusedWith, readOutcome}
 use Rattle.plan.proofs.Laws.{by-code, told}
 use Rattle.plan_writing.specs.declared.WriteAnswer.{WriteAnswer}
-use Rattle.plan_writing.specs.declared.WriteAnswer.the-variants.{Written, Refused}
-use Rattle.plan_writing.specs.Encode.{fileLength, fileOf, writeCode, writing, written, writeOutcome, writingOutcome}
-use Rattle.plan_writing.specs.RoundTrip.{trimmed, readBack, readBackOutcome, copyCode, copying, copied, copyOutcome}
+use Rattle.plan_writing.specs.declared.WriteAnswer.the-variants.{Refused}
+use Rattle.plan_writing.specs.Encode.{writeCode, writing, written, writeOutcome, writingOutcome}
+use Rattle.plan_writing.specs.RoundTrip.{readBack, readBackOutcome, copyRefusal, copying, copied, copyOutcome}
 use Rattle.plan_writing.proofs.RoundTrip.{file-holds, written-then-read, read-then-written}
 
 -- what it says of values that they are written
@@ -132,21 +130,21 @@ Copy f l r m = (r ≡ copying f (length l)) × ((m ≡ copied f l) × (writeOutc
 module _ (f : List ℕ) where
   copy-told : (room : ℕ) → writeOutcome (copying f room) ≡ copyOutcome f room
   unfolding copying
-  copy-told room = told writeOutcome _ _ (copyCode f room) _ refl refl
+  copy-told room = told writeOutcome _ _ (copyRefusal f room) _ refl refl
 
   copy-ended : {r : WriteAnswer} {m : List ℕ} (l : List ℕ) → r ≡ copying f (length l) → m ≡ copied f l → Copy f l r m
   copy-ended l p q = (p, (q, ap writeOutcome p ∙ copy-told (length l)))
 
   pub copy-refused : {k : ℕ} (l : List ℕ) → refusal f ≡ k → (k ≡ 0 → ⊥) → Copy f l (Refused k) l
-  unfolding copying copied copyCode
+  unfolding copying copied copyRefusal
   copy-refused l e d = copy-ended l (simp (e, ne-eqb _ _ d)) (simp (e, ne-eqb _ _ d))
 
   copy-length : ((i : ℕ) → getD f i 0 < 256) → refusal f ≡ 0 → fileLength (countsOf f) (namesOf f) ≡ length f
   copy-length b e =
       sym (file-holds (countsOf f) (rowsOf f) (namesOf f) .size) ∙ ap length (read-then-written f b e .file)
 
-  copy-code : (room : ℕ) → ((i : ℕ) → getD f i 0 < 256) → refusal f ≡ 0 → writeCode (countsOf f) (rowsOf f) (namesOf f) room ≡ copyCode f room
-  unfolding writeCode copyCode
+  copy-code : (room : ℕ) → ((i : ℕ) → getD f i 0 < 256) → refusal f ≡ 0 → writeCode (countsOf f) (rowsOf f) (namesOf f) room ≡ copyRefusal f room
+  unfolding writeCode copyRefusal
   copy-code room b e = rw (eq-eqb _ _ (read-then-written f b e .accepted), eq-eqb _ _ e, copy-length b e)
 
   -- writing counts, rows and names that are those of the file

@@ -1,21 +1,15 @@
 -- Laws of the writer: what stands at the front of a buffer after each part that is put, and the lengths of the parts.
-use Rattle.folds.proofs.Ground.{ℕ, _+_, _-_, _*_, _<_, _≤_, true, _≡_, refl, ap, _∙_, List, _++_, leb, length, take, drop, length-append, zero-mul, arith, leb-true}
-use Rattle.sizes.specs.Sizes.{mostResources, mostNameBytes}
-use Rattle.folds.specs.Bytes.{bytesBelow}
+use Rattle.plan_writing.proofs.Ground.{ℕ, _+_, _-_, _*_, _<_, _≤_, true, _≡_, refl, ap, _∙_, List, _++_, leb, length, take, drop}
+use Rattle.plan_writing.proofs.Ground.{length-append, arith, leb-true, mostResources, mostNameBytes, bytesBelow, bytes-length}
+use Rattle.plan_writing.proofs.Ground.{row-length, taskOf, sectionOf, lengthOf, startOf, tagsOk, namesOk, TaskRow, SectionRow}
+use Rattle.plan_writing.proofs.Ground.{Counts, Rows, InRange, counts-facts, edition1, formatOf, laid, resourceNumbers}
+use Rattle.plan_writing.proofs.Ground.{sectionNumbers, valuesCode, taskWidth, resourceWidth, sectionWidth, headerBytes, taskBytes}
+use Rattle.plan_writing.proofs.Ground.{resourceBytes, sectionBytes, fileLength, fileOf}
+use Rattle.folds.proofs.Ground.{zero-mul}
 use Rattle.folds.proofs.Tests.{all-at}
 use Rattle.folds.proofs.Figures.{sum-bound}
-use Rattle.folds.proofs.Parts.{put-part, put-length, bytes-length, bytes-step}
-use Rattle.folds.proofs.RowLaws.{row-length}
-use Rattle.plan_rules.specs.Rules.{taskOf, sectionOf, lengthOf, startOf, tagsOk, namesOk}
-use Rattle.plan_rules.specs.declared.TaskRow.{TaskRow}
-use Rattle.plan_rules.specs.declared.SectionRow.{SectionRow}
-use Rattle.plan_rules.specs.declared.Counts.{Counts}
-use Rattle.plan_rules.specs.declared.Rows.{Rows}
-use Rattle.plan_rules.proofs.Laws.{InRange, counts-facts, length-facts, names-facts}
-use Rattle.plan_layout.specs.Editions.{edition1, formatOf}
-use Rattle.plan_layout.specs.Layout.{laid, resourceNumbers, sectionNumbers, valuesCode}
-use Rattle.plan_layout.specs.Inner.{taskWidth, resourceWidth, sectionWidth}
-use Rattle.plan_writing.specs.Encode.{headerBytes, taskBytes, resourceBytes, sectionBytes, fileLength, fileOf}
+use Rattle.folds.proofs.Parts.{put-part, put-length, bytes-step}
+use Rattle.plan_rules.proofs.Laws.{length-facts, names-facts}
 use Rattle.plan_writing.proofs.Same.{Kept, kept-facts}
 
 -- m is l with the o bytes of x at its front

@@ -1,25 +1,25 @@
 -- Demand 2: a file and the values that it holds. Both round trips go by what the file has at each place.
-use Rattle.folds.proofs.Ground.{ℕ, _+_, _<_, _≡_, refl, sym, ap, ap₂, subst, _∙_, List, _++_, append-assoc, length, getD, take, drop, replicate, length-append, length-drop, take-append-drop, drop-at, drop-drop, arith, lt-ltb, le-ltb, le-leb, eq-eqb}
-use Rattle.sizes.specs.Sizes.{mostTasks, mostResources, mostSections}
-use Rattle.folds.specs.Bytes.{rowAt, rowBytes}
+use Rattle.plan_writing.proofs.Ground.{ℕ, _+_, _<_, _≡_, refl, sym, ap, ap₂, _∙_, List, _++_, append-assoc, length, getD, take, drop}
+use Rattle.plan_writing.proofs.Ground.{length-append, length-drop, drop-at, arith, le-leb, eq-eqb, mostResources, rowAt, rowBytes}
+use Rattle.plan_writing.proofs.Ground.{Bytes, solid, lengthOf, startOf, namesOk, Counts, Rows, InRange, counts-facts, Edition}
+use Rattle.plan_writing.proofs.Ground.{formatOf, laid, countsOf, tasksAt, resourcesAt, sectionsAt, namesAt, headerNumbers}
+use Rattle.plan_writing.proofs.Ground.{sectionNumbers, resourceNumbers, taskAt, taskSpare, startAt, lengthAt, resourceSpare}
+use Rattle.plan_writing.proofs.Ground.{sectionAt, taskRows, lengthRows, sectionRows, partsCode, rowsOf, namesOf, faithful, task-read}
+use Rattle.plan_writing.proofs.Ground.{length-read, section-read, whole-facts, refusal, none-failed, headerBytes, taskBytes}
+use Rattle.plan_writing.proofs.Ground.{resourceBytes, sectionBytes, fileLength, fileOf, trimmed}
+use Rattle.folds.proofs.Ground.{subst, replicate, take-append-drop, drop-drop, lt-ltb, le-ltb}
+use Rattle.sizes.specs.Sizes.{mostTasks, mostSections}
 use Rattle.folds.proofs.Arrays.{placed-same}
-use Rattle.folds.proofs.RowLaws.{Bytes, solid, fields-back, fields-forth}
-use Rattle.plan_rules.specs.Rules.{noTask, noSection, lengthOf, startOf, namesOk}
-use Rattle.plan_rules.specs.declared.Counts.{Counts}
-use Rattle.plan_rules.specs.declared.Rows.{Rows}
-use Rattle.plan_rules.proofs.Laws.{InRange, counts-facts}
-use Rattle.plan_layout.specs.Editions.{Edition, Format, formatOf}
-use Rattle.plan_layout.specs.Layout.{laid, editionIn, headerIn, countsIn, countsOf, lengthSaid, tasksAt, resourcesAt, sectionsAt, namesAt, offsetsOk, headerNumbers, sectionNumbers, resourceNumbers, taskAt, taskSpare, startAt, lengthAt, resourceSpare, sectionAt, taskRows, lengthRows, sectionRows, partsCode, rowsOf, namesOf}
-use Rattle.plan_layout.proofs.Editions.{faithful}
-use Rattle.plan_layout.proofs.Laws.{header-parts, task-read, length-read, section-read, start-read, task-kept, resource-kept, tasks-kept, sections-kept}
+use Rattle.folds.proofs.RowLaws.{fields-back, fields-forth}
+use Rattle.plan_rules.specs.Rules.{noTask, noSection}
+use Rattle.plan_layout.specs.Editions.{Format}
+use Rattle.plan_layout.specs.Layout.{editionIn, headerIn, countsIn, lengthSaid, offsetsOk}
+use Rattle.plan_layout.proofs.Laws.{header-parts, start-read, task-kept, resource-kept, tasks-kept, sections-kept}
 use Rattle.plan_reading.specs.Checks.{countsCode, headerCode, checkCode}
 use Rattle.plan_reading.specs.Plan.{namePart}
-use Rattle.plan_reading.proofs.Laws.{Header, Whole, whole-facts}
-use Rattle.plan.specs.Acceptance.{refusal}
+use Rattle.plan_reading.proofs.Laws.{Header, Whole}
 use Rattle.plan.specs.Reading.{nameRefusal, nameOf}
-use Rattle.plan.proofs.Laws.{none-failed}
-use Rattle.plan_writing.specs.Encode.{headerBytes, taskBytes, resourceBytes, sectionBytes, fileLength, fileOf}
-use Rattle.plan_writing.specs.RoundTrip.{trimmed, nameIn, SameFile, WrittenThenRead, ReadThenWritten}
+use Rattle.plan_writing.specs.RoundTrip.{nameIn, SameFile, WrittenThenRead, ReadThenWritten}
 use Rattle.plan_writing.proofs.Same.{Kept, kept-facts, kept-code, rows-joined}
 use Rattle.plan_writing.proofs.Values.{taskWidth, resourceWidth, sectionWidth, at, RowsIn, taskPart, resourcePart, sectionPart, headed, sections-end, rows-in, header-length, task-same, length-same, start-same, section-same, tasks-checked, unique-checked, starts-checked, names-checked, sections-checked, sums-checked}
 

@@ -1,20 +1,16 @@
 -- Values that keep their rules, and rows that agree below a count: they keep the same rules, and have the same bytes.
-use Rattle.folds.proofs.Ground.{ℕ, zero, suc, _+_, _*_, _<_, _≤_, Bool, true, cond, _&&_, not, _≡_, refl, sym, ap, ap₂, _∙_, List, _++_, leb, eqb, length, take, drop, length-drop, drop-at, take-add, getD-drop, arith}
-use Rattle.sizes.specs.Sizes.{mostNameBytes}
+use Rattle.plan_writing.proofs.Ground.{ℕ, _+_, _*_, _<_, _≤_, true, _&&_, _≡_, refl, sym, ap, ap₂, _∙_, List, _++_, leb, length}
+use Rattle.plan_writing.proofs.Ground.{take, drop, length-drop, drop-at, arith, mostNameBytes, rowAt, rowBytes, bytesBelow, all-same}
+use Rattle.plan_writing.proofs.Ground.{code-zero, sum-same, bytes-length, Bytes, solid, row-length, taskOf, sectionOf, lengthOf}
+use Rattle.plan_writing.proofs.Ground.{startOf, countsOk, uniqueOk, namesOk, sumsOk, TaskRow, SectionRow, Counts, Rows, known}
+use Rattle.plan_writing.proofs.Ground.{valuesTests, valuesCode}
+use Rattle.folds.proofs.Ground.{zero, suc, Bool, cond, not, eqb, take-add, getD-drop}
 use Rattle.folds.specs.Below.{allBelow}
-use Rattle.folds.specs.Bytes.{width, rowAt, rowBytes, bytesBelow}
-use Rattle.folds.proofs.Tests.{all-same, code-zero, code-next}
-use Rattle.folds.proofs.Figures.{sum-same}
-use Rattle.folds.proofs.Parts.{bytes-length}
-use Rattle.folds.proofs.RowLaws.{Bytes, solid, row-length, rows-back, rows-forth}
-use Rattle.plan_rules.specs.Rules.{taskOf, sectionOf, lengthOf, startOf, countsOk, tagNew, priorityNew, uniqueOk, lengthsOk, bytesOk, differ, nameNew, namesDiffer, namesOk, sectionSum, sumsOk}
-use Rattle.plan_rules.specs.declared.TaskRow.{TaskRow}
-use Rattle.plan_rules.specs.declared.SectionRow.{SectionRow}
-use Rattle.plan_rules.specs.declared.Counts.{Counts}
-use Rattle.plan_rules.specs.declared.Rows.{Rows}
+use Rattle.folds.specs.Bytes.{width}
+use Rattle.folds.proofs.Tests.{code-next}
+use Rattle.folds.proofs.RowLaws.{rows-back, rows-forth}
+use Rattle.plan_rules.specs.Rules.{tagNew, priorityNew, lengthsOk, bytesOk, differ, nameNew, namesDiffer, sectionSum}
 use Rattle.plan_rules.proofs.Laws.{Passed, tests-facts, tests-pass}
-use Rattle.plan_layout.specs.Editions.{known}
-use Rattle.plan_layout.specs.Layout.{valuesTests, valuesCode}
 
 -- values that keep every rule
 pub record Kept (c : Counts) (rows : Rows) (names : List ℕ) : Type 0 where

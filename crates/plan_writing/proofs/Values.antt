@@ -1,19 +1,16 @@
 -- The rows of values in a file: they stand at their places, and the checks of a file's parts say of them what the rules of values say.
-use Rattle.folds.proofs.Ground.{ℕ, _<_, true, false, _&&_, and-true, true≢false, _≡_, sym, ap, ap₂, _∙_, List, [], _++_, append-assoc, length, getD, drop, length-append, arith, eq-eqb}
-use Rattle.folds.specs.Bytes.{bytesBelow}
-use Rattle.folds.proofs.Tests.{all-from, all-same, is-not-true}
-use Rattle.folds.proofs.Figures.{sum-same}
-use Rattle.folds.proofs.RowLaws.{row-length}
-use Rattle.plan_rules.specs.Rules.{taskOf, sectionOf, lengthOf, startOf, countsOk, taskOk, sectionOk, tasksOk, tagsOk, uniqueOk, namesOk, sectionsOk, sumsOk, testsCode}
-use Rattle.plan_rules.specs.declared.TaskRow.{TaskRow}
-use Rattle.plan_rules.specs.declared.Counts.{Counts}
-use Rattle.plan_rules.specs.declared.Rows.{Rows}
-use Rattle.plan_rules.proofs.Laws.{InRange, counts-facts, tags-kept}
-use Rattle.plan_layout.specs.Editions.{Edition, formatOf}
-use Rattle.plan_layout.specs.Layout.{laid, tasksAt, resourcesAt, sectionsAt, namesAt, headerNumbers, sectionIn, sectionNumbers, resourceNumbers, taskAt, taskSpare, startAt, lengthAt, resourceSpare, sectionAt, taskRows, lengthRows, sectionRows, taskRowsOk, lengthRowsOk, sectionRowsOk, partsCode, fileCode, valuesTests}
-use Rattle.plan_layout.proofs.Editions.{faithful}
-use Rattle.plan_layout.proofs.Laws.{task-read, length-read, section-read}
-use Rattle.plan_writing.specs.Encode.{headerBytes, taskBytes, resourceBytes, sectionBytes, fileLength, fileOf}
+use Rattle.plan_writing.proofs.Ground.{ℕ, _<_, true, _&&_, _≡_, sym, ap, ap₂, _∙_, List, _++_, append-assoc, length, getD, drop}
+use Rattle.plan_writing.proofs.Ground.{length-append, arith, eq-eqb, bytesBelow, all-same, sum-same, row-length, taskOf, sectionOf}
+use Rattle.plan_writing.proofs.Ground.{lengthOf, startOf, countsOk, tagsOk, uniqueOk, namesOk, sumsOk, TaskRow, Counts, Rows}
+use Rattle.plan_writing.proofs.Ground.{InRange, counts-facts, tags-kept, Edition, formatOf, laid, tasksAt, resourcesAt, sectionsAt}
+use Rattle.plan_writing.proofs.Ground.{namesAt, headerNumbers, sectionNumbers, resourceNumbers, taskAt, taskSpare, startAt, lengthAt}
+use Rattle.plan_writing.proofs.Ground.{resourceSpare, sectionAt, taskRows, lengthRows, sectionRows, partsCode, valuesTests, faithful}
+use Rattle.plan_writing.proofs.Ground.{task-read, length-read, section-read, headerBytes, taskBytes, resourceBytes, sectionBytes}
+use Rattle.plan_writing.proofs.Ground.{fileLength, fileOf}
+use Rattle.folds.proofs.Ground.{false, and-true, true≢false, []}
+use Rattle.folds.proofs.Tests.{all-from, is-not-true}
+use Rattle.plan_rules.specs.Rules.{taskOk, sectionOk, tasksOk, sectionsOk, testsCode}
+use Rattle.plan_layout.specs.Layout.{sectionIn, taskRowsOk, lengthRowsOk, sectionRowsOk, fileCode}
 use Rattle.plan_writing.proofs.Same.{unique-same, sums-same, names-same, Stand, rows-length, rows-stand}
 
 -- the numbers in row i of each group

@@ -67,17 +67,17 @@ readBackOutcome c rows names room =
     outcome (writeCode c rows names room) (countValues c)
 
 -- copying a file by reading and writing it: 1 to 9 as reading does, then 10
-unfoldable pub copyCode : List ℕ → ℕ → ℕ
-copyCode f room = cond (eqb (refusal f) 0) (cond (leb (length f) room) 0 noRoom) (refusal f)
+unfoldable pub copyRefusal : List ℕ → ℕ → ℕ
+copyRefusal f room = cond (eqb (refusal f) 0) (cond (leb (length f) room) 0 noRoom) (refusal f)
 
 -- the answer of it
 unfoldable pub copying : List ℕ → ℕ → WriteAnswer
-copying f room = cond (eqb (copyCode f room) 0) (Written (length f)) (Refused (copyCode f room))
+copying f room = cond (eqb (copyRefusal f room) 0) (Written (length f)) (Refused (copyRefusal f room))
 
 -- what that tells
 abbrev pub copyOutcome : List ℕ → ℕ → Outcome
-copyOutcome f room = outcome (copyCode f room) (length f ∷ [])
+copyOutcome f room = outcome (copyRefusal f room) (length f ∷ [])
 
 -- the buffer after it: the same file, then what was behind; unchanged after a refusal
 unfoldable pub copied : List ℕ → List ℕ → List ℕ
-copied f buf = cond (eqb (copyCode f (length buf)) 0) (f ++ drop (length f) buf) buf
+copied f buf = cond (eqb (copyRefusal f (length buf)) 0) (f ++ drop (length f) buf) buf

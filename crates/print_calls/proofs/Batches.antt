@@ -1,20 +1,15 @@
 -- The lines of many calls, one more at a time.
-use Rattle.folds.proofs.Ground.{ℕ, _+_, _-_, _<_, _≤_, true, false, _&&_, true≢false, _≡_, refl, sym, ap, _∙_, _⊎_, inl, inr, List, [], _++_, leb, length, take, drop, length-take, length-drop, take-add, drop-drop, length-take-le, arith, leb-true, le-leb, lt-ltb}
-use Rattle.folds.proofs.Tests.{and-parts, first-zero, then-zero}
+use Rattle.print_calls.proofs.Ground.{ℕ, _+_, _-_, _<_, _≤_, true, false, _&&_, _≡_, refl, sym, _∙_, inl, inr, List, [], _++_}
+use Rattle.print_calls.proofs.Ground.{length, arith, first-zero, then-zero, State, CallBytes, callWidth, bytesAt, callIn}
+use Rattle.print_calls.proofs.Ground.{stateRefusal, AfterBytes, callLine, mostLine, Printed, none, more, linesCode, Written, Stepped}
+use Rattle.folds.proofs.Ground.{true≢false, ap, _⊎_, leb, take, drop, length-take, length-drop, take-add, drop-drop, length-take-le, leb-true, le-leb, lt-ltb}
+use Rattle.folds.proofs.Tests.{and-parts}
 use Rattle.folds.proofs.Searches.{on-le}
-use Rattle.machine_state.specs.declared.State.{State}
 use Rattle.print_text.specs.Text.{Put}
 use Rattle.print_text.proofs.TextLaws.{put-front, put-behind}
-use Rattle.machine_calls.specs.declared.CallBytes.{CallBytes}
-use Rattle.machine_calls.specs.Calls.{callWidth, bytesAt, callIn}
 use Rattle.machine_calls.proofs.Calls.{bytes-part}
-use Rattle.machine.specs.Replies.{stateRefusal}
-use Rattle.machine.specs.Inner.{AfterBytes}
 use Rattle.print_calls.specs.declared.Step.{Step}
-use Rattle.print_calls.specs.Calls.{callLine}
-use Rattle.print_lines.specs.Lines.{mostLine}
-use Rattle.print_calls.specs.Buffers.{Printed, none, more, linesCode, linesRefusal, Written, Batched}
-use Rattle.print_calls.specs.Inner.{Stepped}
+use Rattle.print_calls.specs.Buffers.{linesRefusal, Batched}
 
 -- nothing yet
 pub written-none : (f : List ℕ) (s : State) (calls out : List ℕ) → Written f s calls out out 0 0 s

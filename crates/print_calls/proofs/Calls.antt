@@ -1,18 +1,11 @@
 -- What the bytes of a call print and do, once it is known whether they are a call.
-use Rattle.folds.proofs.Ground.{ℕ, _≡_, refl, sym, _∙_, List, [], _∷_}
+use Rattle.print_calls.proofs.Ground.{ℕ, _≡_, refl, sym, _∙_, List, [], _∷_, Call, Answer, State, stateRefusal, reply, Surveyed}
+use Rattle.print_calls.proofs.Ground.{CallBytes, callIn, mostLine, callLine, Stepped}
 use Rattle.refusals.specs.Numbers.{noCall}
-use Rattle.machine_rules.specs.declared.Call.{Call}
-use Rattle.machine_rules.specs.declared.Answer.{Answer}
-use Rattle.machine_state.specs.declared.State.{State}
 use Rattle.print_text.specs.Text.{PutIn}
-use Rattle.machine.specs.Replies.{stateRefusal, reply, Next}
-use Rattle.machine.specs.Inner.{Surveyed}
+use Rattle.machine.specs.Replies.{Next}
 use Rattle.machine.proofs.Answered.{state-accepted}
-use Rattle.machine_calls.specs.declared.CallBytes.{CallBytes}
-use Rattle.machine_calls.specs.Calls.{callIn}
-use Rattle.print_lines.specs.Lines.{refusedLine, answerLine, mostLine}
-use Rattle.print_calls.specs.Calls.{callLine}
-use Rattle.print_calls.specs.Inner.{Stepped}
+use Rattle.print_lines.specs.Lines.{refusedLine, answerLine}
 
 -- a file that was looked at, where neither the plan nor the state is refused
 pub looked-at : {f t : List ℕ} (s : State) {code first : ℕ} → Surveyed f code t → first ≡ stateRefusal f s → first ≡ 0 → Surveyed f 0 t

@@ -1,3 +1,4 @@
+pub mod Ground
 pub mod Naming
 pub mod Calls
 pub mod Batches

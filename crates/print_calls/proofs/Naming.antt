@@ -1,23 +1,21 @@
 -- An answer that names a resource is one of a checked plan that has it, since the call was not refused.
-use Rattle.folds.proofs.Ground.{ℕ, _<_, Bool, true, false, cond, _&&_, _≡_, List, [], _∷_, eqb, length, getD}
-use Rattle.folds.proofs.Tests.{first-zero, then-zero}
+use Rattle.print_calls.proofs.Ground.{ℕ, _<_, true, false, _&&_, _≡_, List, [], _∷_, length, first-zero, then-zero, planOf, Call}
+use Rattle.print_calls.proofs.Ground.{State, stateRefusal, reply, CallBytes, callIn}
+use Rattle.folds.proofs.Ground.{Bool, cond, eqb, getD}
 use Rattle.folds.proofs.Arrays.{by-eq}
-use Rattle.plan_reading.specs.Plan.{planOf, Checked}
+use Rattle.plan_reading.specs.Plan.{Checked}
 use Rattle.plan.specs.Acceptance.{refusal}
 use Rattle.plan.proofs.Laws.{accepted-checked}
 use Rattle.analysis_equations.specs.Questions.{taskNumber, useCode}
 use Rattle.analysis_equations.proofs.Laws.{use-clear}
 use Rattle.queue_rules.specs.Rules.{Line, line, turn, released}
-use Rattle.machine_rules.specs.declared.Call.{Call}
 use Rattle.machine_rules.specs.declared.Call.the-variants.{Request, Release, Tick}
 use Rattle.machine_rules.specs.declared.Answer.the-variants.{Refused}
 use Rattle.machine_rules.specs.Machine.{terms, requestCode, callCode, requestAnswer, releaseAnswer, acceptedAnswer}
-use Rattle.machine_state.specs.declared.State.{State}
 use Rattle.machine_state.specs.Shows.{shows}
-use Rattle.machine.specs.Replies.{stateRefusal, callRefusal, reply}
+use Rattle.machine.specs.Replies.{callRefusal}
 use Rattle.machine.proofs.Freed.{release-resource}
-use Rattle.machine_calls.specs.declared.CallBytes.{CallBytes}
-use Rattle.machine_calls.specs.Calls.{callOf, callIn}
+use Rattle.machine_calls.specs.Calls.{callOf}
 use Rattle.print_lines.specs.Inner.{Nameable, Names}
 
 module _ (f : List ℕ) (q : ℕ) where

@@ -1,23 +1,17 @@
 -- The text that calls print, put together from pieces; and from a fresh machine on, that of the rules alone.
-use Rattle.folds.proofs.Ground.{ℕ, zero, suc, _+_, _*_, _≤_, _≡_, refl, sym, ap₂, _∙_, List, [], _∷_, _++_, append-assoc, append-nil, length, length-append, add-one, arith}
-use Rattle.plan_reading.specs.Plan.{planOf}
+use Rattle.print_calls.proofs.Ground.{ℕ, _+_, _≤_, _≡_, refl, sym, _∙_, List, [], _∷_, _++_, length, arith, planOf, Call, Answer}
+use Rattle.print_calls.proofs.Ground.{State, reply, CallBytes, callWidth, bytesAt, callIn, AfterBytes, callLine, Printed, none, more}
+use Rattle.folds.proofs.Ground.{zero, suc, _*_, ap₂, append-assoc, append-nil, length-append, add-one}
 use Rattle.plan.specs.Acceptance.{Accepted}
-use Rattle.machine_rules.specs.declared.Call.{Call}
-use Rattle.machine_rules.specs.declared.Answer.{Answer}
 use Rattle.machine_rules.specs.Machine.{fresh, answer, run}
-use Rattle.machine_state.specs.declared.State.{State}
 use Rattle.machine_state.specs.Shows.{freshState}
-use Rattle.machine.specs.Replies.{reply}
-use Rattle.machine_calls.specs.declared.CallBytes.{CallBytes}
-use Rattle.machine_calls.specs.Calls.{callWidth, bytesAt, callIn, callsBelow}
+use Rattle.machine_calls.specs.Calls.{callsBelow}
 use Rattle.machine_calls.proofs.Calls.{bytes-front, bytes-behind, calls-front}
 use Rattle.machine.specs.Promise.{Returned, started}
-use Rattle.machine.specs.Inner.{AfterBytes}
 use Rattle.machine.proofs.Bytes.{returned-step}
 use Rattle.machine.proofs.Kept.{fresh-is, returned-answers}
-use Rattle.print_calls.specs.Calls.{callText, callLine}
+use Rattle.print_calls.specs.Calls.{callText}
 use Rattle.print_calls.specs.Output.{lineAfter, linesBelow}
-use Rattle.print_calls.specs.Buffers.{Printed, none, more}
 
 -- a buffer with more room prints the same
 pub printed-room : {f : List ℕ} {s t : State} {calls text : List ℕ} (n m : ℕ) → n ≤ m → Printed f n s calls t text → Printed f m s calls t text
@@ -62,8 +56,9 @@ module _ (f : List ℕ) (k : Accepted f) where
       let b : CallBytes = bytesAt callWidth call 0 in
       let at : bytesAt callWidth (l ++ call) (n * callWidth) ≡ b = bytes-behind callWidth (omega arith) l call (n * callWidth) (h .long) in
       let front : callsBelow callWidth n (l ++ call) ≡ callsBelow callWidth n l = calls-front callWidth (omega arith) l call n room in
-      let told = λ (d : Call). returned-answers f k freshState fresh (fresh-is f k) (callsBelow callWidth n l) s d (h .returned) in
-      let line : callLine f s b ≡ lineAfter f (callsBelow callWidth n l) b = line-same f b (reply f s) _ told (callIn b) in
+      let line : callLine f s b ≡ lineAfter f (callsBelow callWidth n l) b =
+      line-same f b (reply f s) (answer (planOf f) (run (planOf f) (callsBelow callWidth n l)))
+      (λ d. returned-answers f k freshState fresh (fresh-is f k) (callsBelow callWidth n l) s d (h .returned)) (callIn b) in
       record {
         count = suc n;
         long = omega (arith, length-append l call, h .long);

@@ -8,9 +8,8 @@ use lib.Dec.{eqb, leb, ltb}
 use lib.ListN.{length, take, drop}
 use Rattle.refusals.specs.Numbers.{noRoom}
 use Rattle.machine_state.specs.declared.State.{State}
-use Rattle.machine.specs.Replies.{stateRefusal}
+use Rattle.machine.specs.Replies.{stateRefusal, AfterBytes}
 use Rattle.machine_calls.specs.Calls.{callWidth, bytesAt, callIn}
-use Rattle.machine.specs.Inner.{AfterBytes}
 use Rattle.print_lines.specs.Lines.{mostLine}
 use Rattle.print_calls.specs.declared.Batch.{Batch}
 use Rattle.print_calls.specs.Calls.{callLine}

@@ -6,7 +6,8 @@ use Rattle.machine_state.specs.declared.State.{State}
 use Rattle.print_text.specs.Text.{PutIn}
 use Rattle.machine_calls.specs.declared.CallBytes.{CallBytes}
 use Rattle.machine_calls.specs.Calls.{callIn}
-use Rattle.machine.specs.Inner.{Surveyed, AfterBytes}
+use Rattle.machine.specs.Inner.{Surveyed}
+use Rattle.machine.specs.Replies.{AfterBytes}
 use Rattle.print_calls.specs.declared.Step.{Step}
 use Rattle.print_calls.specs.Calls.{callLine}
 use Rattle.print_lines.specs.Lines.{mostLine}

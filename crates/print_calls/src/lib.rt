@@ -7,8 +7,7 @@ use print_lines::LINE;
 use print_text::Handed;
 ghost use mathlib.Core.Path.{_≡_};
 ghost use lib.ListN.{length};
-ghost use Rattle.machine.specs.Inner.{AfterBytes};
-ghost use Rattle.machine.specs.Replies.{stateRefusal};
+ghost use Rattle.machine.specs.Replies.{stateRefusal, AfterBytes};
 ghost use Rattle.machine_calls.specs.Calls.{callIn};
 ghost use Rattle.print_lines.specs.Lines.{planLine};
 ghost use Rattle.print_calls.specs.Calls.{callLine};
@@ -105,7 +104,7 @@ pub fn call_line(file: &[u8], state: State, bytes: CallBytes, out: &mut [u8]) ->
 {
     let mut figures = [0u16; analysis_figures::FIGURES];
     let code = machine::surveyed::look(file, &mut figures);
-    let first = machine::surveyed::state_code(file, code, &figures, state);
+    let first = machine::surveyed::state_refusal(file, code, &figures, state);
     if first != 0 {
         return no_line(first, state);
     }
@@ -154,7 +153,7 @@ pub fn lines(file: &[u8], state: State, calls: &[u8], out: &mut [u8]) -> Batch
 {
     let mut figures = [0u16; analysis_figures::FIGURES];
     let code = machine::surveyed::look(file, &mut figures);
-    let first = machine::surveyed::state_code(file, code, &figures, state);
+    let first = machine::surveyed::state_refusal(file, code, &figures, state);
     let refusal = lines_code(first, calls.len(), out.len());
     if refusal != 0 {
         return none_made(refusal, state);

@@ -1,5 +1,5 @@
 -- Lines as they are printed, by computing: document 01's, of a plan whose resource 0 has the name "bus".
-use Rattle.folds.proofs.Ground.{ℕ, _≡_, refl, List}
+use Rattle.print_lines.proofs.Ground.{ℕ, _≡_, refl, List}
 use Rattle.machine_rules.specs.declared.Answer.the-variants.{Granted, Waits, Next, Free, Ticked, Refused}
 use Rattle.print_text.specs.Text.{quoted, placesTo, decimals}
 use Rattle.plan_reading.specs.Plan.{namePart}

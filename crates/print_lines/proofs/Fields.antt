@@ -1,10 +1,11 @@
 -- Fields put one behind the other: what is put, and what is left.
-use Rattle.folds.proofs.Ground.{ℕ, _+_, _≤_, _≡_, refl, _∙_, List, [], _∷_, _++_, append-assoc, append-nil, length, arith}
+use Rattle.print_lines.proofs.Ground.{ℕ, _+_, _≤_, _≡_, refl, List, [], _∷_, length, arith, put-none, Number, Signed, fieldText}
+use Rattle.folds.proofs.Ground.{_∙_, _++_, append-assoc, append-nil}
 use Rattle.print_text.specs.Text.{Put, PutIn}
-use Rattle.print_text.proofs.TextLaws.{put-none, put-then}
+use Rattle.print_text.proofs.TextLaws.{put-then}
 use Rattle.print_lines.specs.declared.Field.{Field}
-use Rattle.print_lines.specs.declared.Field.the-variants.{Number, Signed, Name, Says, None}
-use Rattle.print_lines.specs.Inner.{fieldText, fieldsText, roomOf, roomsOf, Asking, AllNamed}
+use Rattle.print_lines.specs.declared.Field.the-variants.{Name, Says, None}
+use Rattle.print_lines.specs.Inner.{fieldsText, roomOf, roomsOf, Asking, AllNamed}
 
 -- a field asks for itself, and then for the others
 asks-both : (others : Type 0) (f : List ℕ) (x : Field) → Asking f x others → Asking f x (Unit {0}) × others

@@ -1,2 +1,3 @@
+pub mod Ground
 pub mod Fields
 pub mod Examples

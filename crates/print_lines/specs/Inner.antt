@@ -25,7 +25,7 @@ Names f q (Waits ahead most) = Nameable f q
 Names f q (Next tag) = Nameable f q
 Names f q Freed = Nameable f q
 Names f q (Ticked cuts grants) = Unit {0}
-Names f q (Refused k) = Unit {0}
+Names f q (Refused code) = Unit {0}
 
 -- what a word says
 abbrev pub wordText : Word → List ℕ

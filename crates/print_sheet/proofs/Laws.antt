@@ -1,26 +1,26 @@
 -- Which lines of a sheet are left out, and what the tables tell of them.
-use Rattle.folds.proofs.Ground.{ℕ, Bool, true, false, cond, and-false, _&&_, not, _≡_, refl, sym, _∙_, List, [], eqb, arith, eq-eqb, ne-eqb, not-true, not-false}
+use Rattle.print_sheet.proofs.Ground.{ℕ, Bool, true, false, _&&_, not, _≡_, refl, sym, _∙_, List, eqb, arith, anyBelow, planOf}
+use Rattle.print_sheet.proofs.Ground.{Valid, usedOn, global, holdAt, globalCount, requirementLine, requirementAt, requirementRoom}
+use Rattle.print_sheet.proofs.Ground.{passes}
+use Rattle.folds.proofs.Ground.{cond, and-false, [], eq-eqb, ne-eqb, not-true, not-false}
 use mathlib.Core.Bool.{Bool·not-not}
-use Rattle.folds.specs.Below.{anyBelow}
 use Rattle.folds.proofs.Tests.{and-parts, any-same, any-none}
 use Rattle.print_text.specs.Text.{PutIn}
 use Rattle.print_text.proofs.TextLaws.{put-none, put-in}
 use Rattle.plan_rules.specs.declared.Counts.{Counts}
 use Rattle.plan_rules.specs.declared.TaskRow.{TaskRow}
 use Rattle.plan_layout.specs.Layout.{countsOf}
-use Rattle.plan_reading.specs.Plan.{Plan, planOf, Valid}
+use Rattle.plan_reading.specs.Plan.{Plan}
 use Rattle.plan_reading.specs.Inner.{Counted}
-use Rattle.analysis_equations.specs.Sharing.{processorOf, uses, usedOn, global}
-use Rattle.analysis_equations.specs.HoldTimes.{holdTime, holdAt}
-use Rattle.analysis_equations.specs.Blocking.{globalCount}
+use Rattle.analysis_equations.specs.Sharing.{processorOf, uses}
+use Rattle.analysis_equations.specs.HoldTimes.{holdTime}
 use Rattle.analysis_equations.proofs.Laws.{asks-not, asks-some, hold-zero, hold-shared}
 use Rattle.analysis_requirements.specs.declared.Requirement.{Requirement}
 use Rattle.analysis_requirements.specs.Figures.{requirementOf}
 use Rattle.print_lines.specs.declared.Word.{Word}
 use Rattle.print_lines.specs.Lines.{planLine}
 use Rattle.print_lines.specs.Inner.{wordText}
-use Rattle.print_sheet.specs.Sheet.{requirementLine, requirementAt}
-use Rattle.print_sheet.specs.Inner.{requirementRoom, passes, PutAll}
+use Rattle.print_sheet.specs.Inner.{PutAll}
 
 -- the text of one of two words
 pub either-text : (first : Bool) (x y : Word) → wordText (cond first x y) ≡ cond first (wordText x) (wordText y)

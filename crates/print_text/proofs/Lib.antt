@@ -1,3 +1,4 @@
+pub mod Ground
 pub mod TextLaws
 pub mod Turns
 pub mod Lines

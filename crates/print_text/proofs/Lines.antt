@@ -1,8 +1,9 @@
 -- Texts at the front of a lent buffer: one that is too short for them, and one that is long enough.
-use Rattle.folds.proofs.Ground.{ℕ, _-_, _<_, _≤_, Bool, true, false, cond, _≡_, refl, sym, ap, _∙_, List, [], leb, length, take, drop, zero-add, arith, leb-true, le-leb, lt-leb, eq-eqb, ne-eqb}
+use Rattle.print_text.proofs.Ground.{ℕ, _-_, _<_, _≤_, Bool, true, false, cond, _≡_, refl, sym, ap, _∙_, List, [], length, take}
+use Rattle.print_text.proofs.Ground.{drop, zero-add, arith, Put}
+use Rattle.folds.proofs.Ground.{leb, leb-true, le-leb, lt-leb, eq-eqb, ne-eqb}
 use Rattle.refusals.specs.Numbers.{noRoom}
 use Rattle.print_text.specs.declared.Handed.{Handed}
-use Rattle.print_text.specs.Text.{Put}
 use Rattle.print_text.specs.Buffers.{handed, bufferWith, handedUnless, bufferUnless}
 use Rattle.print_text.proofs.TextLaws.{put-front}
 

@@ -1,10 +1,10 @@
 -- Laws of text in a buffer, for the crates that put several texts one after the other; and what shows that `decimal` is decimal.
-use Rattle.folds.proofs.Ground.{ℕ, zero, suc, _+_, _-_, _*_, _/_, _%_, _^_, _<_, _≤_, Bool, true, false, cond, _≡_, refl, sym, ap, _∙_, ⊎-elim, List, [], _∷_, _++_, append-assoc, append-nil, ltb, length, getD, take, drop, length-append, length-drop, take-append-drop, drop-of-length-le, List·getD-append, length-take-le, take-all, take-append-seam, drop-append-add, drop-drop, drop-nil, getD-at, zero-add, suc-add, add-zero, not-suc-le-zero, eq-or-lt-of-le, le-of-suc-le-suc, arith, ltb-true, ltb-false, lt-ltb}
-use lib.IntN.{ℤ, pos, negsuc}
-use mir.Syntax.{w64}
-use mir.Val.{SFits, toZ, ofZ}
-use mir.Facts.{toZ-ofZ}
-use Rattle.print_text.specs.Text.{quoted, placesTo, decimals, decimal, signed, valueFrom, valueOf, Put, PutIn}
+use Rattle.print_text.proofs.Ground.{ℕ, zero, suc, _+_, _-_, _*_, _/_, _%_, _^_, _<_, _≤_, Bool, true, false, cond, _≡_, refl, sym}
+use Rattle.print_text.proofs.Ground.{ap, _∙_, List, [], _∷_, _++_, append-assoc, length, take, drop, take-append-drop, zero-add}
+use Rattle.print_text.proofs.Ground.{add-zero, not-suc-le-zero, arith, ltb-true, ℤ, pos, negsuc, w64, SFits, toZ, ofZ, toZ-ofZ}
+use Rattle.print_text.proofs.Ground.{quoted, placesTo, decimals, decimal, signed, Put, PutIn}
+use Rattle.folds.proofs.Ground.{⊎-elim, append-nil, ltb, getD, length-append, length-drop, drop-of-length-le, List·getD-append, length-take-le, take-all, take-append-seam, drop-append-add, drop-drop, drop-nil, getD-at, suc-add, eq-or-lt-of-le, le-of-suc-le-suc, ltb-false, lt-ltb}
+use Rattle.print_text.specs.Text.{valueFrom, valueOf}
 
 -- what a buffer holds up to where a text ends, and from there on; the place may lie behind the buffer's end too
 front : (at : ℕ) (l a : List ℕ) → take (at + length a) (take at l ++ (a ++ drop (at + length a) l)) ≡ take at l ++ a

@@ -1,7 +1,8 @@
 -- A loop that puts one text behind the other, each no longer than `width`: the texts of the numbers below its counter. It ends at
 -- `count`, which is at most `most`, and there is room for so many.
-use Rattle.folds.proofs.Ground.{ℕ, _+_, _*_, _<_, _≤_, _≡_, refl, _∙_, List, length, suc-mul, mul-le-mul-right, add-one, arith}
-use Rattle.print_text.specs.Text.{textBelow, Put, PutIn}
+use Rattle.print_text.proofs.Ground.{ℕ, _+_, _*_, _<_, _≤_, _≡_, refl, _∙_, List, length, add-one, arith, Put, PutIn}
+use Rattle.folds.proofs.Ground.{suc-mul, mul-le-mul-right}
+use Rattle.print_text.specs.Text.{textBelow}
 use Rattle.print_text.proofs.TextLaws.{put-none, put-then}
 
 -- what is in a buffer after n turns

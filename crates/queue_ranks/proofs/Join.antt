@@ -1,10 +1,9 @@
 -- Task i joins: the rules' line after it, over ranks and slots.
-use Rattle.folds.proofs.Ground.{ℕ, zero, suc, _+_, _-_, _<_, _≤_, _≡_, refl, sym, ap, ap₂, _∙_, _≢_, List, [], _∷_, _++_, eqb, le-antisymm, add-one, arith, eq-eqb, ne-eqb}
-use Rattle.folds.specs.Below.{maxBelow}
-use Rattle.folds.proofs.Figures.{max-at, max-bound}
-use Rattle.queue_rules.specs.Rules.{Terms, Turn, turn, line, join, entered}
-use Rattle.queue_ranks.specs.Ranks.{listFrom, taskRanked, othersOf, turnOf, queueFrom}
-use Rattle.folds.proofs.Searches.{on-eq, find-same, find-is}
+use Rattle.queue_ranks.proofs.Ground.{ℕ, zero, suc, _+_, _-_, _<_, _≤_, _≡_, refl, sym, ap, ap₂, _∙_, _≢_, List, [], _∷_, _++_, eqb}
+use Rattle.queue_ranks.proofs.Ground.{le-antisymm, add-one, arith, eq-eqb, ne-eqb, maxBelow, max-at, max-bound, Terms, Turn, turn}
+use Rattle.queue_ranks.proofs.Ground.{line, listFrom, taskRanked, othersOf, turnOf, queueFrom, on-eq, find-same}
+use Rattle.queue_rules.specs.Rules.{join, entered}
+use Rattle.folds.proofs.Searches.{find-is}
 use Rattle.queue_ranks.proofs.Lists.{list-first, list-same, list-snoc}
 use Rattle.queue_ranks.proofs.Ranked.{At, Queued}
 use Rattle.queue_ranks.proofs.Same.{other-turn}

@@ -1,10 +1,6 @@
 -- A line that is sound stays so when a task joins.
-use Rattle.folds.proofs.Ground.{ℕ, _+_, _-_, _<_, _≤_, _≡_, sym, ap, _∙_, add-one, arith}
-use Rattle.folds.specs.Below.{maxBelow}
-use Rattle.folds.proofs.Figures.{max-at}
-use Rattle.queue_rules.specs.Rules.{Terms}
-use Rattle.queue_ranks.specs.Ranks.{taskRanked}
-use Rattle.folds.proofs.Searches.{on-eq}
+use Rattle.queue_ranks.proofs.Ground.{ℕ, _+_, _-_, _<_, _≤_, _≡_, sym, ap, _∙_, add-one, arith, maxBelow, max-at, Terms, taskRanked}
+use Rattle.queue_ranks.proofs.Ground.{on-eq}
 use Rattle.queue_ranks.proofs.Ranked.{Ranked, Queued, Timed, held-timed, owner, ranked-at, sole, full}
 use Rattle.queue_ranks.proofs.Same.{other-ranked, other-max, other-task}
 use Rattle.queue_ranks.proofs.Slots.{slots-stay, slots-last}

@@ -1,11 +1,9 @@
 -- The first task of the head leaves, or a head begins: the rules' line after it, over ranks and slots.
-use Rattle.folds.proofs.Ground.{ℕ, suc, _-_, _<_, _≤_, Bool, cond, _≡_, sym, ap, _∙_, _≢_, List, [], _∷_, _++_, eqb, arith, le-leb, lt-leb}
-use Rattle.folds.specs.Below.{maxBelow}
-use Rattle.folds.proofs.Figures.{max-at, max-bound}
-use Rattle.folds.proofs.Arrays.{by-eq}
-use Rattle.queue_rules.specs.Rules.{Terms, Turn, line, begin, leave, ticked}
-use Rattle.queue_ranks.specs.Ranks.{listFrom, taskRanked, othersOf, turnOf, queueFrom}
-use Rattle.folds.proofs.Searches.{find-same, same-eqb}
+use Rattle.queue_ranks.proofs.Ground.{ℕ, suc, _-_, _<_, _≤_, Bool, cond, _≡_, sym, ap, _∙_, _≢_, List, [], _∷_, _++_, eqb, arith}
+use Rattle.queue_ranks.proofs.Ground.{le-leb, lt-leb, maxBelow, max-at, max-bound, by-eq, Terms, Turn, line, listFrom, taskRanked}
+use Rattle.queue_ranks.proofs.Ground.{othersOf, turnOf, queueFrom, find-same}
+use Rattle.queue_rules.specs.Rules.{begin, leave, ticked}
+use Rattle.folds.proofs.Searches.{same-eqb}
 use Rattle.queue_ranks.proofs.Lists.{list-first, list-same, list-shift, list-snoc}
 use Rattle.queue_ranks.proofs.Ranked.{Queued}
 use Rattle.queue_ranks.proofs.Same.{other-task, other-turn}

@@ -1,9 +1,5 @@
 -- A line that is sound stays so when the first task of the head leaves, and is when a head begins.
-use Rattle.folds.proofs.Ground.{ℕ, suc, _-_, _<_, _≤_, _≡_, refl, ap, _∙_, arith}
-use Rattle.folds.specs.Below.{maxBelow}
-use Rattle.queue_rules.specs.Rules.{Terms}
-use Rattle.queue_rules.proofs.Sound.{Clock}
-use Rattle.queue_ranks.specs.Ranks.{taskRanked}
+use Rattle.queue_ranks.proofs.Ground.{ℕ, suc, _-_, _<_, _≤_, _≡_, refl, ap, _∙_, arith, maxBelow, Terms, Clock, taskRanked}
 use Rattle.queue_ranks.proofs.Ranked.{Ranked, Queued, Timed, held-timed, task-rank, owner, ranked-at, sole, full}
 use Rattle.queue_ranks.proofs.Same.{other-ranked, other-max}
 use Rattle.queue_ranks.proofs.Slots.{slots-stay, slots-first, slots-back}

@@ -1,3 +1,4 @@
+pub mod Ground
 pub mod Lists
 pub mod Ranked
 pub mod Same

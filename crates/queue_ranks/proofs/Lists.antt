@@ -1,6 +1,6 @@
 -- Laws of listFrom.
-use Rattle.folds.proofs.Ground.{ℕ, zero, suc, _+_, _-_, _<_, _≤_, _≡_, refl, ap, ap₂, List, [], _∷_, _++_, length, getD, arith}
-use Rattle.queue_ranks.specs.Ranks.{listFrom}
+use Rattle.queue_ranks.proofs.Ground.{ℕ, zero, suc, _+_, _-_, _<_, _≤_, _≡_, refl, ap, ap₂, List, [], _∷_, _++_, arith, listFrom}
+use Rattle.folds.proofs.Ground.{length, getD}
 
 module _ {A : Type 0} where
   -- functions that agree on the numbers of a list give one list

@@ -1,13 +1,9 @@
 -- What a sound line is, over ranks and slots.
-use Rattle.folds.proofs.Ground.{ℕ, zero, suc, _+_, _-_, _<_, _≤_, Bool, cond, _≡_, sym, ap, _∙_, _≢_, eqb, ltb, le-antisymm, arith, eqb-true, eq-eqb, lt-ltb, le-ltb}
-use Rattle.folds.specs.Below.{maxBelow}
-use Rattle.folds.proofs.Figures.{max-at, max-bound}
+use Rattle.queue_ranks.proofs.Ground.{ℕ, zero, suc, _+_, _-_, _<_, _≤_, Bool, cond, _≡_, sym, ap, _∙_, _≢_, eqb, le-antisymm, arith}
+use Rattle.queue_ranks.proofs.Ground.{eqb-true, eq-eqb, maxBelow, max-at, max-bound, by-eq, Terms, Clock, taskRanked, on-eq, on-le}
+use Rattle.folds.proofs.Ground.{ltb, lt-ltb, le-ltb}
 use Rattle.folds.proofs.Ranges.{max-where-bound, max-where-at}
-use Rattle.folds.proofs.Arrays.{by-eq}
-use Rattle.queue_rules.specs.Rules.{Terms}
-use Rattle.queue_rules.proofs.Sound.{Clock}
-use Rattle.queue_ranks.specs.Ranks.{taskRanked}
-use Rattle.folds.proofs.Searches.{on-eq, on-le, find-passes, find-first, pigeon}
+use Rattle.folds.proofs.Searches.{find-passes, find-first, pigeon}
 
 -- a place of the queue at which processor k stands
 pub record At (c : ℕ) (g : ℕ → ℕ) (k : ℕ) : Type 0 where

@@ -1,15 +1,13 @@
 -- What a sound line shows: a proper queue, the tasks of each processor, and who stands in line.
-use Rattle.folds.proofs.Ground.{ℕ, zero, suc, _+_, _<_, _≤_, Bool, true, false, cond, _||_, or-true, true≢false, _≡_, refl, sym, ap, _∙_, _≢_, List, _∷_, eqb, leb, arith, eqb-true, eq-eqb, ne-eqb, le-leb, lt-leb}
-use Rattle.folds.specs.Below.{maxBelow}
+use Rattle.queue_ranks.proofs.Ground.{ℕ, zero, suc, _+_, _<_, _≤_, Bool, cond, _≡_, refl, sym, ap, _∙_, _≢_, List, _∷_, eqb, arith}
+use Rattle.queue_ranks.proofs.Ground.{eqb-true, eq-eqb, ne-eqb, le-leb, lt-leb, maxBelow, max-at, by-eq, Terms, line, listFrom}
+use Rattle.queue_ranks.proofs.Ground.{taskRanked, othersOf, turnOf, queueFrom, on-eq, on-le}
+use Rattle.folds.proofs.Ground.{true, false, _||_, or-true, true≢false, leb}
 use Rattle.folds.proofs.Tests.{or-out, is-not-true}
-use Rattle.folds.proofs.Figures.{max-at}
-use Rattle.folds.proofs.Arrays.{by-eq}
-use Rattle.queue_rules.specs.Rules.{Terms, line, among, standsIn, hasTurn, tasksOf, holds}
+use Rattle.queue_rules.specs.Rules.{among, standsIn, hasTurn, tasksOf, holds}
 use Rattle.queue_rules.proofs.Sound.{Owns, Proper, nobody, stands}
 use Rattle.queue_rules.proofs.FirstCome.{no-tasks}
 use Rattle.queue_rules.proofs.Own.{own-stands}
-use Rattle.queue_ranks.specs.Ranks.{listFrom, taskRanked, othersOf, turnOf, queueFrom}
-use Rattle.folds.proofs.Searches.{on-eq, on-le}
 use Rattle.queue_ranks.proofs.Lists.{list-first}
 use Rattle.queue_ranks.proofs.Ranked.{At, Ranked, Queued, task-rank, ranked-at, full}
 

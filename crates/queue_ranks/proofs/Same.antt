@@ -1,10 +1,7 @@
 -- Ranks and slots that agree: they show one queue, and are sound together.
-use Rattle.folds.proofs.Ground.{ℕ, _-_, _<_, _≡_, sym, ap, ap₂, _∙_, _≢_, List, eqb}
-use Rattle.folds.specs.Below.{maxBelow}
+use Rattle.queue_ranks.proofs.Ground.{ℕ, _-_, _<_, _≡_, sym, ap, ap₂, _∙_, _≢_, List, eqb, maxBelow, Terms, turn, taskRanked}
+use Rattle.queue_ranks.proofs.Ground.{othersOf, turnOf, queueFrom, on-eq, find-same}
 use Rattle.folds.proofs.Figures.{max-same}
-use Rattle.queue_rules.specs.Rules.{Terms, turn}
-use Rattle.queue_ranks.specs.Ranks.{taskRanked, othersOf, turnOf, queueFrom}
-use Rattle.folds.proofs.Searches.{on-eq, find-same}
 use Rattle.queue_ranks.proofs.Lists.{list-same}
 use Rattle.queue_ranks.proofs.Ranked.{At, Ranked, RankedAt, Queued, Timed, ranked-each, ranked-at}
 

@@ -1,8 +1,6 @@
 -- The queue of processors when a move changes the tasks of one processor k: k stays where it is, comes to the tail, or goes from the front.
-use Rattle.folds.proofs.Ground.{ℕ, zero, suc, _<_, _≤_, cond, _≡_, refl, sym, ap, _∙_, _≢_, eqb, arith, eq-eqb, ne-eqb}
-use Rattle.folds.specs.Below.{maxBelow}
-use Rattle.folds.proofs.Figures.{max-bound}
-use Rattle.folds.proofs.Searches.{on-eq}
+use Rattle.queue_ranks.proofs.Ground.{ℕ, zero, suc, _<_, _≤_, cond, _≡_, refl, sym, ap, _∙_, _≢_, eqb, arith, eq-eqb, ne-eqb}
+use Rattle.queue_ranks.proofs.Ground.{maxBelow, max-bound, on-eq}
 use Rattle.queue_ranks.proofs.Ranked.{At, Queued}
 
 module _ {n m : ℕ} {R S : ℕ → ℕ → ℕ} {k : ℕ} (others : (l : ℕ) → l ≢ k → maxBelow n (R l) ≡ maxBelow n (S l)) where

@@ -1,6 +1,8 @@
 -- Proofs by cases: the outcomes of a test, and the two ways on when a task leaves.
-use Rattle.folds.proofs.Ground.{ℕ, _≤_, Bool, true, false, cond, _||_, true≢false, _≡_, refl, List, _∷_, leb, leb-true}
-use Rattle.queue_rules.specs.Rules.{Terms, Turn, turn, Line, goOn, sendBack, leave}
+use Rattle.queue_rules.proofs.Ground.{ℕ, _≤_, Bool, true, false, cond, _||_, true≢false, _≡_, refl, List, _∷_, Terms, Turn, turn}
+use Rattle.queue_rules.proofs.Ground.{Line, sendBack, leave}
+use Rattle.folds.proofs.Ground.{leb, leb-true}
+use Rattle.queue_rules.specs.Rules.{goOn}
 
 -- a proof for each outcome of a test
 pub by-bool : (P : Bool → Type 0) (b : Bool) → (b ≡ true → P true) → (b ≡ false → P false) → P b

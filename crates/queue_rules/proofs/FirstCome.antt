@@ -1,9 +1,9 @@
 -- "first come first served": who comes stands behind the tasks of its processor that are in line; when the first task of the head
 -- leaves, those of each processor stay in their order, also of one that is sent to the tail.
-use Rattle.folds.proofs.Ground.{ℕ, Bool, true, false, cond, _||_, or-false, or-true, or-assoc, _≡_, refl, sym, _∙_, List, [], _∷_, _++_, eqb, eqb-true, eqb-false, eq-eqb, ne-eqb}
-use Rattle.folds.proofs.Arrays.{by-eq}
+use Rattle.queue_rules.proofs.Ground.{ℕ, Bool, true, false, cond, _||_, or-false, or-true, or-assoc, _≡_, refl, sym, _∙_, List, []}
+use Rattle.queue_rules.proofs.Ground.{_∷_, _++_, eqb, eqb-true, eqb-false, eq-eqb, ne-eqb, by-eq, Terms, Turn, turn, Line, line}
+use Rattle.queue_rules.proofs.Ground.{queueOf, among, standsIn, holds, hasTurn, tasksOf, begin, join, entered, sendBack, leave}
 use Rattle.folds.proofs.Searches.{on-eq}
-use Rattle.queue_rules.specs.Rules.{Terms, Turn, turn, Line, line, queueOf, among, standsIn, holds, hasTurn, tasksOf, begin, join, entered, sendBack, leave}
 use Rattle.queue_rules.proofs.Cases.{by-test, by-leave, or-no}
 use Rattle.queue_rules.proofs.Sound.{among-last}
 

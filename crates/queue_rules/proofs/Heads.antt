@@ -1,7 +1,7 @@
 -- A processor that is queued is kept until it is head: at most its wait time.
-use Rattle.folds.proofs.Ground.{ℕ, Bool, true, false, cond, _||_, true≢false, _≡_, sym, List, _∷_, [], arith, eqb-false}
-use Rattle.folds.proofs.Arrays.{by-eq}
-use Rattle.queue_rules.specs.Rules.{Terms, Turn, turn, Line, queueOf, isHead, queued, hasTurn, tasksOf}
+use Rattle.queue_rules.proofs.Ground.{ℕ, Bool, true, false, cond, _||_, true≢false, _≡_, sym, List, _∷_, [], arith, eqb-false, by-eq}
+use Rattle.queue_rules.proofs.Ground.{Terms, Turn, turn, Line, queueOf, hasTurn, tasksOf}
+use Rattle.queue_rules.specs.Rules.{isHead, queued}
 use Rattle.queue_rules.proofs.Sound.{Fits, Sound}
 use Rattle.queue_rules.proofs.Kept.{Kept, Waiting, kept-bound}
 

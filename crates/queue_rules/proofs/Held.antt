@@ -1,7 +1,7 @@
 -- A line that one task holds since it came, while tasks of one other processor wait: who comes to it next waits behind them, for the
 -- first of them made its processor the second in the queue, and nobody has left.
-use Rattle.folds.proofs.Ground.{ℕ, false, _≡_, refl, List, [], _∷_, _++_, eq-eqb, ne-eqb}
-use Rattle.queue_rules.specs.Rules.{Terms, Turn, turn, Line, line, queueOf, among, inLine, tasksOf, entered}
+use Rattle.queue_rules.proofs.Ground.{ℕ, false, _≡_, refl, List, [], _∷_, _++_, eq-eqb, ne-eqb, Terms, Turn, turn, Line, line}
+use Rattle.queue_rules.proofs.Ground.{queueOf, among, inLine, tasksOf, entered}
 
 -- a turn of processor k with these tasks, none where there are no tasks
 abbrev pub behind : ℕ → List ℕ → List Turn

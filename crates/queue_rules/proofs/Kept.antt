@@ -1,8 +1,8 @@
 -- How long somebody of processor k is still kept from the resource: a bound that no move raises and a tick lowers. Said once, for a
 -- task (Waiting) and for a processor (Heads): who is kept is told by `Own`, its bound in the tasks of k, and by `done`.
-use Rattle.folds.proofs.Ground.{ℕ, _+_, _-_, _≤_, _<_, Bool, false, cond, _≡_, ap, List, [], _∷_, _++_, eqb, arith}
-use Rattle.folds.proofs.Arrays.{by-eq}
-use Rattle.queue_rules.specs.Rules.{Terms, Turn, turn, Line, line, queueOf, tasksOf, begin, join, entered, cut, leave, released, ticked}
+use Rattle.queue_rules.proofs.Ground.{ℕ, _+_, _-_, _≤_, _<_, Bool, false, cond, _≡_, ap, List, [], _∷_, _++_, eqb, arith, by-eq}
+use Rattle.queue_rules.proofs.Ground.{Terms, Turn, turn, Line, line, queueOf, tasksOf, begin, join, entered, leave, released, ticked}
+use Rattle.queue_rules.specs.Rules.{cut}
 use Rattle.queue_rules.proofs.Cases.{by-test, by-leave}
 use Rattle.queue_rules.proofs.Sound.{Fits, load, but, load-but, Proper, stands, Sound, is-free, is-held, load-le}
 

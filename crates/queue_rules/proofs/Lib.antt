@@ -1,3 +1,4 @@
+pub mod Ground
 pub mod Cases
 pub mod FirstCome
 pub mod Sound

@@ -1,9 +1,9 @@
 -- The list of the tasks below a count that pass a test: who is in it, how many they are, and sums over them.
-use Rattle.folds.proofs.Ground.{ℕ, zero, suc, _+_, _<_, Bool, true, cond, true≢false, _≡_, refl, sym, _∙_, List, [], _∷_, _++_, append-nil, eqb, length, arith, eqb-true}
-use Rattle.folds.specs.Below.{countBelow, sumBelow, listBelow}
-use Rattle.folds.proofs.Tests.{or-out}
+use Rattle.queue_rules.proofs.Ground.{ℕ, _+_, _<_, Bool, true, cond, true≢false, _≡_, refl, sym, _∙_, List, [], _∷_, _++_, eqb}
+use Rattle.queue_rules.proofs.Ground.{length, arith, eqb-true, sumBelow, listBelow, or-out, among, sumOf}
+use Rattle.folds.proofs.Ground.{zero, suc, append-nil}
+use Rattle.folds.specs.Below.{countBelow}
 use Rattle.folds.proofs.Figures.{sum-count}
-use Rattle.queue_rules.specs.Rules.{among, sumOf}
 use Rattle.queue_rules.proofs.Cases.{by-bool, by-test}
 use Rattle.queue_rules.proofs.Sound.{among-last}
 

@@ -1,8 +1,7 @@
 -- Each move of the rules keeps a line sound.
-use Rattle.folds.proofs.Ground.{ℕ, _-_, _≤_, _<_, Bool, true, false, cond, or-true, true≢false, _≡_, refl, sym, ap, List, [], _∷_, _++_, eqb, arith, eqb-true, eqb-false, eq-eqb, ne-eqb}
-use Rattle.folds.proofs.Tests.{or-out}
-use Rattle.folds.proofs.Arrays.{by-eq}
-use Rattle.queue_rules.specs.Rules.{Terms, Turn, turn, Line, line, among, hasTurn, begin, join, entered, leave, released, ticked}
+use Rattle.queue_rules.proofs.Ground.{ℕ, _-_, _≤_, _<_, Bool, true, false, cond, or-true, true≢false, _≡_, refl, sym, ap, List, []}
+use Rattle.queue_rules.proofs.Ground.{_∷_, _++_, eqb, arith, eqb-true, eqb-false, eq-eqb, ne-eqb, or-out, by-eq, Terms, Turn, turn}
+use Rattle.queue_rules.proofs.Ground.{Line, line, among, hasTurn, begin, join, entered, leave, released, ticked}
 use Rattle.queue_rules.proofs.Cases.{by-test, by-leave, or-no}
 use Rattle.queue_rules.proofs.Sound.{Fits, among-last, Clock, Owns, Proper, nobody, stands, Sound, is-free, is-held}
 

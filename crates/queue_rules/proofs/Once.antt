@@ -1,10 +1,10 @@
 -- Nobody stands in line twice, so the tasks ahead of one are at most all those that may be: a sum over them is at most the sum over
 -- all.
-use Rattle.folds.proofs.Ground.{ℕ, _+_, _*_, _-_, _≤_, _<_, Bool, true, false, cond, _||_, or-true, true≢false, _≡_, refl, sym, ap, _∙_, List, [], _∷_, _++_, eqb, length, mul-le-mul, arith, eq-eqb, eqb-true, eqb-false, ne-eqb}
-use Rattle.folds.specs.Below.{sumBelow, listBelow}
-use Rattle.folds.proofs.Tests.{or-out, is-not-true}
-use Rattle.folds.proofs.Arrays.{by-eq}
-use Rattle.queue_rules.specs.Rules.{Terms, Turn, turn, Line, line, among, standsIn, tasksOf, queueOf, aheadOf, sumOf, join, entered, leave, released, ticked, limit}
+use Rattle.queue_rules.proofs.Ground.{ℕ, _+_, _*_, _-_, _≤_, _<_, Bool, true, false, cond, _||_, or-true, true≢false, _≡_, refl, sym}
+use Rattle.queue_rules.proofs.Ground.{ap, _∙_, List, [], _∷_, _++_, eqb, length, arith, eq-eqb, eqb-true, eqb-false, ne-eqb}
+use Rattle.queue_rules.proofs.Ground.{sumBelow, listBelow, or-out, is-not-true, by-eq, Terms, Turn, turn, Line, line, among}
+use Rattle.queue_rules.proofs.Ground.{standsIn, tasksOf, queueOf, aheadOf, sumOf, join, entered, leave, released, ticked, limit}
+use Rattle.folds.proofs.Ground.{mul-le-mul}
 use Rattle.queue_rules.proofs.Cases.{by-test, by-leave, or-no}
 use Rattle.queue_rules.proofs.Sound.{among-last, but, but-lt, Proper, nobody, stands}
 use Rattle.queue_rules.proofs.FirstCome.{entered-queue, begun-queue}

@@ -1,8 +1,6 @@
 -- In a proper queue a task is in line where it is among the tasks of its own processor.
-use Rattle.folds.proofs.Ground.{ℕ, Bool, cond, _||_, or-false, _≡_, refl, sym, List, _∷_}
-use Rattle.folds.proofs.Tests.{is-not-true}
-use Rattle.folds.proofs.Arrays.{by-eq}
-use Rattle.queue_rules.specs.Rules.{Terms, Turn, among, standsIn, tasksOf}
+use Rattle.queue_rules.proofs.Ground.{ℕ, Bool, cond, _||_, or-false, _≡_, refl, sym, List, _∷_, is-not-true, by-eq, Terms, Turn}
+use Rattle.queue_rules.proofs.Ground.{among, standsIn, tasksOf}
 use Rattle.queue_rules.proofs.Sound.{Proper, nobody, stands}
 use Rattle.queue_rules.proofs.FirstCome.{no-tasks}
 

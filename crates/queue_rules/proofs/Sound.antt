@@ -1,9 +1,10 @@
 -- What holds of every line that the rules reach. That each of their moves keeps it is in Moves.
-use Rattle.folds.proofs.Ground.{ℕ, _+_, _≤_, _<_, Bool, true, false, cond, _||_, not, or-false, or-assoc, _≡_, refl, sym, ap, List, [], _∷_, _++_, eqb, arith, eq-eqb, ne-eqb}
-use Rattle.folds.specs.Below.{sumBelow}
+use Rattle.queue_rules.proofs.Ground.{ℕ, _+_, _≤_, _<_, Bool, true, false, cond, _||_, not, or-false, or-assoc, _≡_, refl, sym, ap}
+use Rattle.queue_rules.proofs.Ground.{List, [], _∷_, _++_, eqb, arith, eq-eqb, ne-eqb, sumBelow, Terms, Turn, turn, Line, line}
+use Rattle.queue_rules.proofs.Ground.{queueOf, among, hasTurn}
 use Rattle.folds.proofs.Figures.{sum-same}
 use Rattle.folds.proofs.Ranges.{sum-insert}
-use Rattle.queue_rules.specs.Rules.{Terms, Turn, turn, Line, line, free, queueOf, among, hasTurn}
+use Rattle.queue_rules.specs.Rules.{free}
 use Rattle.queue_rules.proofs.Cases.{by-bool, or-no}
 
 -- What is asked of the terms, for those tasks that may come and with so many processors: a task may hold for a tick or more, and for

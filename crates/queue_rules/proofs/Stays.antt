@@ -1,8 +1,10 @@
 -- Who waits after a move waited before it, but for the one who came by it.
-use Rattle.folds.proofs.Ground.{ℕ, _-_, _≤_, Bool, true, cond, not, or-true, true≢false, _≡_, refl, sym, ap, _∙_, _⊎_, inl, inr, List, [], _∷_, eqb, arith, eq-eqb, ne-eqb, eqb-true}
-use Rattle.folds.proofs.Tests.{or-out, and-parts}
-use Rattle.folds.proofs.Arrays.{by-eq}
-use Rattle.queue_rules.specs.Rules.{Terms, Turn, turn, Line, line, queueOf, among, inLine, holds, waiting, tasksOf, entered, leave, released, ticked}
+use Rattle.queue_rules.proofs.Ground.{ℕ, _-_, _≤_, Bool, true, cond, not, or-true, true≢false, _≡_, refl, sym, ap, _∙_, List, []}
+use Rattle.queue_rules.proofs.Ground.{_∷_, eqb, arith, eq-eqb, ne-eqb, eqb-true, or-out, by-eq, Terms, Turn, turn, Line, line}
+use Rattle.queue_rules.proofs.Ground.{queueOf, among, inLine, holds, tasksOf, entered, leave, released, ticked}
+use Rattle.folds.proofs.Ground.{_⊎_, inl, inr}
+use Rattle.folds.proofs.Tests.{and-parts}
+use Rattle.queue_rules.specs.Rules.{waiting}
 use Rattle.queue_rules.proofs.Cases.{by-test}
 use Rattle.queue_rules.proofs.Sound.{Fits, Proper, stands, Sound, is-free, is-held, sound-queue}
 use Rattle.queue_rules.proofs.Moves.{sound-leave}

@@ -1,7 +1,8 @@
 -- A task that waits is kept until it is granted: at most the limit behind the tasks ahead. And what a line shows of a task that comes to it.
-use Rattle.folds.proofs.Ground.{ℕ, _+_, _*_, _≤_, Bool, true, false, cond, _||_, or-true, true≢false, _≡_, refl, sym, ap, _∙_, List, [], _∷_, _++_, eqb, length, arith, eqb-false, eq-eqb}
-use Rattle.folds.proofs.Arrays.{by-eq}
-use Rattle.queue_rules.specs.Rules.{Terms, Turn, turn, Line, line, queueOf, among, standsIn, inLine, holds, tasksOf, aheadOf, sumOf, entered, aheadIn, limit}
+use Rattle.queue_rules.proofs.Ground.{ℕ, _+_, _*_, _≤_, Bool, true, false, cond, _||_, or-true, true≢false, _≡_, refl, sym, ap, _∙_}
+use Rattle.queue_rules.proofs.Ground.{List, [], _∷_, _++_, eqb, length, arith, eqb-false, eq-eqb, by-eq, Terms, Turn, turn, Line}
+use Rattle.queue_rules.proofs.Ground.{line, queueOf, among, standsIn, inLine, holds, tasksOf, aheadOf, sumOf, entered, limit}
+use Rattle.queue_rules.specs.Rules.{aheadIn}
 use Rattle.queue_rules.proofs.Cases.{or-no}
 use Rattle.queue_rules.proofs.Own.{own-stands}
 use Rattle.queue_rules.proofs.FirstCome.{entered-queue, entered-holds, join-stands, comes-last}

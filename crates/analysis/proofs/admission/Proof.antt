@@ -1,5 +1,5 @@
 -- The number of the reading, then what is decided of the checked plan.
-use Rattle.folds.proofs.Ground.{needs}
+use Rattle.analysis.proofs.Ground.{needs}
 use Rattle.analysis.proofs.Told.{checked-file, admission-refused, admission-decided}
 use Rattle.analysis.proofs.admission.Statement.{statement}
 use Rattle.analysis.proofs.admission.Tie as tie

@@ -1,10 +1,8 @@
 -- The invariant: each task below `i` passes.
-use Rattle.folds.proofs.Ground.{ℕ, _≤_, _-_, true, not, _||_, _≡_, sym, _∙_, List, arith, needs}
+use Rattle.analysis.proofs.Ground.{ℕ, _≤_, _-_, true, not, _||_, _≡_, sym, _∙_, List, arith, needs, planOf, asks, met, admitted}
+use Rattle.analysis.proofs.Ground.{Prepared}
 use Rattle.folds.specs.Below.{allBelow}
 use Rattle.folds.proofs.Tests.{all-more, all-left, all-done, held, failed}
-use Rattle.plan_reading.specs.Plan.{planOf}
-use Rattle.analysis_equations.specs.Requirement.{asks, met, admitted}
-use Rattle.analysis_requirements.specs.Terms.{Prepared}
 use Rattle.analysis.proofs.all_pass.Statement.{statement}
 use Rattle.analysis.proofs.all_pass.Tie as tie
 

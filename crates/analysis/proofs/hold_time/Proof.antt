@@ -1,5 +1,5 @@
 -- The figure stands in the table, at the place of the task and the resource.
-use Rattle.folds.proofs.Ground.{_∙_, arith, needs}
+use Rattle.analysis.proofs.Ground.{_∙_, arith, needs}
 use Rattle.analysis.proofs.Told.{figure-given, figure-refused}
 use Rattle.analysis.proofs.Users.{user-hold}
 use Rattle.analysis.proofs.hold_time.Statement.{statement}

@@ -1,5 +1,5 @@
 -- A table of each hold time is the list of them.
-use Rattle.folds.proofs.Ground.{refl, needs}
+use Rattle.analysis.proofs.Ground.{refl, needs}
 use Rattle.analysis.proofs.Told.{checked-file, times-refused, times-given}
 use Rattle.analysis.proofs.hold_times.Statement.{statement}
 use Rattle.analysis.proofs.hold_times.Tie as tie

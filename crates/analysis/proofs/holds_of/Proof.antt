@@ -1,8 +1,6 @@
 -- The invariant: the figures below `x` are there.
-use Rattle.folds.proofs.Ground.{_≤_, _-_, _≡_, refl, getD, replicate, arith}
-use Rattle.folds.specs.Bytes.{placedBelow}
+use Rattle.analysis.proofs.Ground.{_≤_, _-_, _≡_, refl, getD, replicate, arith, placedBelow, holdCount}
 use Rattle.folds.proofs.Arrays.{placed-step, placed-done}
-use Rattle.analysis.specs.Answers.{holdCount}
 use Rattle.analysis.proofs.holds_of.Statement.{statement}
 use Rattle.analysis.proofs.holds_of.Tie as tie
 

@@ -1,5 +1,5 @@
 -- The formula's figure, of the task and the resource that were asked about.
-use Rattle.folds.proofs.Ground.{_∙_, needs}
+use Rattle.analysis.proofs.Ground.{_∙_, needs}
 use Rattle.analysis.proofs.Told.{figure-given, figure-refused}
 use Rattle.analysis.proofs.longest_wait.Statement.{statement}
 use Rattle.analysis.proofs.longest_wait.Tie as tie

@@ -1,8 +1,5 @@
 -- The table of terms tells whether the task asks.
-use Rattle.folds.proofs.Ground.{_≡_, needs}
-use Rattle.plan_reading.specs.Plan.{planOf}
-use Rattle.analysis_equations.specs.Blocking.{globalCount}
-use Rattle.analysis_equations.proofs.Laws.{asks-not}
+use Rattle.analysis.proofs.Ground.{_≡_, needs, planOf, globalCount, asks-not}
 use Rattle.analysis.proofs.Told.{task-low, count-told, passes-met}
 use Rattle.analysis.proofs.passes.Statement.{statement}
 use Rattle.analysis.proofs.passes.Tie as tie

@@ -1,5 +1,5 @@
 -- The counts of a checked file are those of its plan.
-use Rattle.folds.proofs.Ground.{arith, needs}
+use Rattle.analysis.proofs.Ground.{arith, needs}
 use Rattle.analysis.proofs.Told.{no-processor, no-resource, both-there}
 use Rattle.analysis.proofs.processor_code.Statement.{statement}
 use Rattle.analysis.proofs.processor_code.Tie as tie

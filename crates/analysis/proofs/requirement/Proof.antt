@@ -1,5 +1,5 @@
 -- The number of the reading, then the answer of the checked plan.
-use Rattle.folds.proofs.Ground.{needs}
+use Rattle.analysis.proofs.Ground.{needs}
 use Rattle.analysis.specs.Answers.{requirementRefusal}
 use Rattle.analysis.proofs.Told.{checked-file, reading-fails, reading-requirement, requirement-refused, requirement-told}
 use Rattle.analysis.proofs.requirement.Statement.{statement}

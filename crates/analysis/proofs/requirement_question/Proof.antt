@@ -1,8 +1,5 @@
 -- The task found decides 11, the count of its global sections 17.
-use Rattle.folds.proofs.Ground.{_<_, _≡_, ap, _∙_, arith, needs}
-use Rattle.plan_reading.specs.Plan.{Plan, planOf}
-use Rattle.analysis_equations.specs.Blocking.{globalCount}
-use Rattle.analysis_requirements.specs.Figures.{requirementOf}
+use Rattle.analysis.proofs.Ground.{_<_, _≡_, ap, _∙_, arith, needs, Plan, planOf, globalCount, requirementOf}
 use Rattle.analysis.proofs.Told.{requirement-given, requirement-refused, task-low, count-told, no-task-asked, not-asked, task-asked}
 use Rattle.analysis.proofs.requirement_question.Statement.{statement}
 use Rattle.analysis.proofs.requirement_question.Tie as tie

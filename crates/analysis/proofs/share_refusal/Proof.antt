@@ -1,6 +1,5 @@
 -- The number of the reading, then that of the checked plan.
-use Rattle.folds.proofs.Ground.{sym, _∙_, needs}
-use Rattle.analysis.specs.Answers.{shareRefusal}
+use Rattle.analysis.proofs.Ground.{sym, _∙_, needs, shareRefusal}
 use Rattle.analysis.proofs.Told.{checked-file, reading-fails, reading-holds}
 use Rattle.analysis.proofs.share_refusal.Statement.{statement}
 use Rattle.analysis.proofs.share_refusal.Tie as tie

@@ -1,5 +1,5 @@
 -- The budget stands in the table that was filled.
-use Rattle.folds.proofs.Ground.{ap, _∙_, needs}
+use Rattle.analysis.proofs.Ground.{ap, _∙_, needs}
 use Rattle.analysis_equations.specs.HoldTimes.{waitTime}
 use Rattle.analysis_figures.proofs.Cells.{budget-of}
 use Rattle.analysis.proofs.shares_of.Statement.{statement}

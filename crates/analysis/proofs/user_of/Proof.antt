@@ -1,5 +1,5 @@
 -- The number of the reading, then what is asked of the checked plan.
-use Rattle.folds.proofs.Ground.{needs}
+use Rattle.analysis.proofs.Ground.{needs}
 use Rattle.analysis.proofs.Told.{checked-file}
 use Rattle.analysis.proofs.Users.{user-unread, user-read}
 use Rattle.analysis.proofs.user_of.Statement.{statement}

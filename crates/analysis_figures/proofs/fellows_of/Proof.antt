@@ -1,7 +1,5 @@
 -- The invariant: the fellows below j are counted, and their hold times added up.
-use Rattle.folds.proofs.Ground.{_<_, _≤_, _-_, _∙_, arith, needs}
-use Rattle.plan_reading.specs.Plan.{planOf}
-use Rattle.plan_reading.proofs.Laws.{valid-plan}
+use Rattle.analysis_figures.proofs.Ground.{_<_, _≤_, _-_, _∙_, arith, needs, planOf, valid-plan}
 use Rattle.analysis_figures.proofs.Counting.{FellowsBelow, fellows-none, fellows-more, fellows-all}
 use Rattle.analysis_figures.proofs.fellows_of.Statement.{statement}
 use Rattle.analysis_figures.proofs.fellows_of.Tie as tie

@@ -1,4 +1,4 @@
-use Rattle.folds.proofs.Ground.{needs}
+use Rattle.analysis_figures.proofs.Ground.{needs}
 use Rattle.folds.proofs.Tests.{byte-count, byte-le}
 use Rattle.analysis_figures.proofs.flag.Statement.{statement}
 use Rattle.analysis_figures.proofs.flag.Tie as tie

@@ -1,10 +1,8 @@
 -- The invariant: no task passed has a hold time of the resource.
-use Rattle.folds.proofs.Ground.{_<_, _≤_, _-_, true, _≡_, refl, sym, _∙_, eqb, arith, eqb-true, eq-eqb, needs}
-use Rattle.folds.specs.Below.{allBelow}
-use Rattle.folds.proofs.Tests.{all-more, all-at}
-use Rattle.plan_reading.specs.Plan.{planOf}
-use Rattle.plan_reading.proofs.Laws.{valid-plan}
-use Rattle.analysis_equations.specs.HoldTimes.{holdAt}
+use Rattle.analysis_figures.proofs.Ground.{_<_, _≤_, _-_, true, _≡_, refl, sym, _∙_, eqb, arith, eq-eqb, needs, allBelow, all-more}
+use Rattle.analysis_figures.proofs.Ground.{planOf, valid-plan, holdAt}
+use Rattle.folds.proofs.Ground.{eqb-true}
+use Rattle.folds.proofs.Tests.{all-at}
 use Rattle.analysis_equations.proofs.Laws.{global-at, global-not}
 use Rattle.analysis_figures.proofs.is_global.Statement.{statement}
 use Rattle.analysis_figures.proofs.is_global.Tie as tie

@@ -1,8 +1,7 @@
 -- The invariant: `best` is the longest of the sections passed that count.
-use Rattle.folds.proofs.Ground.{_≤_, _-_, cond, _≡_, refl, arith, needs}
+use Rattle.analysis_figures.proofs.Ground.{_≤_, _-_, cond, _≡_, refl, arith, needs, planOf}
 use Rattle.folds.specs.Below.{maxBelow}
 use Rattle.folds.proofs.Figures.{max-step, max-done}
-use Rattle.plan_reading.specs.Plan.{planOf}
 use Rattle.analysis_equations.specs.Sharing.{sectionOn}
 use Rattle.analysis_equations.specs.HoldTimes.{longestOn}
 use Rattle.analysis_figures.proofs.longest_on.Statement.{statement}

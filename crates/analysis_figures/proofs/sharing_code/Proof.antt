@@ -1,6 +1,5 @@
 -- A task with no longest section on q does not use it; and one that uses it has no hold time where q is local.
-use Rattle.folds.proofs.Ground.{sym, _∙_, arith}
-use Rattle.plan_reading.proofs.Laws.{valid-plan}
+use Rattle.analysis_figures.proofs.Ground.{sym, _∙_, arith, valid-plan}
 use Rattle.analysis_equations.proofs.Laws.{not-used, not-shared}
 use Rattle.analysis_figures.proofs.sharing_code.Statement.{statement}
 use Rattle.analysis_figures.proofs.sharing_code.Tie as tie

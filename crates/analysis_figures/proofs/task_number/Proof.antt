@@ -1,8 +1,8 @@
 -- The invariant: no task passed has the tag.
-use Rattle.folds.proofs.Ground.{_≤_, _-_, true, not, _≡_, refl, sym, _∙_, eqb, arith, eq-eqb, ne-eqb, needs}
-use Rattle.folds.specs.Below.{allBelow}
-use Rattle.folds.proofs.Tests.{all-more, find-at, find-none}
-use Rattle.plan_reading.specs.Plan.{planOf}
+use Rattle.analysis_figures.proofs.Ground.{_≤_, _-_, true, not, _≡_, refl, sym, _∙_, eqb, arith, eq-eqb, needs, allBelow, all-more}
+use Rattle.analysis_figures.proofs.Ground.{planOf}
+use Rattle.folds.proofs.Ground.{ne-eqb}
+use Rattle.folds.proofs.Tests.{find-at, find-none}
 use Rattle.analysis_equations.specs.Questions.{taskNumber}
 use Rattle.analysis_figures.proofs.task_number.Statement.{statement}
 use Rattle.analysis_figures.proofs.task_number.Tie as tie

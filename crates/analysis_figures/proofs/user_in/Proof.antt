@@ -1,8 +1,5 @@
 -- The task found and the counts decide 11 and 12; the table's figure tells whether the task shares the resource.
-use Rattle.folds.proofs.Ground.{_<_, _≡_, sym, _∙_, arith, needs}
-use Rattle.plan_reading.specs.Plan.{Plan, Valid, planOf}
-use Rattle.plan_reading.proofs.Laws.{valid-plan}
-use Rattle.analysis_equations.specs.HoldTimes.{holdAt}
+use Rattle.analysis_figures.proofs.Ground.{_<_, _≡_, sym, _∙_, arith, needs, Plan, Valid, planOf, valid-plan, holdAt}
 use Rattle.analysis_equations.proofs.Laws.{unknown-tag, unknown-resource, use-told, shared-use}
 use Rattle.analysis_figures.proofs.Cells.{hold-of}
 use Rattle.analysis_figures.proofs.user_in.Statement.{statement}

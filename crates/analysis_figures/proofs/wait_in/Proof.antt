@@ -1,8 +1,5 @@
 -- The invariant: `sum` is that of the processors passed, each of at most 16 bits.
-use Rattle.folds.proofs.Ground.{ℕ, _*_, _-_, _≤_, _≡_, refl, arith, needs}
-use Rattle.folds.specs.Below.{sumBelow}
-use Rattle.plan_reading.specs.Plan.{Plan, planOf}
-use Rattle.plan_reading.proofs.Laws.{valid-plan}
+use Rattle.analysis_figures.proofs.Ground.{ℕ, _*_, _-_, _≤_, _≡_, refl, arith, needs, sumBelow, Plan, planOf, valid-plan}
 use Rattle.analysis_equations.specs.Bounds.{mostBudget}
 use Rattle.analysis_figures.proofs.Waits.{othersBelow, others-step, others-done}
 use Rattle.analysis_figures.proofs.wait_in.Statement.{statement}

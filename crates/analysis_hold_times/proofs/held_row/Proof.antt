@@ -1,5 +1,5 @@
 -- The invariant: the hold times are in place at the resources below `q`.
-use Rattle.folds.proofs.Ground.{_+_, _-_, cond, eqb, getD, arith, needs}
+use Rattle.analysis_hold_times.proofs.Ground.{_+_, _-_, cond, eqb, getD, arith, needs}
 use Rattle.analysis_hold_times.proofs.Rows.{Made, row-none, row-next, row-done}
 use Rattle.analysis_hold_times.proofs.held_row.Statement.{statement}
 use Rattle.analysis_hold_times.proofs.held_row.Tie as tie

@@ -1,8 +1,5 @@
 -- The invariant: the flags are in place at the resources below `q`.
-use Rattle.folds.proofs.Ground.{ℕ, _-_, cond, replicate, length-replicate, arith}
-use Rattle.plan_reading.specs.Plan.{planOf}
-use Rattle.plan_reading.proofs.Laws.{valid-plan}
-use Rattle.analysis_equations.specs.Sharing.{global}
+use Rattle.analysis_hold_times.proofs.Ground.{ℕ, _-_, cond, replicate, length-replicate, arith, planOf, valid-plan, global}
 use Rattle.analysis_hold_times.proofs.Longest.{users-few, flag-at}
 use Rattle.analysis_hold_times.proofs.Rows.{Made, row-none, row-next, row-done}
 use Rattle.analysis_hold_times.proofs.shared_flags.Statement.{statement}

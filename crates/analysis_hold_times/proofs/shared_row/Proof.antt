@@ -1,6 +1,5 @@
 -- The invariant: the figures are in place at the resources below `q`.
-use Rattle.folds.proofs.Ground.{ℕ, _*_, _-_, refl, getD, replicate, length-replicate, arith}
-use Rattle.analysis_hold_times.specs.Inner.{cell}
+use Rattle.analysis_hold_times.proofs.Ground.{ℕ, _*_, _-_, refl, getD, replicate, length-replicate, arith, cell}
 use Rattle.analysis_hold_times.proofs.Rows.{Made, row-none, row-next, row-done}
 use Rattle.analysis_hold_times.proofs.shared_row.Statement.{statement}
 use Rattle.analysis_hold_times.proofs.shared_row.Tie as tie

@@ -1,6 +1,5 @@
 -- The invariant: the sums are in place at the resources below `q`.
-use Rattle.folds.proofs.Ground.{_+_, _-_, refl, getD, arith, needs}
-use Rattle.analysis_hold_times.specs.Inner.{cell}
+use Rattle.analysis_hold_times.proofs.Ground.{_+_, _-_, refl, getD, arith, needs, cell}
 use Rattle.analysis_hold_times.proofs.Rows.{Made, row-none, row-next, row-done}
 use Rattle.analysis_hold_times.proofs.sum_row.Statement.{statement}
 use Rattle.analysis_hold_times.proofs.sum_row.Tie as tie

@@ -1,6 +1,6 @@
 -- The invariant: the sum over the tasks below `j`, each term in its range.
-use Rattle.analysis_requirements.proofs.Ground.{ℕ, _*_, _≤_, _-_, _≡_, refl, _∙_, List, arith, needs, sumBelow, sum-step, sum-done, mostTasks}
-use Rattle.analysis_requirements.proofs.Ground.{planOf, valid-plan, blocking2, mostBlocking1, countCell}
+use Rattle.analysis_requirements.proofs.Ground.{ℕ, _*_, _≤_, _-_, _≡_, refl, _∙_, List, arith, needs, sumBelow, sum-step, sum-done}
+use Rattle.analysis_requirements.proofs.Ground.{mostTasks, planOf, valid-plan, blocking2, mostBlocking1, countCell}
 use Rattle.analysis_requirements.proofs.Blocking.{term, Term, Over, over, term-is}
 use Rattle.analysis_requirements.proofs.blocking2_of.Statement.{statement}
 use Rattle.analysis_requirements.proofs.blocking2_of.Tie as tie

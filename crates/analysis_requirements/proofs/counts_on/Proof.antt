@@ -1,7 +1,7 @@
 -- The invariant: the table holds the counts of task i's sections below `s`.
 use Rattle.analysis_requirements.proofs.Ground.{ℕ, _<_, _≤_, _-_, _≡_, List, eqb, arith, needs, mostResources, mostSections, planOf}
-use Rattle.analysis_requirements.proofs.Ground.{Checked, valid-plan}
-use Rattle.folds.proofs.Arrays.{gatheredBelow, gathered-step}
+use Rattle.analysis_requirements.proofs.Ground.{Checked, valid-plan, gatheredBelow}
+use Rattle.folds.proofs.Arrays.{gathered-step}
 use Rattle.analysis_requirements.proofs.Rows.{names, onTable, on-more, on-table}
 use Rattle.analysis_requirements.proofs.counts_on.Statement.{statement}
 use Rattle.analysis_requirements.proofs.counts_on.Tie as tie

@@ -1,6 +1,6 @@
 -- The invariant: the tasks below j that are above task i are counted and packed.
-use Rattle.analysis_requirements.proofs.Ground.{ℕ, _≤_, _-_, sym, ap, _∙_, List, ⊎-elim, arith, needs, mostTasks, TaskRow, planOf, valid-plan}
-use Rattle.analysis_requirements.proofs.Ground.{HigherTasks}
+use Rattle.analysis_requirements.proofs.Ground.{ℕ, _≤_, _-_, sym, ap, _∙_, List, ⊎-elim, arith, needs, mostTasks, TaskRow, planOf}
+use Rattle.analysis_requirements.proofs.Ground.{valid-plan, HigherTasks}
 use Rattle.analysis_requirements.proofs.Precedences.{table-above}
 use Rattle.analysis_requirements.proofs.Blocking.{Over, over}
 use Rattle.analysis_requirements.proofs.Demand.{higher-none, higher-taken, higher-skipped, higher-done}

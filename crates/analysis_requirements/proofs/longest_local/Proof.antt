@@ -1,6 +1,6 @@
 -- The invariant: `best` is the longest blocking section below `s`.
-use Rattle.analysis_requirements.proofs.Ground.{ℕ, _<_, _≤_, _-_, _≡_, refl, List, arith, needs, maxBelow, max-step, max-done, mostResources}
-use Rattle.analysis_requirements.proofs.Ground.{mostSections, planOf, valid-plan, longestLocal}
+use Rattle.analysis_requirements.proofs.Ground.{ℕ, _<_, _≤_, _-_, _≡_, refl, List, arith, needs, maxBelow, max-step, max-done}
+use Rattle.analysis_requirements.proofs.Ground.{mostResources, mostSections, planOf, valid-plan, longestLocal}
 use Rattle.analysis_requirements.proofs.Rows.{Names, names}
 use Rattle.analysis_requirements.proofs.Blocking.{localBelow, Over, over, local-read}
 use Rattle.analysis_requirements.proofs.longest_local.Statement.{statement}

@@ -1,6 +1,6 @@
 -- The invariant: the precedences of the tasks below `j` are there.
-use Rattle.analysis_requirements.proofs.Ground.{ℕ, _≤_, _-_, _≡_, sym, _∙_, List, arith, needs, mostTasks, mostResources, planOf, valid-plan}
-use Rattle.analysis_requirements.proofs.Ground.{Filling}
+use Rattle.analysis_requirements.proofs.Ground.{ℕ, _≤_, _-_, _≡_, sym, _∙_, List, arith, needs, mostTasks, mostResources, planOf}
+use Rattle.analysis_requirements.proofs.Ground.{valid-plan, Filling}
 use Rattle.analysis_requirements.proofs.Terms.{terms-precedence}
 use Rattle.analysis_requirements.proofs.put_precedences.Statement.{statement}
 use Rattle.analysis_requirements.proofs.put_precedences.Tie as tie

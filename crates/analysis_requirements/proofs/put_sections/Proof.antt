@@ -1,6 +1,6 @@
 -- The invariant: the table tells of the sections below `s`.
-use Rattle.analysis_requirements.proofs.Ground.{ℕ, _≤_, _-_, _≡_, refl, sym, _∙_, List, length-set, arith, needs, mostResources, planOf}
-use Rattle.analysis_requirements.proofs.Ground.{valid-plan, Filling}
+use Rattle.analysis_requirements.proofs.Ground.{ℕ, _≤_, _-_, _≡_, refl, sym, _∙_, List, length-set, arith, needs, mostResources}
+use Rattle.analysis_requirements.proofs.Ground.{planOf, valid-plan, Filling}
 use Rattle.analysis_requirements.proofs.Rows.{SectionRead}
 use Rattle.analysis_requirements.proofs.Terms.{Cells, cells, count-low, terms-section, terms-done}
 use Rattle.analysis_requirements.proofs.put_sections.Statement.{statement}

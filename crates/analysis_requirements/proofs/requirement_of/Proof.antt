@@ -1,6 +1,5 @@
 -- Each figure comes from its call; the tolerance is read back from its bits.
-use Rattle.analysis_requirements.proofs.Ground.{_∙_, arith, needs, valid-plan, TaskTerms}
-use Rattle.folds.proofs.SignedLaws.{back}
+use Rattle.analysis_requirements.proofs.Ground.{_∙_, arith, needs, valid-plan, TaskTerms, back}
 use Rattle.analysis_equations.proofs.Laws.{tolerance-mag}
 use Rattle.analysis_requirements.proofs.Blocking.{task-terms}
 use Rattle.analysis_requirements.proofs.Sides.{requirement-told}

@@ -1,9 +1,7 @@
 -- The invariant: `best` is the greatest for the times up to t.
-use Rattle.analysis_requirements.proofs.Ground.{ℕ, _≤_, _-_, _≡_, _∙_, List, arith, needs, Scanned}
+use Rattle.analysis_requirements.proofs.Ground.{ℕ, _≤_, _-_, _≡_, _∙_, List, arith, needs, Scanned, greatestTo, back}
 use mir.Syntax.{w64}
 use mir.Val.{toZ}
-use Rattle.folds.specs.Signed.{greatestTo}
-use Rattle.folds.proofs.SignedLaws.{back}
 use Rattle.analysis_requirements.proofs.Demand.{leftOf, left-first, left-step, left-done}
 use Rattle.analysis_requirements.proofs.scan.Statement.{statement}
 use Rattle.analysis_requirements.proofs.scan.Tie as tie

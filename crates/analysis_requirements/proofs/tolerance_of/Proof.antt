@@ -1,6 +1,5 @@
 -- The tasks above are all there, and in their ranges.
-use Rattle.analysis_requirements.proofs.Ground.{_∙_, needs, valid-plan}
-use Rattle.folds.proofs.SignedLaws.{back}
+use Rattle.analysis_requirements.proofs.Ground.{_∙_, needs, valid-plan, back}
 use Rattle.analysis_requirements.proofs.Demand.{higher-scanned, higher-tolerance}
 use Rattle.analysis_requirements.proofs.tolerance_of.Statement.{statement}
 use Rattle.analysis_requirements.proofs.tolerance_of.Tie as tie

@@ -1,5 +1,5 @@
 -- The call that is decoded, or none.
-use Rattle.folds.proofs.Ground.{refl, needs}
+use Rattle.machine.proofs.Ground.{refl, needs}
 use Rattle.machine_calls.proofs.Calls.{decoded-call, decoded-no-call}
 use Rattle.machine.proofs.after.Statement.{statement}
 use Rattle.machine.proofs.after.Tie as tie

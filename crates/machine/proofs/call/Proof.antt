@@ -1,6 +1,5 @@
 -- A look at the file, then the call by what that gave.
-use Rattle.folds.proofs.Ground.{ap, _∙_, needs}
-use Rattle.machine_rules.specs.Machine.{answerOutcome}
+use Rattle.machine.proofs.Ground.{ap, _∙_, needs, answerOutcome}
 use Rattle.machine.proofs.Answered.{reply-told}
 use Rattle.machine.proofs.call.Statement.{statement}
 use Rattle.machine.proofs.call.Tie as tie

@@ -1,6 +1,5 @@
 -- Only the words of a tick have ones to count.
-use Rattle.folds.proofs.Ground.{sym, ap, needs}
-use Rattle.machine.specs.Inner.{cutsIn}
+use Rattle.machine.proofs.Ground.{sym, ap, needs, cutsIn}
 use Rattle.machine.proofs.cuts_in.Statement.{statement}
 use Rattle.machine.proofs.cuts_in.Tie as tie
 

@@ -1,5 +1,5 @@
 -- A fresh machine is a start as any other.
-use Rattle.folds.proofs.Ground.{needs}
+use Rattle.machine.proofs.Ground.{needs}
 use Rattle.machine.proofs.Kept.{fresh-ran}
 use Rattle.machine.proofs.run.Statement.{statement}
 use Rattle.machine.proofs.run.Tie as tie

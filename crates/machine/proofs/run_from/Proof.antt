@@ -1,7 +1,6 @@
 -- The invariant: the state is what the operations return after the calls passed.
-use Rattle.folds.proofs.Ground.{_≤_, _-_, arith, needs}
-use Rattle.machine_calls.specs.Calls.{callWidth, callsBelow}
-use Rattle.machine.specs.Promise.{Returned, started}
+use Rattle.machine.proofs.Ground.{_≤_, _-_, arith, needs, callsBelow, Returned, started}
+use Rattle.machine_calls.specs.Calls.{callWidth}
 use Rattle.machine.proofs.Bytes.{returned-step, all-calls}
 use Rattle.machine.proofs.Kept.{ran}
 use Rattle.machine.proofs.Lengths.{length-mapped}

@@ -1,7 +1,5 @@
 -- A fresh state shows nobody in line, and is sound where the plan is not refused.
-use Rattle.folds.proofs.Ground.{needs}
-use Rattle.plan.proofs.Laws.{accepted-valid}
-use Rattle.machine_state.proofs.FreshLaws.{fresh-sound, fresh-shows}
+use Rattle.machine.proofs.Ground.{needs, accepted-valid, fresh-sound, fresh-shows}
 use Rattle.machine.proofs.start.Statement.{statement}
 use Rattle.machine.proofs.start.Tie as tie
 

@@ -1,6 +1,5 @@
 -- What a call gives, with the ones in its reply.
-use Rattle.folds.proofs.Ground.{ap, _∙_, needs}
-use Rattle.machine.specs.Inner.{cutsIn}
+use Rattle.machine.proofs.Ground.{ap, _∙_, needs, cutsIn}
 use Rattle.machine.proofs.Answered.{tick-cuts}
 use Rattle.machine.proofs.tick.Statement.{statement}
 use Rattle.machine.proofs.tick.Tie as tie

@@ -1,7 +1,5 @@
 -- One outcome of the test at a time; a queue that is not empty has a head, and somebody has the first seat of its queue.
-use Rattle.folds.proofs.Ground.{_≤_, add-zero, arith, eq-eqb, ne-eqb, needs}
-use Rattle.sizes.specs.Sizes.{mostTasks}
-use Rattle.machine_state.specs.Inner.{Headed, clockTest}
+use Rattle.machine_state.proofs.Ground.{_≤_, add-zero, arith, eq-eqb, ne-eqb, needs, mostTasks, Headed, clockTest}
 use Rattle.machine_state.proofs.Passing.{head-low}
 use Rattle.machine_state.proofs.clock_ok.Statement.{statement}
 use Rattle.machine_state.proofs.clock_ok.Tie as tie

@@ -1,8 +1,7 @@
 -- The sum of the eight bytes, each times its power.
-use Rattle.folds.proofs.Ground.{getD, arith, needs}
+use Rattle.machine_state.proofs.Ground.{getD, arith, needs, number}
 use mir.Syntax.{w8}
 use mir.Val.{Fits}
-use Rattle.folds.specs.Bytes.{number}
 use Rattle.machine_state.proofs.eight.Statement.{statement}
 use Rattle.machine_state.proofs.eight.Tie as tie
 

@@ -1,9 +1,6 @@
 -- The invariant: the tasks below `u` sit in `seats`.
-use Rattle.folds.proofs.Ground.{_≤_, _<_, _-_, _≡_, refl, getD, length-replicate, arith, needs}
-use Rattle.folds.proofs.Arrays.{stampedBelow, stamped-length, stamped-step}
-use Rattle.plan_reading.specs.Plan.{planOf, Valid}
-use Rattle.plan_reading.proofs.Laws.{valid-plan}
-use Rattle.machine_state.specs.Inner.{seatCount}
+use Rattle.machine_state.proofs.Ground.{_≤_, _<_, _-_, _≡_, refl, getD, length-replicate, arith, needs, stampedBelow, stamped-length}
+use Rattle.machine_state.proofs.Ground.{stamped-step, planOf, Valid, valid-plan, seatCount}
 use Rattle.machine_state.proofs.Tables.{seatsBelow, seat-high, seats-done}
 use Rattle.machine_state.proofs.fill_seats.Statement.{statement}
 use Rattle.machine_state.proofs.fill_seats.Tie as tie

@@ -1,8 +1,6 @@
 -- The invariant: the processors below `k` have their first seat in `first`.
-use Rattle.folds.proofs.Ground.{_≤_, _-_, _≡_, refl, add-zero, arith}
-use Rattle.folds.specs.Bytes.{placedBelow}
-use Rattle.folds.proofs.Arrays.{placed-step, placed-done}
-use Rattle.machine_state.specs.Inner.{firstSeat}
+use Rattle.machine_state.proofs.Ground.{_≤_, _-_, _≡_, refl, add-zero, arith, placedBelow, placed-step, firstSeat}
+use Rattle.folds.proofs.Arrays.{placed-done}
 use Rattle.machine_state.proofs.first_seats.Statement.{statement}
 use Rattle.machine_state.proofs.first_seats.Tie as tie
 

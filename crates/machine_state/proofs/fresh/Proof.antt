@@ -1,5 +1,5 @@
 -- All rows have the filling of what is absent.
-use Rattle.folds.proofs.Ground.{needs}
+use Rattle.machine_state.proofs.Ground.{needs}
 use Rattle.machine_state.proofs.fresh.Statement.{statement}
 use Rattle.machine_state.proofs.fresh.Tie as tie
 

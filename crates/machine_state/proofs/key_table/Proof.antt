@@ -1,14 +1,7 @@
 -- The invariant: the seats of the tasks below `u` stand in `keys`.
-use Rattle.folds.proofs.Ground.{_≤_, _-_, _≡_, refl, sym, ap, _∙_, ⊎-elim, getD-replicate, arith, needs}
-use Rattle.sizes.specs.Sizes.{mostTasks}
-use Rattle.folds.specs.Bytes.{placedBelow}
-use Rattle.folds.proofs.Arrays.{placed-step}
+use Rattle.machine_state.proofs.Ground.{_≤_, _-_, _≡_, refl, sym, ap, _∙_, ⊎-elim, getD-replicate, arith, needs, mostTasks}
+use Rattle.machine_state.proofs.Ground.{placedBelow, placed-step, planOf, Valid, valid-plan, Standing, standing, noSeat}
 use Rattle.plan_rules.specs.declared.TaskRow.{TaskRow}
-use Rattle.plan_reading.specs.Plan.{planOf, Valid}
-use Rattle.plan_reading.proofs.Laws.{valid-plan}
-use Rattle.machine_state.specs.declared.Standing.{Standing}
-use Rattle.machine_state.specs.Shows.{standing}
-use Rattle.machine_state.specs.Inner.{noSeat}
 use Rattle.machine_state.proofs.Tables.{low-processor, keysBelow, keys-done, row-low, key-at, key-off, placed-skip}
 use Rattle.machine_state.proofs.key_table.Statement.{statement}
 use Rattle.machine_state.proofs.key_table.Tie as tie

@@ -1,7 +1,6 @@
 -- One outcome of the tests at a time, a free line by its own; where the queue has passed, the clock's can read the head and its first
 -- task.
-use Rattle.folds.proofs.Ground.{sym, _∙_, le-leb, lt-leb, needs}
-use Rattle.machine_state.specs.Inner.{lineTest}
+use Rattle.machine_state.proofs.Ground.{sym, _∙_, le-leb, lt-leb, needs, lineTest}
 use Rattle.machine_state.proofs.Passing.{head-passed, free-line}
 use Rattle.machine_state.proofs.line_ok.Statement.{statement}
 use Rattle.machine_state.proofs.line_ok.Tie as tie

@@ -1,10 +1,7 @@
 -- The invariant: the rows passed are as they must be.
-use Rattle.folds.proofs.Ground.{_≤_, _-_, true, _≡_, refl, sym, getD, arith, needs}
-use Rattle.sizes.specs.Sizes.{mostResources}
-use Rattle.folds.specs.Below.{allBelow}
-use Rattle.folds.proofs.Tests.{held, failed, all-more, all-left, all-done}
-use Rattle.machine_state.specs.Shows.{noLine}
-use Rattle.machine_state.specs.Inner.{lineTest}
+use Rattle.machine_state.proofs.Ground.{_≤_, _-_, true, _≡_, refl, sym, getD, arith, needs, mostResources, allBelow, all-more}
+use Rattle.machine_state.proofs.Ground.{all-done, noLine, lineTest}
+use Rattle.folds.proofs.Tests.{held, failed, all-left}
 use Rattle.machine_state.proofs.lines_ok.Statement.{statement}
 use Rattle.machine_state.proofs.lines_ok.Tie as tie
 

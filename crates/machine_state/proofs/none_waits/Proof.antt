@@ -1,8 +1,5 @@
 -- The invariant: `ok` says whether nobody has the first seats passed.
-use Rattle.folds.proofs.Ground.{_≤_, _-_, _≡_, refl, eqb, add-zero, arith}
-use Rattle.folds.specs.Below.{allBelow}
-use Rattle.folds.proofs.Tests.{all-step, all-done}
-use Rattle.machine_state.specs.Inner.{firstSeat}
+use Rattle.machine_state.proofs.Ground.{_≤_, _-_, _≡_, refl, eqb, add-zero, arith, allBelow, all-step, all-done, firstSeat}
 use Rattle.machine_state.proofs.none_waits.Statement.{statement}
 use Rattle.machine_state.proofs.none_waits.Tie as tie
 

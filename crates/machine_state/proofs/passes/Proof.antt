@@ -1,6 +1,5 @@
 -- The two tests, joined.
-use Rattle.folds.proofs.Ground.{needs}
-use Rattle.machine_state.specs.Inner.{stateTest}
+use Rattle.machine_state.proofs.Ground.{needs, stateTest}
 use Rattle.machine_state.proofs.passes.Statement.{statement}
 use Rattle.machine_state.proofs.passes.Tie as tie
 

@@ -1,9 +1,6 @@
 -- The invariant: the slots passed are as they must be, and their processors are struck off `rest`.
-use Rattle.folds.proofs.Ground.{ℕ, _≤_, _-_, true, _≡_, refl, ap, _∙_, List, leb, getD, arith, le-leb, needs}
-use Rattle.folds.specs.Below.{allBelow}
-use Rattle.folds.proofs.Tests.{all-more}
-use Rattle.folds.proofs.Arrays.{stampedBelow, stamped-step}
-use Rattle.machine_state.specs.Inner.{slotTest}
+use Rattle.machine_state.proofs.Ground.{ℕ, _≤_, _-_, true, _≡_, refl, ap, _∙_, List, leb, getD, arith, le-leb, needs, allBelow}
+use Rattle.machine_state.proofs.Ground.{all-more, stampedBelow, stamped-step, slotTest}
 use Rattle.machine_state.proofs.Passing.{restBelow, slot-high, slot-is, slot-fails, slots-done}
 use Rattle.machine_state.proofs.queue_ok.Statement.{statement}
 use Rattle.machine_state.proofs.queue_ok.Tie as tie

@@ -1,6 +1,5 @@
 -- The tables are those of the plan and the state, and the test by them is that of soundness.
-use Rattle.folds.proofs.Ground.{_∙_, needs}
-use Rattle.plan_reading.proofs.Laws.{valid-plan}
+use Rattle.machine_state.proofs.Ground.{_∙_, needs, valid-plan}
 use Rattle.machine_state.proofs.Tables.{sized-by}
 use Rattle.machine_state.proofs.SoundTest.{sound-test}
 use Rattle.machine_state.proofs.seat_tasks.Statement.{statement}

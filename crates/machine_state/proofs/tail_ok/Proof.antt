@@ -1,5 +1,5 @@
 -- The slots from c on are empty exactly when what is left of the largest number is below 256 ^ c.
-use Rattle.folds.proofs.Ground.{needs}
+use Rattle.machine_state.proofs.Ground.{needs}
 use Rattle.machine_state.proofs.Numbers.{part-tail}
 use Rattle.machine_state.proofs.tail_ok.Statement.{statement}
 use Rattle.machine_state.proofs.tail_ok.Tie as tie

@@ -1,9 +1,9 @@
 -- A task in the first place has its own seat looked at twice.
-use Rattle.folds.proofs.Ground.{ℕ, _+_, _-_, _/_, _%_, _≤_, Bool, true, false, _&&_, _||_, and-assoc, _≡_, refl, sym, ap, _∙_, List, eqb, leb, ltb, getD, arith, eq-eqb, ne-eqb, eqb-true, ltb-true, ltb-false, le-leb, needs}
+use Rattle.machine_state.proofs.Ground.{ℕ, _+_, _-_, _/_, _%_, _≤_, Bool, true, false, _&&_, _||_, and-assoc, _≡_, refl, sym, ap}
+use Rattle.machine_state.proofs.Ground.{_∙_, List, eqb, leb, ltb, getD, arith, eq-eqb, ne-eqb, eqb-true, ltb-true, le-leb, needs}
+use Rattle.machine_state.proofs.Ground.{mostTasks, holdCell, resourceSeats, taskTest}
+use Rattle.folds.proofs.Ground.{ltb-false}
 use mir.Val.{boolByte}
-use Rattle.sizes.specs.Sizes.{mostTasks}
-use Rattle.analysis_figures.specs.Figures.{holdCell}
-use Rattle.machine_state.specs.Inner.{resourceSeats, taskTest}
 use Rattle.machine_state.proofs.task_ok.Statement.{statement}
 use Rattle.machine_state.proofs.task_ok.Tie as tie
 

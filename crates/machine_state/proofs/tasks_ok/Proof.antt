@@ -1,11 +1,6 @@
 -- The invariant: `ok` says whether the rows passed are as they must be.
-use Rattle.folds.proofs.Ground.{ℕ, _≤_, _-_, _*_, Bool, _≡_, refl, List, getD, arith}
-use Rattle.sizes.specs.Sizes.{mostTasks}
-use Rattle.folds.specs.Below.{allBelow}
-use Rattle.folds.proofs.Tests.{all-step, all-done}
-use Rattle.machine_state.specs.declared.Standing.{Standing}
-use Rattle.machine_state.specs.Shows.{standing}
-use Rattle.machine_state.specs.Inner.{noSeat, taskTest}
+use Rattle.machine_state.proofs.Ground.{ℕ, _≤_, _-_, _*_, Bool, _≡_, refl, List, getD, arith, mostTasks, allBelow, all-step}
+use Rattle.machine_state.proofs.Ground.{all-done, Standing, standing, noSeat, taskTest}
 use Rattle.machine_state.proofs.tasks_ok.Statement.{statement}
 use Rattle.machine_state.proofs.tasks_ok.Tie as tie
 

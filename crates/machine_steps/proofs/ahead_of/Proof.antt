@@ -1,6 +1,5 @@
 -- The invariant: the seats passed are taken, and the hold times of those who sit there are summed.
-use Rattle.folds.proofs.Ground.{_-_, _≡_, sym, _∙_, getD, arith, needs}
-use Rattle.machine_state.specs.Inner.{seat}
+use Rattle.machine_steps.proofs.Ground.{_-_, _≡_, sym, _∙_, getD, arith, needs, seat}
 use Rattle.machine_steps.proofs.Passing.{seat-read, seat-within}
 use Rattle.machine_steps.proofs.Taken.{Counted, counted-none, counted-more, found-empty, found-none}
 use Rattle.machine_steps.proofs.ahead_of.Statement.{statement}

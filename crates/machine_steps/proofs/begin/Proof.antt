@@ -1,6 +1,5 @@
 -- With somebody queued, the head's seat is taken.
-use Rattle.folds.proofs.Ground.{eqb, getD, arith, eq-eqb, ne-eqb, needs}
-use Rattle.machine_steps.specs.Inner.{begun}
+use Rattle.machine_steps.proofs.Ground.{eqb, getD, arith, eq-eqb, ne-eqb, needs, begun}
 use Rattle.machine_steps.proofs.Passing.{flag, flag-low}
 use Rattle.machine_steps.proofs.begin.Statement.{statement}
 use Rattle.machine_steps.proofs.begin.Tie as tie

@@ -1,6 +1,6 @@
-use Rattle.folds.proofs.Ground.{Bool, sym, ap, _∙_, lit<, arith, needs}
+use Rattle.machine_steps.proofs.Ground.{Bool, sym, ap, _∙_, arith, needs, bitOf}
+use Rattle.folds.proofs.Ground.{lit<}
 use lib.Pow.{shl-exact}
-use Rattle.folds.specs.Words.{bitOf}
 use Rattle.machine_steps.proofs.bit.Statement.{statement}
 use Rattle.machine_steps.proofs.bit.Tie as tie
 

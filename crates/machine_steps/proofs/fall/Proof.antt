@@ -1,5 +1,4 @@
-use Rattle.folds.proofs.Ground.{eq-eqb, ne-eqb, needs}
-use Rattle.machine_steps.specs.Inner.{fallen}
+use Rattle.machine_steps.proofs.Ground.{eq-eqb, ne-eqb, needs, fallen}
 use Rattle.machine_steps.proofs.fall.Statement.{statement}
 use Rattle.machine_steps.proofs.fall.Tie as tie
 

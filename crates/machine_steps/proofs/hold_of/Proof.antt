@@ -1,6 +1,5 @@
 -- The seat is taken, and its number says where the hold time stands.
-use Rattle.folds.proofs.Ground.{_≡_, getD, arith, needs}
-use Rattle.machine_state.specs.Inner.{seat}
+use Rattle.machine_steps.proofs.Ground.{_≡_, getD, arith, needs, seat}
 use Rattle.machine_steps.proofs.Passing.{seat-read, seat-within}
 use Rattle.machine_steps.proofs.hold_of.Statement.{statement}
 use Rattle.machine_steps.proofs.hold_of.Tie as tie

@@ -1,6 +1,5 @@
 -- The row of the task, and where nobody of its processor was ahead, the processor at the tail of the line.
-use Rattle.folds.proofs.Ground.{_<_, arith, eq-eqb, ne-eqb, needs}
-use Rattle.machine_steps.specs.Inner.{joinedLines}
+use Rattle.machine_steps.proofs.Ground.{_<_, arith, eq-eqb, ne-eqb, needs, joinedLines}
 use Rattle.machine_steps.proofs.join.Statement.{statement}
 use Rattle.machine_steps.proofs.join.Tie as tie
 

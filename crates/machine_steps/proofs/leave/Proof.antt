@@ -1,5 +1,5 @@
 -- The head of the line is there, so the mark of its queue is within the table.
-use Rattle.folds.proofs.Ground.{arith, needs}
+use Rattle.machine_steps.proofs.Ground.{arith, needs}
 use Rattle.machine_steps.proofs.leave.Statement.{statement}
 use Rattle.machine_steps.proofs.leave.Tie as tie
 

@@ -1,9 +1,6 @@
 -- The invariant: the rows passed have fallen where their queue lost its first.
-use Rattle.folds.proofs.Ground.{ℕ, _/_, _-_, _≤_, _≡_, refl, List, eqb, getD, arith}
-use Rattle.folds.specs.Each.{eachBelow}
-use Rattle.folds.proofs.EachLaws.{each-step, each-done}
-use Rattle.machine_steps.proofs.Names.{Standing, noStanding}
-use Rattle.machine_steps.specs.Inner.{fallen, lowered}
+use Rattle.machine_steps.proofs.Ground.{ℕ, _/_, _-_, _≤_, _≡_, refl, List, eqb, getD, arith, eachBelow, each-step, each-done}
+use Rattle.machine_steps.proofs.Ground.{Standing, noStanding, fallen, lowered}
 use Rattle.machine_steps.proofs.lower.Statement.{statement}
 use Rattle.machine_steps.proofs.lower.Tie as tie
 

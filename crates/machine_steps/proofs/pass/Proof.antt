@@ -1,7 +1,5 @@
 -- Who begins next has the seat that the tables name, and its task a hold time.
-use Rattle.folds.proofs.Ground.{ℕ, _≤_, refl, sym, getD, arith, eq-eqb, ne-eqb, le-leb, lt-leb, needs}
-use Rattle.machine_steps.proofs.Names.{slot, seat}
-use Rattle.machine_steps.specs.Inner.{passed}
+use Rattle.machine_steps.proofs.Ground.{ℕ, _≤_, refl, sym, getD, arith, eq-eqb, ne-eqb, le-leb, lt-leb, needs, slot, seat, passed}
 use Rattle.machine_steps.proofs.Passing.{seat-read, next-begins, turned-begins}
 use Rattle.machine_steps.proofs.pass.Statement.{statement}
 use Rattle.machine_steps.proofs.pass.Tie as tie

@@ -1,5 +1,4 @@
-use Rattle.folds.proofs.Ground.{eq-eqb, ne-eqb, needs}
-use Rattle.machine_steps.specs.Inner.{pushed}
+use Rattle.machine_steps.proofs.Ground.{eq-eqb, ne-eqb, needs, pushed}
 use Rattle.machine_steps.proofs.push.Statement.{statement}
 use Rattle.machine_steps.proofs.push.Tie as tie
 

@@ -1,6 +1,5 @@
 -- A held line has a hold and a budget left to count down; at its last tick the next task takes over.
-use Rattle.folds.proofs.Ground.{arith, eq-eqb, ne-eqb}
-use Rattle.machine_steps.specs.Inner.{Running, stepped}
+use Rattle.machine_steps.proofs.Ground.{arith, eq-eqb, ne-eqb, Running, stepped}
 use Rattle.machine_steps.proofs.step.Statement.{statement}
 use Rattle.machine_steps.proofs.step.Tie as tie
 

@@ -1,12 +1,8 @@
 -- The invariant: the lines below `q` have made their tick, the others are as they were; marks and words tell of those below.
-use Rattle.folds.proofs.Ground.{ℕ, _≤_, _-_, _≡_, refl, ap, ⊎-elim, List, getD, arith}
-use Rattle.folds.specs.Each.{eachBelow}
-use Rattle.folds.specs.Words.{wordBelow}
-use Rattle.folds.proofs.Arrays.{stampedBelow}
-use Rattle.folds.proofs.EachLaws.{each-step, each-done}
-use Rattle.folds.proofs.WordLaws.{word-step, word-fits, word-done}
-use Rattle.machine_steps.proofs.Names.{LineRow, noLine, slot}
-use Rattle.machine_steps.specs.Inner.{cutsHolder, endedBelow, stepped, steppedLines, cutWord}
+use Rattle.machine_steps.proofs.Ground.{ℕ, _≤_, _-_, _≡_, refl, ap, ⊎-elim, List, getD, arith, eachBelow, wordBelow, stampedBelow}
+use Rattle.machine_steps.proofs.Ground.{each-step, each-done, word-done, LineRow, noLine, slot, cutsHolder, endedBelow, stepped}
+use Rattle.machine_steps.proofs.Ground.{steppedLines, cutWord}
+use Rattle.folds.proofs.WordLaws.{word-step, word-fits}
 use Rattle.machine_steps.proofs.Marks.{ended-done, newly, grants-done, line-kept, kept-queued, mark-cut, mark-kept, cut-bit, grant-bit}
 use Rattle.machine_steps.proofs.step_lines.Statement.{statement}
 use Rattle.machine_steps.proofs.step_lines.Tie as tie

@@ -1,6 +1,5 @@
 -- Where no resource is cut, the rows of the tasks are already as the marks would make them.
-use Rattle.folds.proofs.Ground.{sym, ap, _∙_, needs}
-use Rattle.machine_steps.specs.Inner.{grantWord}
+use Rattle.machine_steps.proofs.Ground.{sym, ap, _∙_, needs, grantWord}
 use Rattle.machine_steps.proofs.Marks.{rows-kept}
 use Rattle.machine_steps.proofs.tick.Statement.{statement}
 use Rattle.machine_steps.proofs.tick.Tie as tie

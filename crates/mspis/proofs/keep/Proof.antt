@@ -1,5 +1,6 @@
 -- Every place read lies before the end, and every place written before it.
-use Rattle.folds.proofs.Ground.{ℕ, _-_, _≤_, _≡_, refl, List, length, length-set, arith}
+use Rattle.mspis.proofs.Ground.{ℕ, _-_, _≤_, _≡_, refl, List, length, arith}
+use Rattle.folds.proofs.Ground.{length-set}
 use Rattle.mspis.proofs.keep.Statement.{statement}
 use Rattle.mspis.proofs.keep.Tie as tie
 

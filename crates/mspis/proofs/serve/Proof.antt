@@ -1,8 +1,8 @@
 -- Each turn makes a call at least, since there is one; or it is refused, and the last.
-use Rattle.folds.proofs.Ground.{ℕ, _+_, _-_, _<_, _≤_, Bool, true, false, cond, _&&_, _≡_, refl, ap, _∙_, List, eqb, leb, length, length-drop, arith, leb-true, needs}
+use Rattle.mspis.proofs.Ground.{ℕ, _-_, _<_, _≤_, _≡_, refl, List, length, arith, needs, and-parts}
+use Rattle.folds.proofs.Ground.{_+_, Bool, true, false, cond, _&&_, ap, _∙_, eqb, leb, length-drop, leb-true}
 use Rattle.folds.proofs.Arrays.{by-eq}
 use Rattle.folds.proofs.Parts.{part-rest}
-use Rattle.folds.proofs.Tests.{and-parts}
 use Rattle.machine_calls.specs.Calls.{callWidth}
 use Rattle.print_calls.specs.declared.Batch.{Batch}
 use Rattle.mspis.proofs.serve.Statement.{statement}

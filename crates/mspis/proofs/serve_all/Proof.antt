@@ -1,6 +1,6 @@
 -- The invariant: both buffers keep their length, and the bytes kept fit. The measure is the number of turns left.
-use Rattle.folds.proofs.Ground.{ℕ, _≤_, _<_, _≡_, List, ltb, length, arith, ltb-true, needs}
-use Rattle.folds.proofs.Tests.{and-parts}
+use Rattle.mspis.proofs.Ground.{ℕ, _≤_, _<_, _≡_, List, length, arith, needs, and-parts}
+use Rattle.folds.proofs.Ground.{ltb, ltb-true}
 use Rattle.mspis.proofs.serve_all.Statement.{statement}
 use Rattle.mspis.proofs.serve_all.Tie as tie
 

@@ -1,6 +1,5 @@
 -- The checks are all that a plan is refused for.
-use Rattle.folds.proofs.Ground.{needs}
-use Rattle.plan.specs.Acceptance.{refusal}
+use Rattle.plan.proofs.Ground.{needs, refusal}
 use Rattle.plan.proofs.check.Statement.{statement}
 use Rattle.plan.proofs.check.Tie as tie
 

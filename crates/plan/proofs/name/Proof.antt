@@ -1,5 +1,5 @@
 -- A question that is not refused is one of a checked file, for one of its resources.
-use Rattle.folds.proofs.Ground.{sym, _∙_, eq-eqb, ne-eqb, needs}
+use Rattle.plan.proofs.Ground.{sym, _∙_, eq-eqb, ne-eqb, needs}
 use Rattle.plan_reading.proofs.Laws.{plan-resources}
 use Rattle.plan.specs.Reading.{nameOf}
 use Rattle.plan.proofs.Laws.{name-answered, none-failed}

@@ -1,9 +1,7 @@
 -- A plan that is read has the resource or has it not; one that is refused gives its number.
-use Rattle.folds.proofs.Ground.{_<_, _≤_, sym, ap, _∙_, arith, lt-ltb, le-ltb, eq-eqb, ne-eqb, needs}
-use Rattle.plan_rules.specs.declared.Counts.{Counts}
-use Rattle.plan_layout.specs.Layout.{countsOf}
-use Rattle.plan.specs.Reading.{nameRefusal}
-use Rattle.plan_reading.proofs.Laws.{whole-facts}
+use Rattle.plan.proofs.Ground.{_<_, sym, ap, _∙_, arith, lt-ltb, le-ltb, eq-eqb, ne-eqb, needs, Counts, countsOf, nameRefusal}
+use Rattle.plan.proofs.Ground.{whole-facts}
+use Rattle.folds.proofs.Ground.{_≤_}
 use Rattle.plan.proofs.Laws.{none-failed}
 use Rattle.plan.proofs.name_refusal.Statement.{statement}
 use Rattle.plan.proofs.name_refusal.Tie as tie

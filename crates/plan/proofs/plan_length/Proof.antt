@@ -1,5 +1,5 @@
 -- Each return is the branch of the definition.
-use Rattle.folds.proofs.Ground.{arith, lt-ltb, le-ltb, needs}
+use Rattle.plan.proofs.Ground.{arith, lt-ltb, le-ltb, needs}
 use Rattle.plan.specs.Reading.{planLength}
 use Rattle.plan.proofs.plan_length.Statement.{statement}
 use Rattle.plan.proofs.plan_length.Tie as tie

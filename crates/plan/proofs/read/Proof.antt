@@ -1,9 +1,6 @@
 -- Each return is the branch of the definition.
-use Rattle.folds.proofs.Ground.{_≡_, sym, ap, _∙_, needs}
-use Rattle.plan.specs.declared.Reading.{Reading}
-use Rattle.plan.specs.declared.ReadAnswer.the-variants.{Accepted}
-use Rattle.plan.specs.Reading.{readOutcome, reading}
-use Rattle.plan_reading.proofs.Laws.{whole-facts, header-clear}
+use Rattle.plan.proofs.Ground.{_≡_, sym, ap, _∙_, needs, Reading, Accepted, readOutcome, reading, whole-facts}
+use Rattle.plan_reading.proofs.Laws.{header-clear}
 use Rattle.plan.proofs.Laws.{none-failed, read-refused, read-accepted, given-told}
 use Rattle.plan.proofs.read.Statement.{statement}
 use Rattle.plan.proofs.read.Tie as tie

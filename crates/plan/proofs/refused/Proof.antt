@@ -1,5 +1,5 @@
 -- Every row is the row that is not there.
-use Rattle.folds.proofs.Ground.{needs}
+use Rattle.plan.proofs.Ground.{needs}
 use Rattle.plan.proofs.refused.Statement.{statement}
 use Rattle.plan.proofs.refused.Tie as tie
 

@@ -1,5 +1,5 @@
 -- The counts are the header's bytes.
-use Rattle.folds.proofs.Ground.{sym, needs}
+use Rattle.plan_layout.proofs.Ground.{sym, needs}
 use Rattle.plan_layout.proofs.Laws.{counts-fields}
 use Rattle.plan_layout.proofs.counts_at.Statement.{statement}
 use Rattle.plan_layout.proofs.counts_at.Tie as tie

@@ -1,5 +1,5 @@
 -- Each part begins where the counts say, and lies in the file.
-use Rattle.folds.proofs.Ground.{needs}
+use Rattle.plan_layout.proofs.Ground.{needs}
 use Rattle.folds.proofs.Parts.{part-rest}
 use Rattle.plan_layout.proofs.file_code.Statement.{statement}
 use Rattle.plan_layout.proofs.file_code.Tie as tie

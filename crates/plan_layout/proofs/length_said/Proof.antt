@@ -1,5 +1,5 @@
 -- The last number of the header.
-use Rattle.folds.proofs.Ground.{sym, _∙_, needs}
+use Rattle.plan_layout.proofs.Ground.{sym, _∙_, needs}
 use Rattle.plan_layout.proofs.Laws.{length-field-said}
 use Rattle.plan_layout.proofs.length_said.Statement.{statement}
 use Rattle.plan_layout.proofs.length_said.Tie as tie

@@ -1,12 +1,10 @@
 -- The lengths passed are loaded, the test is that of all of them, and the last name passed ends at their sum.
-use Rattle.folds.proofs.Ground.{ℕ, _≤_, _-_, _*_, Bool, _≡_, refl, _∙_, List, arith}
-use Rattle.folds.specs.Below.{allBelow, sumBelow}
+use Rattle.plan_layout.proofs.Ground.{ℕ, _≤_, _-_, _*_, Bool, _≡_, refl, _∙_, List, arith, allBelow, sumBelow, all-step, edition1}
+use Rattle.plan_layout.proofs.Ground.{lengthAt, lengthRows, lengthRowsOk}
 use Rattle.folds.specs.Bytes.{placedBelow}
-use Rattle.folds.proofs.Tests.{all-step, all-done}
+use Rattle.folds.proofs.Tests.{all-done}
 use Rattle.folds.proofs.Figures.{sum-step}
 use Rattle.folds.proofs.Arrays.{placed-step, placed-done}
-use Rattle.plan_layout.specs.Editions.{edition1}
-use Rattle.plan_layout.specs.Layout.{lengthAt, lengthRows, lengthRowsOk}
 use Rattle.plan_layout.proofs.load_lengths.Statement.{statement}
 use Rattle.plan_layout.proofs.load_lengths.Tie as tie
 

@@ -1,10 +1,6 @@
 -- The invariant: the rows passed are loaded.
-use Rattle.folds.proofs.Ground.{_-_, replicate, arith, needs}
-use Rattle.sizes.specs.Sizes.{mostSections}
-use Rattle.plan_rules.specs.Rules.{noSection}
-use Rattle.plan_rules.proofs.Loops.{Placed, placed-none, placed-one, placed-all}
-use Rattle.plan_layout.specs.Editions.{edition1}
-use Rattle.plan_layout.specs.Layout.{sectionAt, sectionRows}
+use Rattle.plan_layout.proofs.Ground.{_-_, replicate, arith, needs, mostSections, noSection, Placed, placed-none, placed-one}
+use Rattle.plan_layout.proofs.Ground.{placed-all, edition1, sectionAt, sectionRows}
 use Rattle.plan_layout.proofs.load_sections.Statement.{statement}
 use Rattle.plan_layout.proofs.load_sections.Tie as tie
 

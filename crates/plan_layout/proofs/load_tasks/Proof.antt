@@ -1,10 +1,6 @@
 -- The invariant: the rows passed are loaded.
-use Rattle.folds.proofs.Ground.{_-_, replicate, arith, needs}
-use Rattle.sizes.specs.Sizes.{mostTasks}
-use Rattle.plan_rules.specs.Rules.{noTask}
-use Rattle.plan_rules.proofs.Loops.{Placed, placed-none, placed-one, placed-all}
-use Rattle.plan_layout.specs.Editions.{edition1}
-use Rattle.plan_layout.specs.Layout.{taskAt, taskRows}
+use Rattle.plan_layout.proofs.Ground.{_-_, replicate, arith, needs, mostTasks, noTask, Placed, placed-none, placed-one, placed-all}
+use Rattle.plan_layout.proofs.Ground.{edition1, taskAt, taskRows}
 use Rattle.plan_layout.proofs.load_tasks.Statement.{statement}
 use Rattle.plan_layout.proofs.load_tasks.Tie as tie
 

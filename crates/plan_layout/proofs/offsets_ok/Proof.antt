@@ -1,5 +1,5 @@
 -- Each test is that of the definition.
-use Rattle.folds.proofs.Ground.{needs}
+use Rattle.plan_layout.proofs.Ground.{needs}
 use Rattle.plan_layout.specs.Layout.{offsetsOk}
 use Rattle.plan_layout.proofs.Laws.{header-fields}
 use Rattle.plan_layout.proofs.offsets_ok.Statement.{statement}

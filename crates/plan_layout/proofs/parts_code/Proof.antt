@@ -1,11 +1,10 @@
 -- Each return is the branch of the definition; what a callee requires is what the counts give.
-use Rattle.folds.proofs.Ground.{ℕ, suc, Bool, true, false, cond, _≡_, sym, _∙_, arith, needs}
+use Rattle.plan_layout.proofs.Ground.{ℕ, Bool, true, false, cond, _≡_, sym, _∙_, arith, needs, counts-facts, edition1, taskCode}
+use Rattle.plan_layout.proofs.Ground.{restCode}
+use Rattle.folds.proofs.Ground.{suc}
 use Rattle.folds.proofs.Tests.{code-zero, code-next}
 use Rattle.plan_rules.specs.Rules.{Tests}
-use Rattle.plan_rules.proofs.Laws.{counts-facts}
-use Rattle.plan_layout.specs.Editions.{edition1}
 use Rattle.plan_layout.specs.Layout.{partsTests, partsCode}
-use Rattle.plan_layout.specs.Inner.{taskCode, restCode}
 use Rattle.plan_layout.proofs.parts_code.Statement.{statement}
 use Rattle.plan_layout.proofs.parts_code.Tie as tie
 

@@ -1,5 +1,5 @@
 -- The fields stand where the layout says.
-use Rattle.folds.proofs.Ground.{sym, _∙_, needs}
+use Rattle.plan_layout.proofs.Ground.{sym, _∙_, needs}
 use Rattle.plan_layout.proofs.Laws.{start-field, length-field, resource-spare}
 use Rattle.plan_layout.proofs.resource_at.Statement.{statement}
 use Rattle.plan_layout.proofs.resource_at.Tie as tie

@@ -1,11 +1,8 @@
 -- Each return is the branch of the definition; what a callee requires is what the counts give.
-use Rattle.folds.proofs.Ground.{_≡_, arith, needs}
-use Rattle.folds.proofs.Tests.{held, failed}
+use Rattle.plan_layout.proofs.Ground.{_≡_, arith, needs, held, failed, counts-facts, edition1, lengthRows, lengthRowsOk, sectionCode}
+use Rattle.plan_layout.proofs.Ground.{restCode}
 use Rattle.plan_rules.specs.Rules.{namesOk}
-use Rattle.plan_rules.proofs.Laws.{InRange, counts-facts}
-use Rattle.plan_layout.specs.Editions.{edition1}
-use Rattle.plan_layout.specs.Layout.{lengthRows, lengthRowsOk}
-use Rattle.plan_layout.specs.Inner.{sectionCode, restCode}
+use Rattle.plan_rules.proofs.Laws.{InRange}
 use Rattle.plan_layout.proofs.rest_code.Statement.{statement}
 use Rattle.plan_layout.proofs.rest_code.Tie as tie
 

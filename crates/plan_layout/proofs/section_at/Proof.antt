@@ -1,5 +1,5 @@
 -- The fields stand where the layout says.
-use Rattle.folds.proofs.Ground.{sym, needs}
+use Rattle.plan_layout.proofs.Ground.{sym, needs}
 use Rattle.plan_layout.proofs.Laws.{section-fields}
 use Rattle.plan_layout.proofs.section_at.Statement.{statement}
 use Rattle.plan_layout.proofs.section_at.Tie as tie

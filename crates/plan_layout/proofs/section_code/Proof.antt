@@ -1,10 +1,7 @@
 -- The invariant: `sums` holds the sums of the lengths of the sections below `i`, by task.
-use Rattle.folds.proofs.Ground.{_-_, _%_, Bool, true, false, cond, _≡_, refl, arith, not-true, not-false}
-use Rattle.folds.proofs.Tests.{held, failed}
-use Rattle.folds.proofs.Arrays.{gatheredBelow, gathered-step}
-use Rattle.refusals.specs.Numbers.{sectionsAbove}
-use Rattle.plan_layout.specs.Editions.{edition1}
-use Rattle.plan_layout.specs.Inner.{sectionCode}
+use Rattle.plan_layout.proofs.Ground.{_-_, _%_, Bool, true, false, cond, _≡_, refl, arith, not-true, not-false, held, failed}
+use Rattle.plan_layout.proofs.Ground.{gatheredBelow, sectionsAbove, edition1, sectionCode}
+use Rattle.folds.proofs.Arrays.{gathered-step}
 use Rattle.plan_layout.proofs.Sums.{Summed, sums-small, code-sums}
 use Rattle.plan_layout.proofs.section_code.Statement.{statement}
 use Rattle.plan_layout.proofs.section_code.Tie as tie

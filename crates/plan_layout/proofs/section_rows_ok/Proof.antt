@@ -1,9 +1,6 @@
 -- The invariant: the test is that of all rows passed.
-use Rattle.folds.proofs.Ground.{_-_, arith}
-use Rattle.plan_rules.specs.Rules.{sectionOk}
-use Rattle.plan_rules.proofs.Loops.{Tested, tested-none, tested-one, tested-all}
-use Rattle.plan_layout.specs.Editions.{edition1}
-use Rattle.plan_layout.specs.Layout.{sectionAt, sectionRowsOk}
+use Rattle.plan_layout.proofs.Ground.{_-_, arith, sectionOk, Tested, tested-none, tested-one, tested-all, edition1, sectionAt}
+use Rattle.plan_layout.proofs.Ground.{sectionRowsOk}
 use Rattle.plan_layout.proofs.section_rows_ok.Statement.{statement}
 use Rattle.plan_layout.proofs.section_rows_ok.Tie as tie
 

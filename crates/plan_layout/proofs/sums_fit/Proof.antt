@@ -1,9 +1,6 @@
 -- The invariant: `ok` says whether the sums of the tasks below `i` fit their execution times.
-use Rattle.folds.proofs.Ground.{_-_, leb, getD, arith}
-use Rattle.plan_rules.proofs.Loops.{Tested, tested-none, tested-one, tested-all}
-use Rattle.plan_layout.specs.Editions.{edition1}
-use Rattle.plan_layout.specs.Layout.{taskAt}
-use Rattle.plan_layout.specs.Inner.{sumsFit}
+use Rattle.plan_layout.proofs.Ground.{_-_, getD, arith, Tested, tested-none, tested-one, tested-all, edition1, taskAt, sumsFit}
+use Rattle.folds.proofs.Ground.{leb}
 use Rattle.plan_layout.proofs.sums_fit.Statement.{statement}
 use Rattle.plan_layout.proofs.sums_fit.Tie as tie
 

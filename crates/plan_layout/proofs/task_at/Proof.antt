@@ -1,5 +1,5 @@
 -- The fields stand where the layout says.
-use Rattle.folds.proofs.Ground.{_+_, _*_, sym, arith, needs}
+use Rattle.plan_layout.proofs.Ground.{_+_, _*_, sym, arith, needs}
 use Rattle.plan_layout.proofs.Laws.{task-fields}
 use Rattle.plan_layout.proofs.task_at.Statement.{statement}
 use Rattle.plan_layout.proofs.task_at.Tie as tie

@@ -1,13 +1,8 @@
 -- The invariant: the tables mark the tags and places of the rows passed, and the two tests are those of all of them.
-use Rattle.folds.proofs.Ground.{ℕ, _+_, _*_, _%_, _<_, _-_, Bool, true, false, cond, _&&_, _≡_, refl, ap, ap₂, List, arith, not-true, not-false, needs}
-use Rattle.folds.specs.Below.{allBelow}
-use Rattle.folds.proofs.Tests.{all-step}
-use Rattle.folds.proofs.Arrays.{markedBelow, marked-step, marked-new}
-use Rattle.refusals.specs.Numbers.{wrongTask, repeated}
-use Rattle.plan_rules.specs.declared.TaskRow.{TaskRow}
-use Rattle.plan_layout.specs.Editions.{edition1}
-use Rattle.plan_layout.specs.Layout.{taskRowsOk}
-use Rattle.plan_layout.specs.Inner.{taskCode}
+use Rattle.plan_layout.proofs.Ground.{ℕ, _+_, _*_, _%_, _<_, _-_, Bool, true, false, cond, _&&_, _≡_, refl, ap, ap₂, List, arith}
+use Rattle.plan_layout.proofs.Ground.{not-true, not-false, needs, allBelow, all-step, markedBelow, wrongTask, repeated, TaskRow}
+use Rattle.plan_layout.proofs.Ground.{edition1, taskRowsOk, taskCode}
+use Rattle.folds.proofs.Arrays.{marked-step, marked-new}
 use Rattle.plan_layout.proofs.Unique.{tagKey, placeKey, Seen, seen-code}
 use Rattle.plan_layout.proofs.task_code.Statement.{statement}
 use Rattle.plan_layout.proofs.task_code.Tie as tie

@@ -1,5 +1,4 @@
-use Rattle.folds.proofs.Ground.{arith, needs}
-use Rattle.folds.specs.Bytes.{number}
+use Rattle.plan_layout.proofs.Ground.{arith, needs, number}
 use Rattle.plan_layout.proofs.word_at.Statement.{statement}
 use Rattle.plan_layout.proofs.word_at.Tie as tie
 

@@ -1,5 +1,5 @@
 -- Each return is the branch of the definition.
-use Rattle.folds.proofs.Ground.{sym, _∙_, needs}
+use Rattle.plan_reading.proofs.Ground.{sym, _∙_, needs}
 use Rattle.plan_reading.proofs.Laws.{header-facts, header-fails, header-holds}
 use Rattle.plan_reading.proofs.check.Statement.{statement}
 use Rattle.plan_reading.proofs.check.Tie as tie

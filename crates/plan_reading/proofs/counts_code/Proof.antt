@@ -1,10 +1,6 @@
 -- Each return is the branch of the definition.
-use Rattle.folds.proofs.Ground.{_≡_, needs}
+use Rattle.plan_reading.proofs.Ground.{_≡_, needs, countsOk, known, countsOf, offsetsOk, countsCode}
 use Rattle.folds.proofs.Tests.{held, failed}
-use Rattle.plan_rules.specs.Rules.{countsOk}
-use Rattle.plan_layout.specs.Editions.{known}
-use Rattle.plan_layout.specs.Layout.{countsOf, offsetsOk}
-use Rattle.plan_reading.specs.Checks.{countsCode}
 use Rattle.plan_reading.proofs.counts_code.Statement.{statement}
 use Rattle.plan_reading.proofs.counts_code.Tie as tie
 

@@ -1,6 +1,6 @@
 -- Each return is the branch of the definition.
-use Rattle.folds.proofs.Ground.{lt-ltb, le-ltb, eq-eqb, ne-eqb, needs}
-use Rattle.plan_reading.specs.Checks.{headerCode}
+use Rattle.plan_reading.proofs.Ground.{eq-eqb, ne-eqb, needs, headerCode}
+use Rattle.folds.proofs.Ground.{lt-ltb, le-ltb}
 use Rattle.plan_reading.proofs.header_code.Statement.{statement}
 use Rattle.plan_reading.proofs.header_code.Tie as tie
 

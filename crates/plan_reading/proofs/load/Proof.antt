@@ -1,9 +1,6 @@
 -- Each group is loaded from the part that begins at its offset.
-use Rattle.folds.proofs.Ground.{_≡_, ap, _∙_, length-drop, arith, needs}
-use Rattle.folds.proofs.Parts.{part-rest}
-use Rattle.plan_rules.specs.declared.Counts.{Counts}
-use Rattle.plan_layout.specs.Editions.{headerLength}
-use Rattle.plan_layout.specs.Layout.{countsOf, resourcesAt, sectionsAt, taskRowsOf, lengthsOf, sectionsOf}
+use Rattle.plan_reading.proofs.Ground.{_≡_, ap, _∙_, length-drop, arith, needs, part-rest, Counts, headerLength, countsOf}
+use Rattle.plan_reading.proofs.Ground.{resourcesAt, sectionsAt, taskRowsOf, lengthsOf, sectionsOf}
 use Rattle.plan_reading.proofs.Laws.{Header, header-facts}
 use Rattle.plan_reading.proofs.load.Statement.{statement}
 use Rattle.plan_reading.proofs.load.Tie as tie

@@ -1,7 +1,5 @@
 -- The names begin where the counts say, and the header's checks gave that this lies in the file.
-use Rattle.folds.proofs.Ground.{_≤_, ap, _∙_, length, arith, needs}
-use Rattle.folds.proofs.Parts.{part-rest}
-use Rattle.plan_layout.specs.Layout.{namesAt}
+use Rattle.plan_reading.proofs.Ground.{_≤_, ap, _∙_, length, arith, needs, part-rest, namesAt}
 use Rattle.plan_reading.proofs.Laws.{header-facts}
 use Rattle.plan_reading.proofs.rows_code.Statement.{statement}
 use Rattle.plan_reading.proofs.rows_code.Tie as tie

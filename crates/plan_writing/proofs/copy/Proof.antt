@@ -1,10 +1,8 @@
 -- The values that are written are those of the file that was read, so what is written is that file.
-use Rattle.folds.proofs.Ground.{ℕ, _-_, _<_, _≡_, sym, ap, _∙_, List, length, getD, take, drop, arith, needs}
+use Rattle.plan_writing.proofs.Ground.{ℕ, _-_, _<_, _≡_, sym, ap, _∙_, List, length, getD, take, drop, arith, needs, countsOf}
+use Rattle.plan_writing.proofs.Ground.{rowsOf, namesOf, namesAt, Reading, whole-facts, none-failed}
 use Rattle.folds.proofs.Parts.{part-rest}
-use Rattle.plan_layout.specs.Layout.{countsOf, rowsOf, namesOf, namesAt}
-use Rattle.plan.specs.declared.Reading.{Reading}
-use Rattle.plan_reading.proofs.Laws.{whole-facts}
-use Rattle.plan.proofs.Laws.{none-failed, Got, got-plan, got-refusal}
+use Rattle.plan.proofs.Laws.{Got, got-plan, got-refusal}
 use Rattle.plan_writing.proofs.Outcome.{copy-so, copy-refused}
 use Rattle.plan_writing.proofs.copy.Statement.{statement}
 use Rattle.plan_writing.proofs.copy.Tie as tie

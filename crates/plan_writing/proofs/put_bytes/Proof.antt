@@ -1,5 +1,6 @@
 -- The invariant: the first `k` of the bytes stand at the front of the buffer, and what lies behind is as it was.
-use Rattle.folds.proofs.Ground.{ℕ, _≤_, _<_, _+_, _-_, _≡_, refl, List, _++_, length, getD, set, take, drop, length-set, paste-suc, take-length, zero-add, add-one, arith}
+use Rattle.plan_writing.proofs.Ground.{ℕ, _≤_, _<_, _+_, _-_, _≡_, refl, List, _++_, length, getD, take, drop, arith}
+use Rattle.folds.proofs.Ground.{set, length-set, paste-suc, take-length, zero-add, add-one}
 use Rattle.plan_writing.proofs.put_bytes.Statement.{statement}
 use Rattle.plan_writing.proofs.put_bytes.Tie as tie
 

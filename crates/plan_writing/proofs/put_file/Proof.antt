@@ -1,9 +1,6 @@
 -- Each part is put behind those before it: `rows-part` and `part-more`.
-use Rattle.folds.proofs.Ground.{ℕ, _+_, refl, ap, _∙_, length, length-take, length-drop, arith, needs}
-use Rattle.plan_rules.proofs.Laws.{InRange, counts-facts}
-use Rattle.plan_layout.specs.Layout.{tasksAt}
-use Rattle.plan_layout.specs.Inner.{taskWidth, resourceWidth, sectionWidth}
-use Rattle.plan_writing.specs.Encode.{headerBytes}
+use Rattle.plan_writing.proofs.Ground.{ℕ, _+_, refl, ap, _∙_, length, length-take, length-drop, arith, needs, InRange, counts-facts}
+use Rattle.plan_writing.proofs.Ground.{tasksAt, taskWidth, resourceWidth, sectionWidth, headerBytes}
 use Rattle.plan_writing.proofs.Put.{Front, put-front, part-more, rows-part, task-length, resource-length, section-length, file-same}
 use Rattle.plan_writing.proofs.Values.{header-length}
 use Rattle.plan_writing.proofs.put_file.Statement.{statement}

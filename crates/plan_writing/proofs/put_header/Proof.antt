@@ -1,8 +1,5 @@
 -- The row is the bytes of the header's numbers.
-use Rattle.folds.proofs.Ground.{arith, needs}
-use Rattle.folds.specs.Bytes.{rowBytes, digits}
-use Rattle.plan_rules.proofs.Laws.{counts-facts}
-use Rattle.plan_writing.specs.Encode.{headerBytes}
+use Rattle.plan_writing.proofs.Ground.{arith, needs, rowBytes, digits, counts-facts, headerBytes}
 use Rattle.plan_writing.proofs.put_header.Statement.{statement}
 use Rattle.plan_writing.proofs.put_header.Tie as tie
 

@@ -1,11 +1,8 @@
 -- The invariant: the first `i` resource rows stand at the front of the buffer, what lies behind is as it was, and `start` is the sum of their lengths.
-use Rattle.folds.proofs.Ground.{ℕ, _≤_, _-_, _*_, _≡_, refl, List, length-take, length-drop, arith}
+use Rattle.plan_writing.proofs.Ground.{ℕ, _≤_, _-_, _*_, _≡_, refl, List, length-take, length-drop, arith, lengthOf, edition1}
+use Rattle.plan_writing.proofs.Ground.{resourceWidth, resourceBytes}
 use Rattle.folds.specs.Below.{sumBelow}
 use Rattle.folds.proofs.Figures.{sum-step}
-use Rattle.plan_rules.specs.Rules.{lengthOf}
-use Rattle.plan_layout.specs.Editions.{edition1}
-use Rattle.plan_layout.specs.Inner.{resourceWidth}
-use Rattle.plan_writing.specs.Encode.{resourceBytes}
 use Rattle.plan_writing.proofs.Put.{Rowed, rows-none, rows-more, rows-all, resource-length}
 use Rattle.plan_writing.proofs.put_resources.Statement.{statement}
 use Rattle.plan_writing.proofs.put_resources.Tie as tie

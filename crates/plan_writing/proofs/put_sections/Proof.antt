@@ -1,8 +1,5 @@
 -- The invariant: the first `i` section rows stand at the front of the buffer, and what lies behind is as it was.
-use Rattle.folds.proofs.Ground.{_-_, length-take, length-drop, arith}
-use Rattle.plan_layout.specs.Editions.{edition1}
-use Rattle.plan_layout.specs.Inner.{sectionWidth}
-use Rattle.plan_writing.specs.Encode.{sectionBytes}
+use Rattle.plan_writing.proofs.Ground.{_-_, length-take, length-drop, arith, edition1, sectionWidth, sectionBytes}
 use Rattle.plan_writing.proofs.Put.{Rowed, rows-none, rows-more, rows-all, section-length}
 use Rattle.plan_writing.proofs.put_sections.Statement.{statement}
 use Rattle.plan_writing.proofs.put_sections.Tie as tie

@@ -1,8 +1,5 @@
 -- The invariant: the first `i` task rows stand at the front of the buffer, and what lies behind is as it was.
-use Rattle.folds.proofs.Ground.{_-_, length-take, length-drop, arith}
-use Rattle.plan_layout.specs.Editions.{edition1}
-use Rattle.plan_layout.specs.Inner.{taskWidth}
-use Rattle.plan_writing.specs.Encode.{taskBytes}
+use Rattle.plan_writing.proofs.Ground.{_-_, length-take, length-drop, arith, edition1, taskWidth, taskBytes}
 use Rattle.plan_writing.proofs.Put.{Rowed, rows-none, rows-more, rows-all, task-length, tag-at}
 use Rattle.plan_writing.proofs.put_tasks.Statement.{statement}
 use Rattle.plan_writing.proofs.put_tasks.Tie as tie

@@ -1,5 +1,5 @@
 -- The front of the buffer is the file that was written, and reading it gives the same plan.
-use Rattle.folds.proofs.Ground.{length, sym, _∙_, arith, needs}
+use Rattle.plan_writing.proofs.Ground.{length, sym, _∙_, arith, needs}
 use Rattle.plan_writing.proofs.Outcome.{WrittenAs, was-written, was-refused, code-clear, back-same, back-refused, back-so}
 use Rattle.plan_writing.proofs.read_back.Statement.{statement}
 use Rattle.plan_writing.proofs.read_back.Tie as tie

@@ -1,8 +1,6 @@
 -- The invariant: the test is that of all tags passed.
-use Rattle.folds.proofs.Ground.{_-_, leb, refl, arith}
-use Rattle.plan_rules.specs.Rules.{taskOf, tagsOk}
+use Rattle.plan_writing.proofs.Ground.{_-_, leb, refl, arith, taskOf, tagsOk, edition1, formatOf}
 use Rattle.plan_rules.proofs.Loops.{Tested, tested-none, tested-one, tested-all}
-use Rattle.plan_layout.specs.Editions.{edition1, formatOf}
 use Rattle.plan_writing.proofs.tags_ok.Statement.{statement}
 use Rattle.plan_writing.proofs.tags_ok.Tie as tie
 

@@ -1,10 +1,7 @@
 -- The rows stand in a file of their own, where the checks of a file say what the rules of values say: `parts-values`.
-use Rattle.folds.proofs.Ground.{true, _≡_, _∙_, arith, needs}
+use Rattle.plan_writing.proofs.Ground.{true, _≡_, _∙_, arith, needs, countsOk, tagsOk, InRange, counts-facts, edition1, formatOf}
+use Rattle.plan_writing.proofs.Ground.{known, valuesCode}
 use Rattle.folds.proofs.Tests.{held, failed}
-use Rattle.plan_rules.specs.Rules.{countsOk, tagsOk}
-use Rattle.plan_rules.proofs.Laws.{InRange, counts-facts}
-use Rattle.plan_layout.specs.Editions.{edition1, formatOf, known}
-use Rattle.plan_layout.specs.Layout.{valuesCode}
 use Rattle.plan_writing.proofs.Values.{parts-values, tags-fail}
 use Rattle.plan_writing.proofs.values_code.Statement.{statement}
 use Rattle.plan_writing.proofs.values_code.Tie as tie

@@ -1,8 +1,5 @@
 -- Each return is the case of the definition; the length fits 16 bits, since the counts and the names do.
-use Rattle.folds.proofs.Ground.{ℕ, _+_, _<_, _≤_, refl, sym, ap, _∙_, length, arith, needs}
-use Rattle.plan_rules.proofs.Laws.{tags-kept}
-use Rattle.plan_writing.specs.declared.WriteAnswer.the-variants.{Written}
-use Rattle.plan_writing.specs.Encode.{fileLength}
+use Rattle.plan_writing.proofs.Ground.{ℕ, _+_, _<_, _≤_, refl, sym, ap, _∙_, length, arith, needs, tags-kept, Written, fileLength}
 use Rattle.plan_writing.proofs.Put.{sized}
 use Rattle.plan_writing.proofs.Outcome.{code-values, code-short, code-fits, wrote, kept-back, ended-so}
 use Rattle.plan_writing.proofs.write.Statement.{statement}

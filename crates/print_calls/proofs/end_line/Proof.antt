@@ -1,5 +1,5 @@
 -- Where nothing is left over there is no line; else it is that of the refusal.
-use Rattle.folds.proofs.Ground.{eq-eqb, ne-eqb, needs}
+use Rattle.print_calls.proofs.Ground.{eq-eqb, ne-eqb, needs}
 use Rattle.print_calls.specs.Output.{endLine}
 use Rattle.print_text.proofs.Lines.{no-line}
 use Rattle.print_calls.proofs.end_line.Statement.{statement}

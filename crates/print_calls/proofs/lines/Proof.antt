@@ -1,9 +1,7 @@
 -- The number told comes first. The invariant: the lines of the calls so far stand at the front of the buffer.
-use Rattle.folds.proofs.Ground.{ℕ, _+_, _-_, _^_, _≤_, _<_, refl, sym, _∙_, inl, inr, List, length, arith, needs}
-use Rattle.machine_state.specs.declared.State.{State}
-use Rattle.machine_calls.specs.Calls.{callWidth}
-use Rattle.machine.specs.Inner.{Surveyed}
-use Rattle.print_calls.specs.Buffers.{Written}
+use Rattle.print_calls.proofs.Ground.{ℕ, _+_, _-_, _≤_, _<_, refl, sym, _∙_, inl, inr, List, length, arith, needs, State, callWidth}
+use Rattle.print_calls.proofs.Ground.{Surveyed, Written}
+use Rattle.folds.proofs.Ground.{_^_}
 use Rattle.print_calls.proofs.Batches.{Begun, written-none, written-step, call-left, room-left, ended-by, first-none, told-none, told-lines}
 use Rattle.print_calls.proofs.Calls.{looked-at}
 use Rattle.print_calls.proofs.lines.Statement.{statement}
@@ -22,10 +20,10 @@ abbrev μ-loop : tie.MeasureT-loop
 μ-loop file calls out₀ figures code first refusal current₀ used₀ end₀ out current used end = length calls - used
 
 -- ── once the number of the plan and of the state is known ──
-abbrev looked : tie.After-state-code Inv-loop μ-loop → tie.After-look Inv-loop μ-loop
+abbrev looked : tie.After-state-refusal Inv-loop μ-loop → tie.After-look Inv-loop μ-loop
 looked c = c .before .before .before
 
-abbrev start : tie.After-state-code Inv-loop μ-loop → tie.Start Inv-loop μ-loop
+abbrev start : tie.After-state-refusal Inv-loop μ-loop → tie.Start Inv-loop μ-loop
 start c =
     let fresh = looked c .before in
     fresh .before .before .before .before
@@ -49,7 +47,7 @@ loop-holds c =
     let l = c .before in
     let s = l .before in
     let z = first-none _ _ _ (sym (l .lines-code .ensures) ∙ c .if1 .left) in
-    record { plan = looked-at _ (looked s .look .ensures .0) (s .state-code .ensures) z; written = written-none _ _ _ _; begun = inl (refl, refl) }
+    record { plan = looked-at _ (looked s .look .ensures .0) (s .state-refusal .ensures) z; written = written-none _ _ _ _; begun = inl (refl, refl) }
 
 loop-again : tie.Need-loop-again Inv-loop μ-loop
 loop-again c =
@@ -70,7 +68,7 @@ returns-2 c =
     let l = c .before .before .before in
     let a = start (l .before) .args in
     let e = ended-by _ (i .used) _ (i .end) (w .within) (w .fits) (rw (w .long) at (c .loop-test .left)) in
-    told-lines _ _ (a .calls .now) _ (l .before .state-code .ensures) (l .lines-code .ensures) (c .before .before .if1 .left) w (i .inv .begun) e
+    told-lines _ _ (a .calls .now) _ (l .before .state-refusal .ensures) (l .lines-code .ensures) (c .before .before .if1 .left) w (i .inv .begun) e
 
 pub lines-spec : {M : Type 1} → statement M
 lines-spec =
@@ -79,7 +77,7 @@ lines-spec =
     Inv-loop μ-loop (λ c. search needs) (λ c κs. search needs) (λ c. search needs) (λ c κs. search needs) (λ c κs. search needs)
     (λ c κs. search needs)
     (λ c. let l = c .before .before in rw (c .none-made .ensures)
-    (told-none _ _ (start (l .before) .args .calls .now) _ (l .before .state-code .ensures) (l .lines-code .ensures) (c .before .if1 .taken)))
+    (told-none _ _ (start (l .before) .args .calls .now) _ (l .before .state-refusal .ensures) (l .lines-code .ensures) (c .before .if1 .taken)))
     loop-holds
     (λ c. c .loop .inv .written .within) (λ c. let w = c .loop .inv .written in rw (w .long) (w .fits)) (λ c. search needs)
     (λ c κs. record { least = omega arith; most = omega arith; whole = left (turn c) })

@@ -1,5 +1,5 @@
 -- The bytes are no call, or the line is that of its answer.
-use Rattle.folds.proofs.Ground.{needs}
+use Rattle.print_calls.proofs.Ground.{needs}
 use Rattle.machine_calls.proofs.Calls.{decoded-call, decoded-no-call}
 use Rattle.print_calls.proofs.Naming.{call-names}
 use Rattle.print_calls.proofs.Calls.{stepped-none, stepped-call}

@@ -1,5 +1,5 @@
 -- Each answer has its line; those that name a resource have one to name.
-use Rattle.folds.proofs.Ground.{arith, needs}
+use Rattle.print_lines.proofs.Ground.{arith, needs}
 use Rattle.print_text.proofs.TextLaws.{put-wider}
 use Rattle.print_lines.specs.Lines.{mostLine}
 use Rattle.print_lines.proofs.put_answer.Statement.{statement}

@@ -1,8 +1,5 @@
 -- Each field in its way.
-use Rattle.folds.proofs.Ground.{[], arith, needs}
-use Rattle.print_text.proofs.TextLaws.{put-in, put-none, put-held}
-use Rattle.print_lines.specs.declared.Field.the-variants.{Signed}
-use Rattle.print_lines.specs.Inner.{fieldText}
+use Rattle.print_lines.proofs.Ground.{[], arith, needs, put-in, put-none, put-held, Signed, fieldText}
 use Rattle.print_lines.proofs.put_field.Statement.{statement}
 use Rattle.print_lines.proofs.put_field.Tie as tie
 

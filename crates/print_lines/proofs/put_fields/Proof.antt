@@ -1,6 +1,6 @@
 -- The invariant: the fields from `i` on are left, and those before stand in the buffer.
-use Rattle.folds.proofs.Ground.{_+_, _-_, _≤_, _≡_, _∷_, length, getD, drop, drop-of-length-le, drop-cons, add-one, arith, needs}
-use Rattle.print_lines.specs.declared.Field.the-variants.{Number}
+use Rattle.print_lines.proofs.Ground.{_+_, _≤_, _≡_, _∷_, length, arith, needs, Number}
+use Rattle.folds.proofs.Ground.{_-_, getD, drop, drop-of-length-le, drop-cons, add-one}
 use Rattle.print_lines.proofs.Fields.{Left, left-all, left-first, left-less, left-none}
 use Rattle.print_lines.proofs.put_fields.Statement.{statement}
 use Rattle.print_lines.proofs.put_fields.Tie as tie

@@ -1,6 +1,5 @@
 -- The word, the fields, the end.
-use Rattle.folds.proofs.Ground.{length, arith, needs}
-use Rattle.print_text.proofs.TextLaws.{put-in, put-in-then}
+use Rattle.print_lines.proofs.Ground.{length, arith, needs, put-in, put-in-then}
 use Rattle.print_lines.proofs.put_line.Statement.{statement}
 use Rattle.print_lines.proofs.put_line.Tie as tie
 

@@ -1,6 +1,5 @@
 -- The space, then the digits.
-use Rattle.folds.proofs.Ground.{arith, needs}
-use Rattle.print_text.proofs.TextLaws.{put-in, put-in-then}
+use Rattle.print_lines.proofs.Ground.{arith, needs, put-in, put-in-then}
 use Rattle.print_lines.proofs.put_number.Statement.{statement}
 use Rattle.print_lines.proofs.put_number.Tie as tie
 

@@ -1,7 +1,6 @@
 -- The space, then the number.
-use Rattle.folds.proofs.Ground.{arith, needs}
+use Rattle.print_lines.proofs.Ground.{arith, needs, put-in, put-in-then, put-held}
 use Rattle.print_text.specs.Text.{signed}
-use Rattle.print_text.proofs.TextLaws.{put-in, put-in-then, put-held}
 use Rattle.print_lines.proofs.put_signed.Statement.{statement}
 use Rattle.print_lines.proofs.put_signed.Tie as tie
 

@@ -1,6 +1,5 @@
 -- Each word is put with the space before it.
-use Rattle.folds.proofs.Ground.{arith, needs}
-use Rattle.print_text.proofs.TextLaws.{put-in}
+use Rattle.print_lines.proofs.Ground.{arith, needs, put-in}
 use Rattle.print_lines.proofs.put_word.Statement.{statement}
 use Rattle.print_lines.proofs.put_word.Tie as tie
 

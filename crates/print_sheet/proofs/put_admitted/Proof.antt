@@ -1,6 +1,5 @@
 -- The field is one of two words.
-use Rattle.folds.proofs.Ground.{arith, needs}
-use Rattle.print_text.proofs.TextLaws.{put-wider}
+use Rattle.print_sheet.proofs.Ground.{arith, needs, put-wider}
 use Rattle.print_lines.specs.declared.Word.the-variants.{Yes, No}
 use Rattle.print_sheet.specs.Inner.{admittedRoom}
 use Rattle.print_sheet.proofs.Laws.{either-text}

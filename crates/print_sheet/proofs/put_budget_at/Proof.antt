@@ -1,13 +1,8 @@
 -- There is a line where the processor uses the resource; budget and wait time are those of the table.
-use Rattle.folds.proofs.Ground.{_<_, _&&_, _≡_, _∙_, arith, needs}
+use Rattle.print_sheet.proofs.Ground.{_<_, _&&_, _≡_, _∙_, arith, needs, mostProcessors, mostResources, put-wider, planOf}
+use Rattle.print_sheet.proofs.Ground.{valid-plan, usedOn, global, budgetRoom}
 use Rattle.folds.proofs.Tests.{held, failed}
-use Rattle.sizes.specs.Sizes.{mostProcessors, mostResources}
-use Rattle.print_text.proofs.TextLaws.{put-wider}
-use Rattle.plan_reading.specs.Plan.{planOf}
-use Rattle.plan_reading.proofs.Laws.{valid-plan}
-use Rattle.analysis_equations.specs.Sharing.{usedOn, global}
 use Rattle.analysis_figures.proofs.Cells.{budget-of}
-use Rattle.print_sheet.specs.Inner.{budgetRoom}
 use Rattle.print_sheet.proofs.Laws.{line-out}
 use Rattle.print_sheet.proofs.put_budget_at.Statement.{statement}
 use Rattle.print_sheet.proofs.put_budget_at.Tie as tie

@@ -1,10 +1,7 @@
 -- The invariant: the lines of the processors below `k`, one behind the other.
-use Rattle.folds.proofs.Ground.{_-_, arith, needs}
-use Rattle.sizes.specs.Sizes.{mostProcessors}
-use Rattle.print_text.proofs.Turns.{PutBelow, turns-none, turns-more, turns-room, turns-done}
-use Rattle.plan_reading.specs.Plan.{planOf}
-use Rattle.plan_reading.proofs.Laws.{valid-plan}
-use Rattle.print_sheet.specs.Sheet.{budgetLinesOf, budgetLines}
+use Rattle.print_sheet.proofs.Ground.{_-_, arith, needs, mostProcessors, PutBelow, turns-none, turns-more, turns-room, turns-done}
+use Rattle.print_sheet.proofs.Ground.{planOf, valid-plan, budgetLinesOf}
+use Rattle.print_sheet.specs.Sheet.{budgetLines}
 use Rattle.print_sheet.specs.Inner.{budgetsOfRoom}
 use Rattle.print_sheet.proofs.put_budgets.Statement.{statement}
 use Rattle.print_sheet.proofs.put_budgets.Tie as tie

@@ -1,6 +1,5 @@
 -- The budgets, and the hold times behind them.
-use Rattle.folds.proofs.Ground.{needs}
-use Rattle.print_text.proofs.TextLaws.{put-in-then}
+use Rattle.print_sheet.proofs.Ground.{needs, put-in-then}
 use Rattle.print_sheet.specs.Sheet.{figureLines}
 use Rattle.print_sheet.proofs.put_figures.Statement.{statement}
 use Rattle.print_sheet.proofs.put_figures.Tie as tie

@@ -1,12 +1,7 @@
 -- The table has 0 exactly where there is no line.
-use Rattle.folds.proofs.Ground.{_<_, _≡_, _∙_, arith, needs}
-use Rattle.sizes.specs.Sizes.{mostTasks, mostResources}
-use Rattle.print_text.proofs.TextLaws.{put-wider}
-use Rattle.plan_reading.specs.Plan.{planOf, Valid}
-use Rattle.plan_reading.proofs.Laws.{valid-plan}
-use Rattle.analysis_equations.specs.HoldTimes.{holdAt}
+use Rattle.print_sheet.proofs.Ground.{_<_, _≡_, _∙_, arith, needs, mostTasks, mostResources, put-wider, planOf, Valid, valid-plan}
+use Rattle.print_sheet.proofs.Ground.{holdAt, holdRoom}
 use Rattle.analysis_figures.proofs.Cells.{hold-of}
-use Rattle.print_sheet.specs.Inner.{holdRoom}
 use Rattle.print_sheet.proofs.Laws.{line-out, hold-none, hold-some, hold-global, hold-is}
 use Rattle.print_sheet.proofs.put_hold_at.Statement.{statement}
 use Rattle.print_sheet.proofs.put_hold_at.Tie as tie

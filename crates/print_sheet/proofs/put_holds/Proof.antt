@@ -1,10 +1,7 @@
 -- The invariant: the lines of the tasks below `i`, one behind the other.
-use Rattle.folds.proofs.Ground.{_-_, arith, needs}
-use Rattle.sizes.specs.Sizes.{mostTasks}
-use Rattle.print_text.proofs.Turns.{PutBelow, turns-none, turns-more, turns-room, turns-done}
-use Rattle.plan_reading.specs.Plan.{planOf}
-use Rattle.plan_reading.proofs.Laws.{valid-plan}
-use Rattle.print_sheet.specs.Sheet.{holdLinesOf, holdLines}
+use Rattle.print_sheet.proofs.Ground.{_-_, arith, needs, mostTasks, PutBelow, turns-none, turns-more, turns-room, turns-done, planOf}
+use Rattle.print_sheet.proofs.Ground.{valid-plan, holdLinesOf}
+use Rattle.print_sheet.specs.Sheet.{holdLines}
 use Rattle.print_sheet.specs.Inner.{holdsOfRoom}
 use Rattle.print_sheet.proofs.put_holds.Statement.{statement}
 use Rattle.print_sheet.proofs.put_holds.Tie as tie

@@ -1,6 +1,5 @@
 -- One part behind the other.
-use Rattle.folds.proofs.Ground.{arith, needs}
-use Rattle.print_text.proofs.TextLaws.{put-wider, put-in-then}
+use Rattle.print_sheet.proofs.Ground.{arith, needs, put-wider, put-in-then}
 use Rattle.print_sheet.specs.Sheet.{planSheet, mostSheet}
 use Rattle.print_sheet.proofs.Laws.{plan-counts}
 use Rattle.print_sheet.proofs.put_parts.Statement.{statement}

@@ -1,11 +1,9 @@
 -- The last field is one of two words.
-use Rattle.folds.proofs.Ground.{arith, needs}
+use Rattle.print_sheet.proofs.Ground.{arith, needs, put-wider, requirementRoom}
 use mir.Syntax.{w64}
 use mir.Val.{SFits}
 use mir.Facts.{toZ-ofZ}
-use Rattle.print_text.proofs.TextLaws.{put-wider}
 use Rattle.print_lines.specs.declared.Word.the-variants.{Met, Unmet}
-use Rattle.print_sheet.specs.Inner.{requirementRoom}
 use Rattle.print_sheet.proofs.Laws.{either-text}
 use Rattle.print_sheet.proofs.put_requirement.Statement.{statement}
 use Rattle.print_sheet.proofs.put_requirement.Tie as tie

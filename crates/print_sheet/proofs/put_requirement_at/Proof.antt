@@ -1,9 +1,5 @@
 -- The table of terms tells whether the task asks.
-use Rattle.folds.proofs.Ground.{_<_, _≡_, _∙_, arith, needs}
-use Rattle.sizes.specs.Sizes.{mostTasks}
-use Rattle.plan_reading.specs.Plan.{planOf}
-use Rattle.plan_reading.proofs.Laws.{valid-plan}
-use Rattle.analysis_equations.specs.Blocking.{globalCount}
+use Rattle.print_sheet.proofs.Ground.{_<_, _≡_, _∙_, arith, needs, mostTasks, planOf, valid-plan, globalCount}
 use Rattle.print_sheet.proofs.Laws.{requirement-out, requirement-in}
 use Rattle.print_sheet.proofs.put_requirement_at.Statement.{statement}
 use Rattle.print_sheet.proofs.put_requirement_at.Tie as tie

@@ -1,14 +1,10 @@
 -- The invariant: the lines of the tasks below `i`, one behind the other, and whether all of them pass.
-use Rattle.folds.proofs.Ground.{ℕ, _-_, Bool, _≡_, refl, List, arith, needs}
+use Rattle.print_sheet.proofs.Ground.{ℕ, _-_, Bool, _≡_, refl, List, arith, needs, mostTasks, PutBelow, turns-none, turns-more}
+use Rattle.print_sheet.proofs.Ground.{turns-room, turns-done, planOf, valid-plan, requirementAt, requirementRoom, passes}
 use Rattle.folds.specs.Below.{allBelow}
 use Rattle.folds.proofs.Tests.{all-step, all-done}
-use Rattle.sizes.specs.Sizes.{mostTasks}
-use Rattle.print_text.proofs.Turns.{PutBelow, turns-none, turns-more, turns-room, turns-done}
-use Rattle.plan_reading.specs.Plan.{planOf}
-use Rattle.plan_reading.proofs.Laws.{valid-plan}
 use Rattle.analysis_equations.specs.Requirement.{admitted}
-use Rattle.print_sheet.specs.Sheet.{requirementAt, requirementLines}
-use Rattle.print_sheet.specs.Inner.{requirementRoom, passes}
+use Rattle.print_sheet.specs.Sheet.{requirementLines}
 use Rattle.print_sheet.proofs.put_requirements.Statement.{statement}
 use Rattle.print_sheet.proofs.put_requirements.Tie as tie
 

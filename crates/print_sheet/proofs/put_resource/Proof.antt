@@ -1,9 +1,6 @@
 -- The second field is one of two words.
-use Rattle.folds.proofs.Ground.{arith, needs}
-use Rattle.print_text.proofs.TextLaws.{put-wider}
-use Rattle.plan_reading.proofs.Laws.{valid-plan}
+use Rattle.print_sheet.proofs.Ground.{arith, needs, put-wider, valid-plan, resourceRoom}
 use Rattle.print_lines.specs.declared.Word.the-variants.{Global, Local}
-use Rattle.print_sheet.specs.Inner.{resourceRoom}
 use Rattle.print_sheet.proofs.Laws.{either-text}
 use Rattle.print_sheet.proofs.put_resource.Statement.{statement}
 use Rattle.print_sheet.proofs.put_resource.Tie as tie

@@ -1,6 +1,5 @@
 -- The requirements, and behind them whether all are met.
-use Rattle.folds.proofs.Ground.{needs}
-use Rattle.print_text.proofs.TextLaws.{put-in-then}
+use Rattle.print_sheet.proofs.Ground.{needs, put-in-then}
 use Rattle.print_sheet.specs.Sheet.{verdictLines}
 use Rattle.print_sheet.proofs.put_verdict.Statement.{statement}
 use Rattle.print_sheet.proofs.put_verdict.Tie as tie

@@ -1,6 +1,6 @@
 -- The plan's own number comes first. A buffer in which every sheet has room takes it as it is put together; another one by way of a
 -- buffer of its own.
-use Rattle.folds.proofs.Ground.{sym, _∙_, arith, needs}
+use Rattle.print_sheet.proofs.Ground.{sym, _∙_, arith, needs}
 use Rattle.print_text.proofs.Lines.{long-line, refused-before, none-before}
 use Rattle.plan_reading.specs.Plan.{Checked}
 use Rattle.plan.proofs.Laws.{accepted-checked}

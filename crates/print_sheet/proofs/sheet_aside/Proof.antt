@@ -1,5 +1,5 @@
 -- The sheet is put at the front of a buffer of its own, and handed over from there.
-use Rattle.folds.proofs.Ground.{arith, needs}
+use Rattle.print_sheet.proofs.Ground.{arith, needs}
 use Rattle.print_text.proofs.Lines.{front-part, line-short}
 use Rattle.print_sheet.proofs.sheet_aside.Statement.{statement}
 use Rattle.print_sheet.proofs.sheet_aside.Tie as tie

@@ -1,10 +1,8 @@
 -- The invariant: no task passed is one of processor k with a hold time of the resource.
-use Rattle.folds.proofs.Ground.{ℕ, _-_, _≤_, false, _&&_, not, _≡_, refl, sym, _∙_, List, eqb, arith, needs}
-use Rattle.folds.specs.Below.{anyBelow}
+use Rattle.print_sheet.proofs.Ground.{ℕ, _-_, false, _&&_, not, _≡_, refl, sym, _∙_, List, eqb, arith, needs, anyBelow, mostTasks}
+use Rattle.print_sheet.proofs.Ground.{planOf, valid-plan}
+use Rattle.folds.proofs.Ground.{_≤_}
 use Rattle.folds.proofs.Tests.{any-at, any-step, any-done}
-use Rattle.sizes.specs.Sizes.{mostTasks}
-use Rattle.plan_reading.specs.Plan.{planOf}
-use Rattle.plan_reading.proofs.Laws.{valid-plan}
 use Rattle.print_sheet.proofs.Laws.{holder, used-held}
 use Rattle.print_sheet.proofs.uses.Statement.{statement}
 use Rattle.print_sheet.proofs.uses.Tie as tie

@@ -1,10 +1,8 @@
 -- z is -(a + 1), so z + 1 is -a, of which the machine has both the negation and one more.
-use Rattle.folds.proofs.Ground.{zero, suc, _+_, _≤_, true, _≡_, refl, ap, _∙_, T, not-suc-le-zero, add-one, arith, ltb-true}
-use lib.IntN.{ℤ, pos, negsuc, sucℤ, negℤ, natAbs, _+ℤ_, _-ℤ_, +ℤ-one, +ℤ-idl}
-use lib.Signed.{ltZ, nonNeg, mag}
-use mir.Syntax.{w64}
-use mir.Val.{Fits, SFits, toZ, ofZ}
-use mir.Facts.{toZ-ofZ}
+use Rattle.print_text.proofs.Ground.{zero, suc, _+_, _≤_, true, _≡_, refl, ap, _∙_, T, not-suc-le-zero, add-one, arith, ltb-true, ℤ}
+use Rattle.print_text.proofs.Ground.{pos, negsuc, natAbs, ltZ, nonNeg, w64, Fits, SFits, toZ, ofZ, toZ-ofZ}
+use lib.IntN.{sucℤ, negℤ, _+ℤ_, _-ℤ_, +ℤ-one, +ℤ-idl}
+use lib.Signed.{mag}
 use Rattle.print_text.proofs.below_zero.Statement.{statement}
 use Rattle.print_text.proofs.below_zero.Tie as tie
 

@@ -1,5 +1,5 @@
 -- The buffer is too short, or takes the whole line.
-use Rattle.folds.proofs.Ground.{arith, needs}
+use Rattle.print_text.proofs.Ground.{arith, needs}
 use Rattle.print_text.proofs.Lines.{short-line, long-line}
 use Rattle.print_text.proofs.hand_over.Statement.{statement}
 use Rattle.print_text.proofs.hand_over.Tie as tie

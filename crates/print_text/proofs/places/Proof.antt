@@ -1,7 +1,6 @@
 -- The invariant: the digits counted and those of the rest are one more than those of n, of which the last is still to be counted.
 -- Ten to the power of the digits that are left is more than the rest, so 20 digits are enough.
-use Rattle.folds.proofs.Ground.{ℕ, zero, suc, _+_, _/_, _^_, _≤_, _<_, _≡_, arith}
-use Rattle.print_text.specs.Text.{placesTo}
+use Rattle.print_text.proofs.Ground.{ℕ, zero, suc, _+_, _/_, _^_, _≤_, _<_, _≡_, arith, placesTo}
 use Rattle.print_text.proofs.TextLaws.{places-one, places-more, places-low}
 use Rattle.print_text.proofs.places.Statement.{statement}
 use Rattle.print_text.proofs.places.Tie as tie

@@ -1,5 +1,7 @@
 -- The invariant: the first `k` bytes of the text stand in the buffer at `at`, and the rest of it is as it was.
-use Rattle.folds.proofs.Ground.{ℕ, _≤_, _+_, _-_, _≡_, refl, _∙_, List, append-assoc, length, take, drop, length-set, paste, paste-zero, paste-suc, take-length, add-one, arith}
+use Rattle.print_text.proofs.Ground.{ℕ, _≤_, _+_, _-_, _≡_, refl, _∙_, List, append-assoc, length, take, drop, length-set, add-one}
+use Rattle.print_text.proofs.Ground.{arith}
+use Rattle.folds.proofs.Ground.{paste, paste-zero, paste-suc, take-length}
 use Rattle.print_text.proofs.put.Statement.{statement}
 use Rattle.print_text.proofs.put.Tie as tie
 

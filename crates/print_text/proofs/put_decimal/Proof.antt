@@ -1,6 +1,7 @@
 -- The invariant: the buffer with the digits that are left put at `at` is the first buffer with all digits put there.
-use Rattle.folds.proofs.Ground.{ℕ, suc, _+_, _-_, _/_, _%_, _≤_, _<_, _≡_, refl, sym, ap, _∙_, List, _∷_, _++_, length, set, take, drop, length-set, take-append-drop, take-set-le, drop-cons, drop-set-lt, getD-set-same, lt-length-set, append-snoc, add-suc, add-zero, arith, needs}
-use Rattle.print_text.specs.Text.{decimals}
+use Rattle.print_text.proofs.Ground.{ℕ, suc, _+_, _-_, _/_, _%_, _≤_, _<_, _≡_, refl, sym, ap, _∙_, List, _∷_, _++_, length, take}
+use Rattle.print_text.proofs.Ground.{drop, length-set, take-append-drop, add-zero, arith, needs, decimals}
+use Rattle.folds.proofs.Ground.{set, take-set-le, drop-cons, drop-set-lt, getD-set-same, lt-length-set, append-snoc, add-suc}
 use Rattle.print_text.proofs.TextLaws.{digits-length}
 use Rattle.print_text.proofs.put_decimal.Statement.{statement}
 use Rattle.print_text.proofs.put_decimal.Tie as tie

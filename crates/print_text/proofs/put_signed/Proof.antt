@@ -1,11 +1,9 @@
 -- A minus and how far below zero it is, or the digits of what the cast holds.
-use Rattle.folds.proofs.Ground.{ℕ, true, false, true≢false, _≡_, List, T, not-suc-le-zero, arith, ltb-true, needs}
-use lib.IntN.{ℤ, pos, negsuc, natAbs}
-use lib.Signed.{ltZ, nonNeg}
-use mir.Syntax.{w64}
-use mir.Val.{Fits, SFits, toZ, ofZ}
-use mir.Facts.{toZ-ofZ, fits-natAbs}
-use Rattle.print_text.specs.Text.{quoted, mostDigits, mostSigned, decimal, signed, Put, PutIn}
+use Rattle.print_text.proofs.Ground.{ℕ, true, false, _≡_, List, T, not-suc-le-zero, arith, ltb-true, needs, ℤ, pos, negsuc, natAbs}
+use Rattle.print_text.proofs.Ground.{ltZ, nonNeg, w64, Fits, SFits, toZ, ofZ, toZ-ofZ, quoted, decimal, signed, Put, PutIn}
+use Rattle.folds.proofs.Ground.{true≢false}
+use mir.Facts.{fits-natAbs}
+use Rattle.print_text.specs.Text.{mostDigits, mostSigned}
 use Rattle.print_text.proofs.TextLaws.{put-in, put-wider, put-in-then, put-held}
 use Rattle.print_text.proofs.put_signed.Statement.{statement}
 use Rattle.print_text.proofs.put_signed.Tie as tie

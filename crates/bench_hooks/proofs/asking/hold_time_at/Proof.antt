@@ -1,6 +1,6 @@
 -- The number is made of the fields of the answer.
 use Rattle.bench_hooks.specs.Asking.{holdNumber}
-use Rattle.folds.proofs.Ground.{needs}
+use Rattle.bench_hooks.proofs.Ground.{needs}
 use Rattle.bench_hooks.proofs.asking.hold_time_at.Statement.{statement}
 use Rattle.bench_hooks.proofs.asking.hold_time_at.Tie as tie
 

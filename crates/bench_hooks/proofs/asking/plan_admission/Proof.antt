@@ -1,5 +1,5 @@
 -- The cases of the answer are those of the number.
-use Rattle.folds.proofs.Ground.{_∙_, needs}
+use Rattle.bench_hooks.proofs.Ground.{_∙_, needs}
 use Rattle.bench_hooks.proofs.Numbers.{decided-number, refused-number}
 use Rattle.bench_hooks.proofs.asking.plan_admission.Statement.{statement}
 use Rattle.bench_hooks.proofs.asking.plan_admission.Tie as tie

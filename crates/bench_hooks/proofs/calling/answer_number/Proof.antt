@@ -1,6 +1,5 @@
 -- Each answer has its number.
-use Rattle.folds.proofs.Ground.{sym, ap, needs}
-use Rattle.bench_hooks.specs.Calling.{answerNumber}
+use Rattle.bench_hooks.proofs.Ground.{sym, ap, needs, answerNumber}
 use Rattle.bench_hooks.proofs.calling.answer_number.Statement.{statement}
 use Rattle.bench_hooks.proofs.calling.answer_number.Tie as tie
 

@@ -1,7 +1,6 @@
 -- The bytes are no call, or the number is that of its answer.
-use Rattle.folds.proofs.Ground.{refl, ap, _∙_, needs}
+use Rattle.bench_hooks.proofs.Ground.{refl, ap, _∙_, needs, answerNumber}
 use Rattle.machine_calls.proofs.Calls.{decoded-call, decoded-no-call}
-use Rattle.bench_hooks.specs.Calling.{answerNumber}
 use Rattle.bench_hooks.proofs.calling.bytes_number.Statement.{statement}
 use Rattle.bench_hooks.proofs.calling.bytes_number.Tie as tie
 

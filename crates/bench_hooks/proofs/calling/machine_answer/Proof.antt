@@ -1,5 +1,5 @@
 -- The state that the list of calls returned is answered as the rules say.
-use Rattle.folds.proofs.Ground.{_∙_, needs}
+use Rattle.bench_hooks.proofs.Ground.{_∙_, needs}
 use Rattle.machine_calls.specs.Calls.{callOf}
 use Rattle.bench_hooks.proofs.After.{number-after}
 use Rattle.bench_hooks.proofs.calling.machine_answer.Statement.{statement}

@@ -1,5 +1,5 @@
 -- The state that the list of calls returned has the rows that the rules tell.
-use Rattle.folds.proofs.Ground.{_∙_, needs}
+use Rattle.bench_hooks.proofs.Ground.{_∙_, needs}
 use Rattle.bench_hooks.proofs.After.{row-after}
 use Rattle.bench_hooks.proofs.calling.machine_row.Statement.{statement}
 use Rattle.bench_hooks.proofs.calling.machine_row.Tie as tie

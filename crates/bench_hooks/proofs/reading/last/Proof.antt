@@ -1,5 +1,6 @@
 -- Three returns, one for each case of `lastOf`.
-use Rattle.folds.proofs.Ground.{eq-eqb, ne-eqb, lt-ltb, le-ltb, needs}
+use Rattle.bench_hooks.proofs.Ground.{eq-eqb, ne-eqb, needs}
+use Rattle.folds.proofs.Ground.{lt-ltb, le-ltb}
 use Rattle.bench_hooks.specs.Reading.{lastOf}
 use Rattle.bench_hooks.proofs.reading.last.Statement.{statement}
 use Rattle.bench_hooks.proofs.reading.last.Tie as tie

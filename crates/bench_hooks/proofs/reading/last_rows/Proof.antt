@@ -1,6 +1,6 @@
 -- The sum is that of the rows at the three indices.
 use Rattle.bench_hooks.specs.Reading.{lastRows}
-use Rattle.folds.proofs.Ground.{needs}
+use Rattle.bench_hooks.proofs.Ground.{needs}
 use Rattle.bench_hooks.proofs.reading.last_rows.Statement.{statement}
 use Rattle.bench_hooks.proofs.reading.last_rows.Tie as tie
 

@@ -1,5 +1,5 @@
 -- The cases of the answer are those of the number.
-use Rattle.folds.proofs.Ground.{sym, ap, _∙_, arith, eq-eqb, ne-eqb, needs}
+use Rattle.bench_hooks.proofs.Ground.{sym, ap, _∙_, arith, eq-eqb, ne-eqb, needs}
 use Rattle.plan.specs.declared.Reading.{Reading}
 use Rattle.plan.proofs.Laws.{got-plan, got-refusal}
 use Rattle.bench_hooks.specs.Reading.{readNumber}

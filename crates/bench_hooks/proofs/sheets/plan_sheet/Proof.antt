@@ -1,5 +1,6 @@
 -- The two parts of the answer, as one number.
-use Rattle.folds.proofs.Ground.{_+_, _*_, ap, needs}
+use Rattle.bench_hooks.proofs.Ground.{_*_, ap, needs}
+use Rattle.folds.proofs.Ground.{_+_}
 use Rattle.print_text.specs.declared.Handed.{Handed}
 use Rattle.bench_hooks.specs.Sheets.{sheetNumber}
 use Rattle.bench_hooks.proofs.sheets.plan_sheet.Statement.{statement}

@@ -1,5 +1,5 @@
 -- `cases::asked::holds` is safe and ends: the measure is the times that are left. Assumes nothing.
-use Rattle.folds.proofs.Ground.{_≤_, _-_, needs}
+use Rattle.cases.proofs.Ground.{_≤_, _-_, needs}
 use Rattle.cases.proofs.asked.holds.Statement.{statement}
 use Rattle.cases.proofs.asked.holds.Tie as tie
 

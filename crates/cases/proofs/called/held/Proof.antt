@@ -1,5 +1,5 @@
 -- `cases::called::held` is safe and ends: the measure is the resources that are left. Assumes nothing.
-use Rattle.folds.proofs.Ground.{_≤_, _-_, needs}
+use Rattle.cases.proofs.Ground.{_≤_, _-_, needs}
 use Rattle.cases.proofs.called.held.Statement.{statement}
 use Rattle.cases.proofs.called.held.Tie as tie
 

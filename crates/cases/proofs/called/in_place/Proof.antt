@@ -1,5 +1,5 @@
 -- `cases::called::in_place` is safe and ends: the measure is the tasks that are left. Assumes nothing.
-use Rattle.folds.proofs.Ground.{_≤_, _-_, needs}
+use Rattle.cases.proofs.Ground.{_≤_, _-_, needs}
 use Rattle.cases.proofs.called.in_place.Statement.{statement}
 use Rattle.cases.proofs.called.in_place.Tie as tie
 

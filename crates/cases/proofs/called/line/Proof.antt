@@ -1,5 +1,5 @@
 -- `cases::called::line` is safe and ends: the measure is the slots that are left. Assumes nothing.
-use Rattle.folds.proofs.Ground.{_≤_, _-_, needs}
+use Rattle.cases.proofs.Ground.{_≤_, _-_, needs}
 use Rattle.cases.proofs.called.line.Statement.{statement}
 use Rattle.cases.proofs.called.line.Tie as tie
 

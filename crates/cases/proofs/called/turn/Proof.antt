@@ -1,5 +1,5 @@
 -- `cases::called::turn` is safe and ends: the measure is the places that are left. Assumes nothing.
-use Rattle.folds.proofs.Ground.{_≤_, _-_, needs}
+use Rattle.cases.proofs.Ground.{_≤_, _-_, needs}
 use Rattle.cases.proofs.called.turn.Statement.{statement}
 use Rattle.cases.proofs.called.turn.Tie as tie
 

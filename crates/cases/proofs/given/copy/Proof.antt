@@ -1,5 +1,5 @@
 -- `cases::given::copy` is safe and ends: the measure is as many bytes as are left to copy. Assumes nothing.
-use Rattle.folds.proofs.Ground.{_≤_, _-_, _≡_, length, needs}
+use Rattle.cases.proofs.Ground.{_≤_, _-_, _≡_, length, needs}
 use Rattle.cases.proofs.given.copy.Statement.{statement}
 use Rattle.cases.proofs.given.copy.Tie as tie
 

@@ -1,5 +1,5 @@
 -- `cases::given::lengths` is safe and ends: the measure is the lengths that are left. Assumes nothing.
-use Rattle.folds.proofs.Ground.{_≤_, _-_, _≡_, length, needs}
+use Rattle.cases.proofs.Ground.{_≤_, _-_, _≡_, length, needs}
 use Rattle.cases.proofs.given.lengths.Statement.{statement}
 use Rattle.cases.proofs.given.lengths.Tie as tie
 

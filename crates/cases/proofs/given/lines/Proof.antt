@@ -1,5 +1,5 @@
 -- `cases::given::lines` is safe and ends: the measure is the rows that are left. Assumes nothing.
-use Rattle.folds.proofs.Ground.{_≤_, _-_, _≡_, length, needs}
+use Rattle.cases.proofs.Ground.{_≤_, _-_, _≡_, length, needs}
 use Rattle.cases.proofs.given.lines.Statement.{statement}
 use Rattle.cases.proofs.given.lines.Tie as tie
 

@@ -1,5 +1,5 @@
 -- `cases::given::tasks` is safe and ends: the measure is the rows that are left. Assumes nothing.
-use Rattle.folds.proofs.Ground.{_≤_, _-_, _≡_, length, needs}
+use Rattle.cases.proofs.Ground.{_≤_, _-_, _≡_, length, needs}
 use Rattle.cases.proofs.given.tasks.Statement.{statement}
 use Rattle.cases.proofs.given.tasks.Tie as tie
 

@@ -1,5 +1,5 @@
 -- `cases::same::bytes` is safe and ends: the measure is the bytes that are left. Assumes nothing.
-use Rattle.folds.proofs.Ground.{_≤_, _-_, length, needs}
+use Rattle.cases.proofs.Ground.{_≤_, _-_, length, needs}
 use Rattle.cases.proofs.same.bytes.Statement.{statement}
 use Rattle.cases.proofs.same.bytes.Tie as tie
 

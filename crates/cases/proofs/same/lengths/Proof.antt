@@ -1,5 +1,5 @@
 -- `cases::same::lengths` is safe and ends: the measure is the lengths that are left. Assumes nothing.
-use Rattle.folds.proofs.Ground.{_≤_, _-_, needs}
+use Rattle.cases.proofs.Ground.{_≤_, _-_, needs}
 use Rattle.cases.proofs.same.lengths.Statement.{statement}
 use Rattle.cases.proofs.same.lengths.Tie as tie
 

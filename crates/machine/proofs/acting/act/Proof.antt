@@ -1,7 +1,6 @@
 -- The state is not sound, the call is refused, or it is made.
-use Rattle.folds.proofs.Ground.{true, _≡_, sym, _∙_, arith, not-true, not-false, needs}
-use Rattle.plan_reading.specs.Plan.{planOf}
-use Rattle.machine_state.specs.Sound.{sound}
+use Rattle.machine.proofs.Ground.{true, _≡_, sym, _∙_, arith, not-false, needs, planOf, sound}
+use Rattle.folds.proofs.Ground.{not-true}
 use Rattle.machine.proofs.Answered.{refused-reply}
 use Rattle.machine.proofs.Replied.{unsound-code, sound-code, acted-reply}
 use Rattle.machine.proofs.acting.act.Statement.{statement}

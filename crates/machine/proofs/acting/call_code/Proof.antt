@@ -1,5 +1,5 @@
 -- Each call has its own.
-use Rattle.folds.proofs.Ground.{refl, needs}
+use Rattle.machine.proofs.Ground.{refl, needs}
 use Rattle.machine.proofs.acting.call_code.Statement.{statement}
 use Rattle.machine.proofs.acting.call_code.Tie as tie
 

@@ -1,10 +1,6 @@
 -- With somebody queued, the seat of the new head is taken by a task.
-use Rattle.folds.proofs.Ground.{_≤_, eqb, arith, eq-eqb, needs}
-use mir.Val.{boolByte}
-use Rattle.plan_reading.specs.Plan.{planOf}
+use Rattle.machine.proofs.Ground.{_≤_, eqb, arith, eq-eqb, needs, boolByte, planOf, slot, NewHead, grantedAnswer}
 use Rattle.machine_steps.proofs.Passing.{flag-low}
-use Rattle.machine_state.specs.Shows.{slot}
-use Rattle.machine.specs.Inner.{NewHead, grantedAnswer}
 use Rattle.machine.proofs.Freed.{Seated, first-task, granted-next}
 use Rattle.machine.proofs.acting.granted.Statement.{statement}
 use Rattle.machine.proofs.acting.granted.Tie as tie

@@ -1,6 +1,5 @@
 -- Each call does its own.
-use Rattle.folds.proofs.Ground.{needs}
-use Rattle.plan_reading.proofs.Laws.{valid-plan}
+use Rattle.machine.proofs.Ground.{needs, valid-plan}
 use Rattle.machine.proofs.Freed.{release-held}
 use Rattle.machine.proofs.acting.make.Statement.{statement}
 use Rattle.machine.proofs.acting.make.Tie as tie

@@ -1,12 +1,6 @@
 -- The tests in their order; who holds is who sits first in the head's queue.
-use Rattle.folds.proofs.Ground.{ℕ, _+_, _<_, cond, _≡_, _∙_, eqb, arith, eq-eqb, ne-eqb, needs}
-use Rattle.refusals.specs.Numbers.{notHeld}
-use Rattle.plan_reading.specs.Plan.{planOf}
-use Rattle.plan_reading.proofs.Laws.{valid-plan}
-use Rattle.analysis_equations.specs.Questions.{taskNumber}
-use Rattle.machine_rules.specs.Machine.{releaseCode}
-use Rattle.machine_state.specs.Shows.{shows}
-use Rattle.machine_state.proofs.Wholes.{whole-of}
+use Rattle.machine.proofs.Ground.{ℕ, _+_, _<_, cond, _≡_, _∙_, eqb, arith, eq-eqb, ne-eqb, needs, notHeld, planOf, valid-plan}
+use Rattle.machine.proofs.Ground.{taskNumber, releaseCode, shows, whole-of}
 use Rattle.machine.proofs.Freed.{release-unknown, release-past, Releases, low, release-free, head-seat, release-seat}
 use Rattle.machine.proofs.acting.release_code.Statement.{statement}
 use Rattle.machine.proofs.acting.release_code.Tie as tie

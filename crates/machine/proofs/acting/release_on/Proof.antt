@@ -1,8 +1,5 @@
 -- The resource is held, so its holder leaves.
-use Rattle.folds.proofs.Ground.{needs}
-use Rattle.plan_reading.specs.Plan.{planOf}
-use Rattle.plan_reading.proofs.Laws.{valid-plan}
-use Rattle.machine_state.proofs.Wholes.{whole-of}
+use Rattle.machine.proofs.Ground.{needs, planOf, valid-plan, whole-of}
 use Rattle.machine.proofs.Lengths.{length-mapped}
 use Rattle.machine.proofs.Freed.{Held, free-low, free-ready, free-next, free-done}
 use Rattle.machine.proofs.acting.release_on.Statement.{statement}

@@ -1,14 +1,6 @@
 -- What refuses the use comes first, then the row of the task.
-use Rattle.folds.proofs.Ground.{ℕ, _<_, cond, _≡_, sym, _∙_, arith, needs}
-use Rattle.sizes.specs.Sizes.{mostTasks}
-use Rattle.refusals.specs.Numbers.{alreadyInLine}
-use Rattle.plan_reading.specs.Plan.{planOf}
-use Rattle.plan_reading.proofs.Laws.{valid-plan}
-use Rattle.analysis_equations.specs.Questions.{useCode}
-use Rattle.analysis_equations.proofs.Laws.{use-clear}
-use Rattle.machine_rules.specs.Machine.{requestCode}
-use Rattle.machine_state.specs.Shows.{shows}
-use Rattle.machine_state.proofs.Wholes.{whole-of}
+use Rattle.machine.proofs.Ground.{ℕ, _<_, cond, _≡_, sym, _∙_, arith, needs, mostTasks, alreadyInLine, planOf, valid-plan, useCode}
+use Rattle.machine.proofs.Ground.{use-clear, requestCode, shows, whole-of}
 use Rattle.machine.proofs.Asked.{use-refused, request-by}
 use Rattle.machine.proofs.acting.request_code.Statement.{statement}
 use Rattle.machine.proofs.acting.request_code.Tie as tie

@@ -1,11 +1,6 @@
 -- A request that is not refused finds its task in line for nothing, with a hold time for the resource: it joins, and the tables tell
 -- its place and its limit.
-use Rattle.folds.proofs.Ground.{_+_, _*_, _<_, _≤_, ap, arith, needs}
-use Rattle.sizes.specs.Sizes.{mostResources}
-use Rattle.plan_rules.specs.declared.TaskRow.{TaskRow}
-use Rattle.plan_reading.specs.Plan.{planOf}
-use Rattle.plan_reading.proofs.Laws.{valid-plan}
-use Rattle.machine_state.proofs.Wholes.{whole-of}
+use Rattle.machine.proofs.Ground.{_+_, _*_, _<_, _≤_, ap, arith, needs, mostResources, TaskRow, planOf, valid-plan, whole-of}
 use Rattle.machine.proofs.Lengths.{length-mapped}
 use Rattle.machine.proofs.Asked.{Accepted, Named, request-free, core-low, resource-low, ask-joins, ask-granted, ask-waits, waits-high}
 use Rattle.machine.proofs.acting.request_on.Statement.{statement}

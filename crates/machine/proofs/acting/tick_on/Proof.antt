@@ -1,10 +1,5 @@
 -- The tables of the state are at hand, so the tick does what the rules say.
-use Rattle.folds.proofs.Ground.{needs}
-use Rattle.plan_reading.specs.Plan.{planOf, Valid}
-use Rattle.plan_reading.proofs.Laws.{valid-plan}
-use Rattle.machine_state.proofs.Good.{Whole}
-use Rattle.machine_state.proofs.Wholes.{whole-of}
-use Rattle.machine_steps.proofs.Ready.{Tabled}
+use Rattle.machine.proofs.Ground.{needs, planOf, Valid, valid-plan, Whole, whole-of, Tabled}
 use Rattle.machine.proofs.Lengths.{length-mapped}
 use Rattle.machine.proofs.Beaten.{beat-ready, beat-done}
 use Rattle.machine.proofs.acting.tick_on.Statement.{statement}

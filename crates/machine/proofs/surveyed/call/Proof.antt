@@ -1,5 +1,5 @@
 -- The refusal of the plan, then what the accepted plan says.
-use Rattle.folds.proofs.Ground.{sym, _∙_, needs}
+use Rattle.machine.proofs.Ground.{sym, _∙_, needs}
 use Rattle.machine.proofs.Answered.{plan-refused, refused-reply}
 use Rattle.machine.proofs.surveyed.call.Statement.{statement}
 use Rattle.machine.proofs.surveyed.call.Tie as tie

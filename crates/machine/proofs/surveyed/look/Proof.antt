@@ -1,6 +1,5 @@
 -- The number of the reading, or the figures of a plan that is accepted.
-use Rattle.folds.proofs.Ground.{refl, sym, _∙_, needs}
-use Rattle.plan.proofs.Laws.{accepted-checked}
+use Rattle.machine.proofs.Ground.{refl, sym, _∙_, needs, accepted-checked}
 use Rattle.machine.proofs.surveyed.look.Statement.{statement}
 use Rattle.machine.proofs.surveyed.look.Tie as tie
 

@@ -1,7 +1,5 @@
 -- The header of a checked file is whole, and the plan has its counts.
-use Rattle.folds.proofs.Ground.{ap}
-use Rattle.plan_rules.specs.declared.Counts.{Counts}
-use Rattle.plan_reading.specs.Plan.{planOf}
+use Rattle.plan_reading.proofs.Ground.{ap, Counts, planOf}
 use Rattle.plan_reading.proofs.Laws.{whole-facts}
 use Rattle.plan_reading.proofs.checked.counts.Statement.{statement}
 use Rattle.plan_reading.proofs.checked.counts.Tie as tie

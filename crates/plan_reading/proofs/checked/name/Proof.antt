@@ -1,8 +1,7 @@
 -- The part from the name's start to its end lies in the file, as the checks of the resource rows gave.
-use Rattle.folds.proofs.Ground.{ℕ, _+_, _≤_, _≡_, ap, _∙_, length, length-drop, arith, needs}
-use Rattle.folds.proofs.Parts.{part-rest, part-span}
-use Rattle.plan_layout.specs.Layout.{countsOf, resourcesAt, namesAt}
-use Rattle.plan_reading.specs.Plan.{namePart}
+use Rattle.plan_reading.proofs.Ground.{ℕ, _+_, _≤_, _≡_, ap, _∙_, length, length-drop, arith, needs, part-rest, countsOf}
+use Rattle.plan_reading.proofs.Ground.{resourcesAt, namesAt, namePart}
+use Rattle.folds.proofs.Parts.{part-span}
 use Rattle.plan_reading.proofs.Laws.{Named, startIn, lengthIn, name-facts, name-said, plan-resources}
 use Rattle.plan_reading.proofs.checked.name.Statement.{statement}
 use Rattle.plan_reading.proofs.checked.name.Tie as tie

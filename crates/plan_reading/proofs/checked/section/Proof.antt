@@ -1,8 +1,5 @@
 -- A row of the plan lies in the part of a checked file that begins at the section rows.
-use Rattle.folds.proofs.Ground.{_≤_, _≡_, ap, _∙_, length, length-drop, arith, needs}
-use Rattle.folds.proofs.Parts.{part-rest}
-use Rattle.plan_layout.specs.Layout.{countsOf, sectionsAt}
-use Rattle.plan_reading.specs.Plan.{planOf}
+use Rattle.plan_reading.proofs.Ground.{_≤_, _≡_, ap, _∙_, length, length-drop, arith, needs, part-rest, countsOf, sectionsAt, planOf}
 use Rattle.plan_reading.proofs.Laws.{whole-facts, plan-sections}
 use Rattle.plan_reading.proofs.checked.section.Statement.{statement}
 use Rattle.plan_reading.proofs.checked.section.Tie as tie

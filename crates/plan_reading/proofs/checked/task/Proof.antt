@@ -1,7 +1,5 @@
 -- A row of the plan lies in the part of a checked file that begins at the task rows.
-use Rattle.folds.proofs.Ground.{length-drop, arith, needs}
-use Rattle.folds.proofs.Parts.{part-rest}
-use Rattle.plan_reading.specs.Plan.{planOf}
+use Rattle.plan_reading.proofs.Ground.{length-drop, arith, needs, part-rest, planOf}
 use Rattle.plan_reading.proofs.Laws.{whole-facts, plan-tasks}
 use Rattle.plan_reading.proofs.checked.task.Statement.{statement}
 use Rattle.plan_reading.proofs.checked.task.Tie as tie

@@ -1,6 +1,5 @@
 -- The loop's invariant: `at` is where the name of resource `i` begins, and `ok` says whether each name below `i` is new.
-use Rattle.folds.proofs.Ground.{_-_, arith}
-use Rattle.plan_rules.specs.Rules.{nameNew, namesDiffer}
+use Rattle.plan_rules.proofs.Ground.{_-_, arith, nameNew, namesDiffer}
 use Rattle.plan_rules.proofs.Loops.{Tested, tested-none, tested-one, tested-all, Walked, walked-none, walked-one, walked-inside}
 use Rattle.plan_rules.proofs.names.bytes_differ.Statement.{statement}
 use Rattle.plan_rules.proofs.names.bytes_differ.Tie as tie

@@ -1,5 +1,5 @@
 -- The loop's invariant: `ok` says whether the bytes below `k` are in their range.
-use Rattle.folds.proofs.Ground.{_-_, _&&_, refl, leb, length, getD, arith}
+use Rattle.plan_rules.proofs.Ground.{_-_, _&&_, refl, leb, length, getD, arith}
 use Rattle.plan_rules.specs.Rules.{firstByte, lastByte, bytesOk}
 use Rattle.plan_rules.proofs.Loops.{Tested, tested-none, tested-one, tested-all}
 use Rattle.plan_rules.proofs.names.bytes_ok.Statement.{statement}

@@ -1,6 +1,5 @@
 -- Names of different lengths differ; else their bytes decide.
-use Rattle.folds.proofs.Ground.{eq-eqb, ne-eqb, needs}
-use Rattle.plan_rules.specs.Rules.{differ}
+use Rattle.plan_rules.proofs.Ground.{eq-eqb, ne-eqb, needs, differ}
 use Rattle.plan_rules.proofs.names.differs.Statement.{statement}
 use Rattle.plan_rules.proofs.names.differs.Tie as tie
 

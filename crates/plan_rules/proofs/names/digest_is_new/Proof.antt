@@ -1,6 +1,5 @@
 -- The loop's invariant: `ok` says whether the number differs from those below `j`.
-use Rattle.folds.proofs.Ground.{_-_, not, refl, eqb, getD, arith}
-use Rattle.plan_rules.specs.Inner.{numberNew}
+use Rattle.plan_rules.proofs.Ground.{_-_, not, refl, eqb, getD, arith, numberNew}
 use Rattle.plan_rules.proofs.Loops.{Tested, tested-none, tested-one, tested-all}
 use Rattle.plan_rules.proofs.names.digest_is_new.Statement.{statement}
 use Rattle.plan_rules.proofs.names.digest_is_new.Tie as tie

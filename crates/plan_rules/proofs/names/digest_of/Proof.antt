@@ -1,6 +1,6 @@
 -- Each return is the branch of the definition.
-use Rattle.folds.proofs.Ground.{lt-ltb, le-ltb, needs}
-use Rattle.plan_rules.specs.Inner.{digestOf}
+use Rattle.plan_rules.proofs.Ground.{needs, digestOf}
+use Rattle.folds.proofs.Ground.{lt-ltb, le-ltb}
 use Rattle.plan_rules.proofs.names.digest_of.Statement.{statement}
 use Rattle.plan_rules.proofs.names.digest_of.Tie as tie
 

@@ -1,8 +1,5 @@
 -- The loop's invariant: `at` is where the name of resource `i` begins, and `found` holds the numbers of the names below `i`.
-use Rattle.folds.proofs.Ground.{_-_, replicate, arith}
-use Rattle.sizes.specs.Sizes.{mostResources}
-use Rattle.plan_rules.specs.Inner.{digestOf, digestsOf}
-use Rattle.plan_rules.specs.Rules.{lengthOf, startOf}
+use Rattle.plan_rules.proofs.Ground.{_-_, replicate, arith, mostResources, digestOf, digestsOf, lengthOf, startOf}
 use Rattle.plan_rules.proofs.Laws.{length-facts}
 use Rattle.plan_rules.proofs.Loops.{Placed, placed-none, placed-one, placed-all, Walked, walked-none, walked-one, walked-inside}
 use Rattle.plan_rules.proofs.names.digests.Statement.{statement}

@@ -1,6 +1,5 @@
 -- The loop's invariant: `ok` says whether each number below `i` is new.
-use Rattle.folds.proofs.Ground.{_-_, arith}
-use Rattle.plan_rules.specs.Inner.{numberNew, numbersDiffer}
+use Rattle.plan_rules.proofs.Ground.{_-_, arith, numberNew, numbersDiffer}
 use Rattle.plan_rules.proofs.Loops.{Tested, tested-none, tested-one, tested-all}
 use Rattle.plan_rules.proofs.names.digests_differ.Statement.{statement}
 use Rattle.plan_rules.proofs.names.digests_differ.Tie as tie

@@ -1,7 +1,5 @@
 -- The loop's invariant: `ok` says whether the lengths below `i` are in their range.
-use Rattle.folds.proofs.Ground.{_-_, _&&_, refl, leb, arith}
-use Rattle.sizes.specs.Sizes.{mostNameBytes}
-use Rattle.plan_rules.specs.Rules.{lengthOf, lengthsOk}
+use Rattle.plan_rules.proofs.Ground.{_-_, _&&_, refl, leb, arith, mostNameBytes, lengthOf, lengthsOk}
 use Rattle.plan_rules.proofs.Loops.{Tested, tested-none, tested-one, tested-all}
 use Rattle.plan_rules.proofs.names.lengths_ok.Statement.{statement}
 use Rattle.plan_rules.proofs.names.lengths_ok.Tie as tie

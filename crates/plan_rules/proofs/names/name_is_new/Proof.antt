@@ -1,6 +1,5 @@
 -- The loop's invariant: `other` is where the name of resource `j` begins, and `ok` says whether the name differs from those below `j`.
-use Rattle.folds.proofs.Ground.{_-_, arith}
-use Rattle.plan_rules.specs.Rules.{startOf, differ, nameNew}
+use Rattle.plan_rules.proofs.Ground.{_-_, arith, startOf, differ, nameNew}
 use Rattle.plan_rules.proofs.Loops.{Tested, tested-none, tested-one, tested-all, Walked, walked-none, walked-one, walked-inside}
 use Rattle.plan_rules.proofs.names.name_is_new.Statement.{statement}
 use Rattle.plan_rules.proofs.names.name_is_new.Tie as tie

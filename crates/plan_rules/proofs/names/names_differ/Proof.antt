@@ -1,5 +1,5 @@
 -- Names whose numbers differ are different; else their bytes decide.
-use Rattle.folds.proofs.Ground.{sym, needs}
+use Rattle.plan_rules.proofs.Ground.{sym, needs}
 use Rattle.plan_rules.proofs.Laws.{digests-differ}
 use Rattle.plan_rules.proofs.names.names_differ.Statement.{statement}
 use Rattle.plan_rules.proofs.names.names_differ.Tie as tie

@@ -1,8 +1,6 @@
 -- Lengths that do not add up or are out of range break the rule; else the other tests decide.
-use Rattle.folds.proofs.Ground.{_≡_, sym, _∙_, length, eq-eqb, ne-eqb, needs}
-use Rattle.folds.specs.Below.{sumBelow}
+use Rattle.plan_rules.proofs.Ground.{_≡_, sym, _∙_, length, eq-eqb, ne-eqb, needs, sumBelow, lengthOf, namesOk}
 use Rattle.folds.proofs.Tests.{held, failed}
-use Rattle.plan_rules.specs.Rules.{lengthOf, namesOk}
 use Rattle.plan_rules.proofs.names.names_ok.Statement.{statement}
 use Rattle.plan_rules.proofs.names.names_ok.Tie as tie
 

@@ -1,6 +1,5 @@
 -- The sum of the four bytes, each times its power.
-use Rattle.folds.proofs.Ground.{add-assoc, arith, needs}
-use Rattle.folds.specs.Bytes.{number}
+use Rattle.plan_rules.proofs.Ground.{add-assoc, arith, needs, number}
 use Rattle.plan_rules.proofs.names.quad.Statement.{statement}
 use Rattle.plan_rules.proofs.names.quad.Tie as tie
 

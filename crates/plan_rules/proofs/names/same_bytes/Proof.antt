@@ -1,8 +1,7 @@
 -- The loop's invariant: the bytes below `k` are the same.
-use Rattle.folds.proofs.Ground.{_+_, _≤_, _-_, true, _≡_, refl, sym, eqb, getD, arith, eq-eqb, ne-eqb}
-use Rattle.folds.specs.Below.{allBelow}
-use Rattle.folds.proofs.Tests.{all-more, all-left, all-done}
-use Rattle.plan_rules.specs.Rules.{sameBytes}
+use Rattle.plan_rules.proofs.Ground.{_+_, _≤_, _-_, true, _≡_, refl, sym, eqb, getD, arith, eq-eqb, ne-eqb, allBelow, all-done}
+use Rattle.plan_rules.proofs.Ground.{sameBytes}
+use Rattle.folds.proofs.Tests.{all-more, all-left}
 use Rattle.plan_rules.proofs.names.same_bytes.Statement.{statement}
 use Rattle.plan_rules.proofs.names.same_bytes.Tie as tie
 

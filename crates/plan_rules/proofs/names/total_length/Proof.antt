@@ -1,8 +1,6 @@
 -- The loop's invariant: `sum` is the sum of the lengths below `i`, and at most 255 for each.
-use Rattle.folds.proofs.Ground.{ℕ, _≤_, _-_, _*_, _≡_, refl, List, arith}
-use Rattle.folds.specs.Below.{sumBelow}
-use Rattle.folds.proofs.Figures.{sum-step, sum-done}
-use Rattle.plan_rules.specs.Rules.{lengthOf}
+use Rattle.plan_rules.proofs.Ground.{ℕ, _≤_, _-_, _*_, _≡_, refl, List, arith, sumBelow, sum-step, lengthOf}
+use Rattle.folds.proofs.Figures.{sum-done}
 use Rattle.plan_rules.proofs.names.total_length.Statement.{statement}
 use Rattle.plan_rules.proofs.names.total_length.Tie as tie
 
