@@ -26,7 +26,7 @@ unfoldable pub use Rattle.analysis_equations.specs.Requirement.{demand, left, m
 pub use Rattle.analysis_equations.specs.Bounds.{mostBlocking1, mostBudget, mostDemand, mostDemandOfOne, mostFellowHolds, mostPeriod}
 pub use Rattle.analysis_equations.specs.Bounds.{mostTurns, mostWaiting}
 pub use lib.IntN.{_-ℤ_, pos, ℤ}
-pub use Rattle.analysis_requirements.specs.Terms.{Prepared, Terms, ceilingCell, countCell, longestCell, precedenceCell, precedenceOf}
+pub use Rattle.analysis_requirements.specs.Terms.{Prepared, TermTable, ceilingCell, countCell, longestCell, precedenceCell, precedenceOf}
 pub use Rattle.analysis_requirements.specs.Terms.{sharedCell, termCount}
 pub use Rattle.analysis_requirements.specs.Inner.{Filling, HigherTasks, PerResource, Scanned, TaskTables, TaskTerms, TermsBelow}
 pub use Rattle.analysis_requirements.specs.Inner.{Timed, TimedTo, Waiter, WaitingTold, above, comparison, under, waitingAt}

@@ -1,7 +1,7 @@
 -- What a task's precedence tells of its processor and its priority.
 use Rattle.analysis_requirements.proofs.Ground.{ℕ, _+_, _*_, _/_, _%_, _<_, Bool, _&&_, _≡_, refl, List, ltb, getD, arith, ltb-true}
 use Rattle.analysis_requirements.proofs.Ground.{lt-ltb, Plan, Valid, processorOf, priorityOf, higher, lower, precedenceCell}
-use Rattle.analysis_requirements.proofs.Ground.{precedenceOf, Terms, above, under}
+use Rattle.analysis_requirements.proofs.Ground.{precedenceOf, TermTable, above, under}
 use Rattle.folds.proofs.Tests.{same-test}
 use Rattle.folds.proofs.Arrays.{by-eq}
 
@@ -20,7 +20,7 @@ module _ (p : Plan) (v : Valid p) where
   precedence-priority j l = omega (arith, v .task-fits j l .high)
 
 -- what the table of terms tells of who is above whom
-module _ (p : Plan) (v : Valid p) (t : List ℕ) (h : Terms p t) (i j : ℕ) (li : i < p .tasks) (lj : j < p .tasks) where
+module _ (p : Plan) (v : Valid p) (t : List ℕ) (h : TermTable p t) (i j : ℕ) (li : i < p .tasks) (lj : j < p .tasks) where
   pub table-above : above (getD t (precedenceCell i) 0) (getD t (precedenceCell j) 0) ≡ higher p i j
   table-above =
       rw (h .precedence i li, h .precedence j lj, precedence-processor p v i li, precedence-processor p v j lj)

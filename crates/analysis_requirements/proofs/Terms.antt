@@ -5,7 +5,7 @@ use Rattle.analysis_requirements.proofs.Ground.{getD-replicate, getD-se
 use Rattle.analysis_requirements.proofs.Ground.{not-false, maxBelow, countBelow, max-step, count-step, count-bound, mostTasks}
 use Rattle.analysis_requirements.proofs.Ground.{mostResources, mostSections, SectionRow, Plan, Valid, priorityOf, globalBy, global}
 use Rattle.analysis_requirements.proofs.Ground.{globalCount, longestGlobal, longestCell, precedenceCell, countCell, ceilingCell}
-use Rattle.analysis_requirements.proofs.Ground.{sharedCell, termCount, precedenceOf, Terms, TermsBelow, cond-bound}
+use Rattle.analysis_requirements.proofs.Ground.{sharedCell, termCount, precedenceOf, TermTable, TermsBelow, cond-bound}
 use Rattle.folds.proofs.Searches.{on-eq}
 use Rattle.analysis_equations.proofs.Laws.{ceiling-section}
 use Rattle.analysis_requirements.proofs.Precedences.{precedence-priority}
@@ -147,7 +147,7 @@ module _ (p : Plan) (v : Valid p) {s j q : ℕ} {row : SectionRow} (x : SectionR
               (sym (rw (ne-eqb (p .section s .resource) z (λ g. f (omega (arith, resource-is)))))) (omega arith));
         }
 
-pub terms-done : (p : Plan) → Valid p → (s : ℕ) {t : List ℕ} → s ≡ p .sections → TermsBelow p mostResources (p .tasks) s t → Terms p t
+pub terms-done : (p : Plan) → Valid p → (s : ℕ) {t : List ℕ} → s ≡ p .sections → TermsBelow p mostResources (p .tasks) s t → TermTable p t
 unfolding longestGlobal globalCount
 terms-done p v s {t} e g =
     let h : TermsBelow p mostResources (p .tasks) (p .sections) t = rw e at g in

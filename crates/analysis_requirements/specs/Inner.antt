@@ -17,7 +17,7 @@ use Rattle.analysis_equations.specs.Bounds.{mostPeriod, mostDemand, mostWaiting
 use Rattle.analysis_figures.specs.Figures.{Sharer}
 use Rattle.analysis_requirements.specs.declared.Requirement.{Requirement}
 use Rattle.analysis_requirements.specs.Terms.{longestCell, precedenceCell, countCell, ceilingCell, sharedCell, termCount}
-use Rattle.analysis_requirements.specs.Terms.{precedenceOf, Terms, Prepared}
+use Rattle.analysis_requirements.specs.Terms.{precedenceOf, TermTable, Prepared}
 
 -- ── the table of terms as it is filled: r resources, n tasks and s sections are passed ──
 
@@ -56,7 +56,7 @@ under a b = eqb (b / 256) (a / 256) && ltb b a
 -- task i of the plan, by its terms; its cells are there, and its count is that of sections
 pub record TaskTerms (f t : List ℕ) (i : ℕ) : Type 0 where
   pub plan : Checked f
-  pub terms : Terms (planOf f) t
+  pub terms : TermTable (planOf f) t
   pub task : i < planOf f .tasks
   pub low : i < mostTasks
   pub few : getD t (countCell i) 0 ≤ mostSections

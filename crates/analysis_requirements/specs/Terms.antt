@@ -40,7 +40,7 @@ abbrev pub precedenceOf : Plan → ℕ → ℕ
 precedenceOf p j = processorOf p j * 256 + priorityOf p j
 
 -- the table
-pub record Terms (p : Plan) (t : List ℕ) : Type 0 where
+pub record TermTable (p : Plan) (t : List ℕ) : Type 0 where
   pub long : length t ≡ termCount
   pub longest : (j : ℕ) → j < mostTasks → getD t (longestCell j) 0 ≡ longestGlobal p j
   pub precedence : (j : ℕ) → j < p .tasks → getD t (precedenceCell j) 0 ≡ precedenceOf p j
@@ -51,4 +51,4 @@ pub record Terms (p : Plan) (t : List ℕ) : Type 0 where
 -- a file that passed every check, the table of its figures, and this one
 pub record Prepared (f figures t : List ℕ) : Type 0 where
   pub known : Known f figures
-  pub terms : Terms (planOf f) t
+  pub terms : TermTable (planOf f) t

@@ -13,7 +13,7 @@ ghost use Rattle.analysis_equations.specs.Blocking.{countOn, longestLocal, bloc
 ghost use Rattle.analysis_equations.specs.Requirement.{tolerance};
 ghost use Rattle.analysis_figures.specs.Figures.{Known};
 ghost use Rattle.analysis_requirements.specs.Figures.{requirementOf};
-ghost use Rattle.analysis_requirements.specs.Terms.{countCell, termCount, Terms, Prepared};
+ghost use Rattle.analysis_requirements.specs.Terms.{countCell, termCount, TermTable, Prepared};
 ghost use Rattle.analysis_requirements.specs.Inner.{TermsBelow, Filling, TaskTerms, TaskTables, SectionCount, Waiter, WaitingTold, PerResource};
 ghost use Rattle.analysis_requirements.specs.Inner.{HigherTasks, TimedTo, Scanned, Demanded, demandOf, comparison};
 
@@ -85,7 +85,7 @@ fn put_precedences(file: &[u8], terms: &mut [u16])
 // Each task's longest global section and how many it has, and each resource's ceiling, in one pass over the sections.
 fn put_sections(file: &[u8], terms: &mut [u16])
     requires { ⌜ Filling (now file) mostResources (planOf (now file) .tasks) 0 (now terms) ⌝ }
-    ensures { λ u. ⌜ Terms (planOf (now (file .entry))) (now (terms .exit)) ⌝ }
+    ensures { λ u. ⌜ TermTable (planOf (now (file .entry))) (now (terms .exit)) ⌝ }
 {
     let counts = plan_reading::checked::counts(file);
     let n = counts.sections as usize;

@@ -13,13 +13,13 @@ ghost use Prim.Native.Nat.{_≤_, _<_};
 // The bytes of a call whose tag has two, and in a state those of a resource's line and of a task.
 const WIDE: usize = 4;
 
-const LINE: usize = 13;
+const LINE_ROW: usize = 13;
 
 const STANDING: usize = 2;
 
-const LINES: usize = sizes::RESOURCES * LINE;
+const LINE_ROWS: usize = sizes::RESOURCES * LINE_ROW;
 
-pub const STATE: usize = LINES + sizes::TASKS * STANDING;
+pub const STATE: usize = LINE_ROWS + sizes::TASKS * STANDING;
 
 fn half(b: u8) -> u16
     ensures { λ r. ⌜ r < 256 ⌝ }
@@ -252,7 +252,7 @@ fn lines(s: &[u8]) -> [LineRow; sizes::RESOURCES] {
     let mut rows = [first; sizes::RESOURCES];
     let mut q = 0;
     while q < sizes::RESOURCES {
-        rows[q] = line(s, q * LINE);
+        rows[q] = line(s, q * LINE_ROW);
         q += 1;
     }
     rows
@@ -280,7 +280,7 @@ fn standings(s: &[u8]) -> [Standing; sizes::TASKS] {
 
 pub fn state(s: &[u8]) -> State {
     State {
-        lines: lines(part(s, 0, LINES)),
-        tasks: standings(part(s, LINES, STATE)),
+        lines: lines(part(s, 0, LINE_ROWS)),
+        tasks: standings(part(s, LINE_ROWS, STATE)),
     }
 }

@@ -34,6 +34,6 @@ pub use Rattle.machine_state.specs.declared.State.{State}
 pub use Rattle.machine_state.specs.Shows.{inLineAt, lineAt, movedUp, noLine, noStanding, noneInLine, shownLine, slot, standing}
 unfoldable pub use Rattle.machine_state.specs.Shows.{rank, shows}
 pub use Rattle.machine_state.proofs.Good.{Good, Whole}
-pub use Rattle.machine_steps.specs.Inner.{Ready, Running, cutsHolder, endedBelow, holdOf, lostQueue, noMarks, shifted, turned}
+pub use Rattle.machine_steps.specs.Inner.{HeadReady, Running, cutsHolder, endedBelow, holdOf, lostQueue, noMarks, shifted, turned}
 unfoldable pub use Rattle.machine_steps.specs.Inner.{begun, cutWord, endedOf, fallen, grantWord, joinedLines, lowered, passed, pushed}
 unfoldable pub use Rattle.machine_steps.specs.Inner.{stepped, steppedLines, taken, takenHolds}

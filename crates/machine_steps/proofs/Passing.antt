@@ -1,6 +1,6 @@
 -- What the tables tell of a line that goes on to its next task.
 use Rattle.machine_steps.proofs.Ground.{ℕ, _+_, _*_, _-_, _≤_, _<_, _≡_, refl, ap, _∙_, List, getD, getD-set-other, arith, eq-eqb}
-use Rattle.machine_steps.proofs.Ground.{ne-eqb, on-eq, LineRow, slot, seat, seatCount, Ready, shifted, turned}
+use Rattle.machine_steps.proofs.Ground.{ne-eqb, on-eq, LineRow, slot, seat, seatCount, HeadReady, shifted, turned}
 pub use Rattle.folds.proofs.Tests.{byte-count as flag, byte-le as flag-low}
 use Rattle.machine_steps.specs.Inner.{Begins}
 
@@ -13,7 +13,7 @@ pub seat-within : {q k j : ℕ} → q < 16 → k < 8 → j < 64 → seat q k j <
 seat-within a b c = omega arith
 
 -- the second in line can once the head left
-pub next-begins : (seats : List ℕ) (q : ℕ) (l : LineRow) → Ready seats q l → 2 ≤ l .queued → Begins seats q (slot l 0) (slot l 1)
+pub next-begins : (seats : List ℕ) (q : ℕ) (l : LineRow) → HeadReady seats q l → 2 ≤ l .queued → Begins seats q (slot l 0) (slot l 1)
 next-begins seats q l r m =
     record {
       core = r .placed 1 (omega arith);
@@ -21,7 +21,7 @@ next-begins seats q l r m =
     }
 
 -- and so can the head of the turned queue: the second in line, or a lone head with another task
-pub turned-begins : (seats : List ℕ) (q : ℕ) (l : LineRow) → Ready seats q l → 1 ≤ getD seats (seat q (slot l 0) 1) 0
+pub turned-begins : (seats : List ℕ) (q : ℕ) (l : LineRow) → HeadReady seats q l → 1 ≤ getD seats (seat q (slot l 0) 1) 0
     → Begins seats q (slot l 0) (getD (turned (l .queue) (l .queued)) 0 0)
 turned-begins seats q l r m =
     on-eq (Begins seats q (slot l 0) (getD (turned (l .queue) (l .queued)) 0 0)) (l .queued) 1

@@ -1,7 +1,7 @@
 -- What the functions rely on, from a sound state and its tables.
 use Rattle.machine_steps.proofs.Ground.{ℕ, _+_, _<_, _≤_, cond, _≡_, _∙_, List, ltb, length, getD, arith, lt-ltb, Plan, Valid}
 use Rattle.machine_steps.proofs.Ground.{Figures, taskRanked, State, lineAt, slot, rank, seat, Keys, Seats, Sized, Whole, maxBelow}
-use Rattle.machine_steps.proofs.Ground.{max-at, on-le, ranks-few, full, Ready, Running}
+use Rattle.machine_steps.proofs.Ground.{max-at, on-le, ranks-few, full, HeadReady, Running}
 use Rattle.folds.proofs.Ground.{le-ltb}
 use Rattle.queue_ranks.proofs.Ranked.{task-rank, seated, sole}
 use Rattle.machine_state.proofs.Tables.{sized-by}
@@ -52,7 +52,7 @@ module _ (p : Plan) (v : Valid p) (s : State) (w : Whole p s) {figures keys seat
   sized = sized-by p v (s .tasks) keys (t .keys-at) (t .figures-at) (t .seats-at)
 
   module _ (q : ℕ) (lq : q < 16) (held : 1 ≤ lineAt s q .queued) where
-    pub ready : Ready seats q (lineAt s q)
+    pub ready : HeadReady seats q (lineAt s q)
     ready = record {
       some = held;
       few = w .lines q lq .small;

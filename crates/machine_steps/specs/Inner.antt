@@ -70,7 +70,7 @@ pub record Beginning (figures seats : List ℕ) (q gone : ℕ) (queue : List ℕ
   pub head : 1 ≤ c → Begins seats q gone (getD queue 0 0)
 
 -- a held line: its processors are there, each once, with a first task each
-pub record Ready (seats : List ℕ) (q : ℕ) (l : LineRow) : Type 0 where
+pub record HeadReady (seats : List ℕ) (q : ℕ) (l : LineRow) : Type 0 where
   pub some : 1 ≤ l .queued
   pub few : l .queued ≤ mostProcessors
   pub placed : (i : ℕ) → i < l .queued → slot l i < mostProcessors
@@ -79,7 +79,7 @@ pub record Ready (seats : List ℕ) (q : ℕ) (l : LineRow) : Type 0 where
 
 -- and its hold left and budget left
 pub record Running (seats : List ℕ) (q : ℕ) (l : LineRow) : Type 0 where
-  pub ready : Ready seats q l
+  pub ready : HeadReady seats q l
   pub low : 1 ≤ l .«hold_left»
   pub within : l .«hold_left» ≤ l .«budget_left»
 
@@ -87,7 +87,7 @@ pub record Running (seats : List ℕ) (q : ℕ) (l : LineRow) : Type 0 where
 pub record Passing (figures seats : List ℕ) (q : ℕ) (l : LineRow) : Type 0 where
   pub tables : SeatSized figures seats
   pub resource : q < mostResources
-  pub ready : Ready seats q l
+  pub ready : HeadReady seats q l
 
 pub record Stepping (figures seats : List ℕ) (q : ℕ) (l : LineRow) : Type 0 where
   pub tables : SeatSized figures seats
@@ -97,7 +97,7 @@ pub record Stepping (figures seats : List ℕ) (q : ℕ) (l : LineRow) : Type 0 
 pub record Leaving (figures keys seats : List ℕ) (q : ℕ) (l : LineRow) : Type 0 where
   pub tables : Sized figures keys seats
   pub resource : q < mostResources
-  pub ready : Ready seats q l
+  pub ready : HeadReady seats q l
 
 -- all held lines of a state go on
 abbrev pub AllRunning : List ℕ → List LineRow → Type 0

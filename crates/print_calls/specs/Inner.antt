@@ -13,7 +13,7 @@ use Rattle.print_calls.specs.Calls.{callLine}
 use Rattle.print_lines.specs.Lines.{mostLine}
 
 -- a plan that is accepted, with its hold times and budgets, and room for the longest line at `at`
-pub record Ready (f figures buf : List ℕ) (at : ℕ) : Type 0 where
+pub record CallReady (f figures buf : List ℕ) (at : ℕ) : Type 0 where
   pub plan : Surveyed f 0 figures
   pub room : at + mostLine ≤ length buf
 

@@ -14,7 +14,7 @@ ghost use Rattle.print_calls.specs.Calls.{callLine};
 ghost use Rattle.print_calls.specs.Output.{endLine};
 ghost use Rattle.print_text.specs.Buffers.{handed, bufferWith, handedUnless, bufferUnless};
 ghost use Rattle.print_calls.specs.Buffers.{StateBeside, linesCode, Batched};
-ghost use Rattle.print_calls.specs.Inner.{Ready, Stepped};
+ghost use Rattle.print_calls.specs.Inner.{CallReady, Stepped};
 
 // A line, and the state after its call.
 pub struct CallLine {
@@ -46,7 +46,7 @@ fn put_call(
     state: State,
     bytes: CallBytes,
 ) -> Step
-    requires { ⌜ Ready (now file) (now figures) (now buf) at ⌝ }
+    requires { ⌜ CallReady (now file) (now figures) (now buf) at ⌝ }
     ensures { λ r. ⌜ Stepped (now (file .entry)) state bytes (now (buf .entry)) (now (buf .exit)) at r ⌝ }
 {
     let decoded = machine_calls::decode(bytes.letter, bytes.tag, bytes.resource);

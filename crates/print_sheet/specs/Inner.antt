@@ -98,7 +98,7 @@ pub record CellOf (f figures l : List ℕ) (at most n i q : ℕ) : Type 0 where
   pub resource : q < planOf f .resources
 
 -- a checked plan with both its tables, room for a requirement, and a task of the plan
-pub record Row (f figures terms l : List ℕ) (at i : ℕ) : Type 0 where
+pub record RowReady (f figures terms l : List ℕ) (at i : ℕ) : Type 0 where
   pub prepared : Prepared f figures terms
   pub room : at + requirementRoom ≤ length l
   pub task : i < planOf f .tasks

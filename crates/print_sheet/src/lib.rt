@@ -18,7 +18,7 @@ ghost use Rattle.print_sheet.specs.Sheet.{planSheet, mostSheet, sheetLin
 ghost use Rattle.print_sheet.specs.Inner.{resourceRoom, budgetRoom, holdRoom, requirementRoom, admittedRoom};
 ghost use Rattle.print_sheet.specs.Inner.{resourcesRoom, budgetsOfRoom, budgetsRoom, holdsOfRoom, holdsRoom};
 ghost use Rattle.print_sheet.specs.Inner.{figuresRoom, verdictRoom};
-ghost use Rattle.print_sheet.specs.Inner.{Ready, ReadyOf, Column, Cell, CellOf, Row, Rows, RowPut, RowsPut, AsideSheet};
+ghost use Rattle.print_sheet.specs.Inner.{Ready, ReadyOf, Column, Cell, CellOf, RowReady, Rows, RowPut, RowsPut, AsideSheet};
 
 // A buffer as long as this has room for every sheet.
 pub const SHEET: usize = 131072;
@@ -230,7 +230,7 @@ fn put_requirement_at(
     terms: &[u16],
     i: usize,
 ) -> Required
-    requires { ⌜ Row (now file) (now figures) (now terms) (now buf) at i ⌝ }
+    requires { ⌜ RowReady (now file) (now figures) (now terms) (now buf) at i ⌝ }
     ensures { λ r. ⌜ RowPut (now (file .entry)) i (now (buf .entry)) (now (buf .exit)) at r ⌝ }
 {
     if analysis_requirements::count_at(terms, i) == 0 {
