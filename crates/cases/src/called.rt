@@ -2,8 +2,8 @@
 use crate::given;
 use crate::print;
 use crate::same;
-use machine::Reply;
 use machine_calls::CallBytes;
+use machine_replies::Reply;
 use machine_rules::Answer;
 use machine_rules::Call;
 use machine_state::LineRow;

@@ -2,7 +2,7 @@
 use Rattle.machine.proofs.Ground.{ℕ, true, false, _≡_, _∙_, List, eq-eqb, refusal, planOf, Call, callCode, step, answer, State}
 use Rattle.machine.proofs.Ground.{shows, sound, callRefusal, reply, Acted, Replied}
 use Rattle.refusals.specs.Numbers.{unsound}
-use Rattle.machine.specs.declared.Reply.{Reply}
+use Rattle.machine_replies.specs.declared.Reply.{Reply}
 
 module _ (f : List ℕ) (none : refusal f ≡ 0) (s : State) (c : Call) where
   pub unsound-code : sound (planOf f) s ≡ false → callRefusal f s c ≡ unsound

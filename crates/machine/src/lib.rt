@@ -2,6 +2,7 @@
 // refuses by number what it does not accept.
 use machine_calls::CallBytes;
 use machine_calls::WIDTH;
+use machine_replies::Reply;
 use machine_rules::Answer;
 use machine_rules::Call;
 use machine_state::State;
@@ -20,12 +21,6 @@ ghost use Rattle.machine.specs.Promise.{Ran, FreshRan};
 
 mod acting;
 pub mod surveyed;
-
-// The answer to a call, and the next state.
-pub struct Reply {
-    pub answer: Answer,
-    pub state: State,
-}
 
 // The answer to a tick, the number of cuts in it, and the next state.
 pub struct TickReply {

@@ -1,7 +1,7 @@
 // Many calls on one plan file that the caller holds: it is looked at once, and each call relies on what that gave, and says so in its
 // `requires`. What a call is answered and does is the same as that of `machine::call`.
-use crate::Reply;
 use crate::acting;
+use machine_replies::Reply;
 use machine_rules::Call;
 use machine_state::State;
 ghost use mathlib.Core.Path.{_≡_};

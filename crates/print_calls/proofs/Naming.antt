@@ -14,7 +14,7 @@ use Rattle.machine_rules.specs.declared.Answer.the-variants.{Refused}
 use Rattle.machine_rules.specs.Machine.{terms, requestCode, callCode, requestAnswer, releaseAnswer, acceptedAnswer}
 use Rattle.machine_state.specs.Shows.{shows}
 use Rattle.machine.specs.Replies.{callRefusal}
-use Rattle.machine.proofs.Freed.{release-resource}
+use Rattle.machine_replies.proofs.Freed.{release-resource}
 use Rattle.machine_calls.specs.Calls.{callOf}
 use Rattle.print_lines.specs.Inner.{Nameable, Names}
 

@@ -3,7 +3,7 @@ use Rattle.machine.proofs.Ground.{_≤_, _-_, arith, needs, callsBelow,
 use Rattle.machine_calls.specs.Calls.{callWidth}
 use Rattle.machine.proofs.Bytes.{returned-step, all-calls}
 use Rattle.machine.proofs.Kept.{ran}
-use Rattle.machine.proofs.Lengths.{length-mapped}
+use Rattle.folds.proofs.Arrays.{length-mapped}
 use Rattle.machine.proofs.run_from.Statement.{statement}
 use Rattle.machine.proofs.run_from.Tie as tie
 

@@ -1,0 +1,4 @@
+pub mod Ground
+pub mod Asked
+pub mod Freed
+pub mod Beaten
