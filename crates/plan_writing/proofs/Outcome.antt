@@ -1,8 +1,8 @@
 -- What writing, reading back and copying come to, by the number of the refusal.
 use Rattle.plan_writing.proofs.Ground.{ℕ, _-_, _<_, _≤_, _≡_, refl, sym, ap, _∙_, List, _++_, leb, length, getD, take, drop, arith}
-use Rattle.plan_writing.proofs.Ground.{eq-eqb, le-leb, leb-true, code-zero, Counts, Rows, countsOf, rowsOf, namesOf, valuesCode}
-use Rattle.plan_writing.proofs.Ground.{Reading, refusal, Written, fileLength, fileOf, trimmed}
-use Rattle.folds.proofs.Ground.{take-at, sub-zero, ne-eqb, lt-leb}
+use Rattle.plan_writing.proofs.Ground.{eq-eqb, le-leb, code-zero, Counts, Rows, countsOf, rowsOf, namesOf, valuesCode, Reading}
+use Rattle.plan_writing.proofs.Ground.{refusal, Written, fileLength, fileOf, trimmed}
+use Rattle.folds.proofs.Ground.{take-at, sub-zero, leb-true, ne-eqb, lt-leb}
 use Rattle.refusals.specs.Numbers.{noRoom}
 use Rattle.folds.proofs.Tests.{first-zero, then-zero}
 use Rattle.plan.specs.declared.ReadAnswer.the-variants.{Accepted}
@@ -10,7 +10,7 @@ use Rattle.plan.specs.Reading.{given, reading, refusedWith, readOutcome}
 use Rattle.plan.proofs.Laws.{by-code, told}
 use Rattle.plan_writing.specs.declared.WriteAnswer.{WriteAnswer}
 use Rattle.plan_writing.specs.declared.WriteAnswer.the-variants.{Refused}
-use Rattle.plan_writing.specs.Encode.{writeCode, writing, written, writeOutcome, writingOutcome}
+use Rattle.plan_writing.specs.Writing.{writeCode, writing, written, writeOutcome, writingOutcome}
 use Rattle.plan_writing.specs.RoundTrip.{readBack, readBackOutcome, copyRefusal, copying, copied, copyOutcome}
 use Rattle.plan_writing.proofs.RoundTrip.{file-holds, written-then-read, read-then-written}
 

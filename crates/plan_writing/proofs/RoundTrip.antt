@@ -2,18 +2,18 @@
 use Rattle.plan_writing.proofs.Ground.{ℕ, _+_, _<_, _≡_, refl, sym, ap, ap₂, _∙_, List, _++_, append-assoc, length, getD, take, drop}
 use Rattle.plan_writing.proofs.Ground.{length-append, length-drop, drop-at, arith, le-leb, eq-eqb, mostResources, rowAt, rowBytes}
 use Rattle.plan_writing.proofs.Ground.{Bytes, solid, lengthOf, startOf, namesOk, Counts, Rows, InRange, counts-facts, Edition}
-use Rattle.plan_writing.proofs.Ground.{formatOf, laid, countsOf, tasksAt, resourcesAt, sectionsAt, namesAt, headerNumbers}
-use Rattle.plan_writing.proofs.Ground.{sectionNumbers, resourceNumbers, taskAt, taskSpare, startAt, lengthAt, resourceSpare}
-use Rattle.plan_writing.proofs.Ground.{sectionAt, taskRows, lengthRows, sectionRows, partsCode, rowsOf, namesOf, faithful, task-read}
-use Rattle.plan_writing.proofs.Ground.{length-read, section-read, whole-facts, refusal, none-failed, headerBytes, taskBytes}
-use Rattle.plan_writing.proofs.Ground.{resourceBytes, sectionBytes, fileLength, fileOf, trimmed}
+use Rattle.plan_writing.proofs.Ground.{formatOf, laid, countsOf, tasksAt, resourcesAt, sectionsAt, namesAt, sectionNumbers}
+use Rattle.plan_writing.proofs.Ground.{resourceNumbers, taskAt, taskSpare, startAt, lengthAt, resourceSpare, sectionAt, taskRows}
+use Rattle.plan_writing.proofs.Ground.{lengthRows, sectionRows, partsCode, rowsOf, namesOf, faithful, task-read, length-read}
+use Rattle.plan_writing.proofs.Ground.{section-read, whole-facts, refusal, none-failed, headerBytes, taskBytes, resourceBytes}
+use Rattle.plan_writing.proofs.Ground.{sectionBytes, fileLength, fileOf, header-length, trimmed}
 use Rattle.folds.proofs.Ground.{subst, replicate, take-append-drop, drop-drop, lt-ltb, le-ltb}
 use Rattle.sizes.specs.Sizes.{mostTasks, mostSections}
 use Rattle.folds.proofs.Arrays.{placed-same}
 use Rattle.folds.proofs.RowLaws.{fields-back, fields-forth}
 use Rattle.plan_rules.specs.Rules.{noTask, noSection}
 use Rattle.plan_layout.specs.Editions.{Format}
-use Rattle.plan_layout.specs.Layout.{editionIn, headerIn, countsIn, lengthSaid, offsetsOk}
+use Rattle.plan_layout.specs.Layout.{headerNumbers, editionIn, headerIn, countsIn, lengthSaid, offsetsOk}
 use Rattle.plan_layout.proofs.Laws.{header-parts, start-read, task-kept, resource-kept, tasks-kept, sections-kept}
 use Rattle.plan_reading.specs.Checks.{countsCode, headerCode, checkCode}
 use Rattle.plan_reading.specs.Plan.{namePart}
@@ -21,7 +21,9 @@ use Rattle.plan_reading.proofs.Laws.{Header, Whole}
 use Rattle.plan.specs.Reading.{nameRefusal, nameOf}
 use Rattle.plan_writing.specs.RoundTrip.{nameIn, SameFile, WrittenThenRead, ReadThenWritten}
 use Rattle.plan_writing.proofs.Same.{Kept, kept-facts, kept-code, rows-joined}
-use Rattle.plan_writing.proofs.Values.{taskWidth, resourceWidth, sectionWidth, at, RowsIn, taskPart, resourcePart, sectionPart, headed, sections-end, rows-in, header-length, task-same, length-same, start-same, section-same, tasks-checked, unique-checked, starts-checked, names-checked, sections-checked, sums-checked}
+use Rattle.plan_writing.proofs.Values.{taskWidth, resourceWidth, sectionWidth, at, RowsIn, taskPart, resourcePart, sectionPart}
+use Rattle.plan_writing.proofs.Values.{headed, sections-end, rows-in, task-same, length-same, start-same, section-same}
+use Rattle.plan_writing.proofs.Values.{tasks-checked, unique-checked, starts-checked, names-checked, sections-checked, sums-checked}
 
 -- the file f has the numbers of these values at their places, and ends with the names
 pub record Holds (f : List ℕ) (c : Counts) (rows : Rows) (names : List ℕ) : Type 0 where
@@ -61,8 +63,10 @@ module _ (f : List ℕ) (rows : Rows) (names : List ℕ) (h : Holds f (countsOf 
   unfolding namePart
   name-held r l =
       let start : ℕ = startOf (rows .lengths) r in
-      let behind : drop (namesAt (countsOf f) + start) f ≡ drop start names = sym (drop-drop start (namesAt (countsOf f)) f) ∙ ap (λ (x : List ℕ). drop start x) (h .rest) in
-      rw (length-same f (countsOf f) rows (h .stand) r l, start-same f (countsOf f) rows (h .stand) r l) (ap (λ (x : List ℕ). take (lengthOf (rows .lengths) r) x) behind)
+      let behind : drop (namesAt (countsOf f) + start) f ≡ drop start names =
+      sym (drop-drop start (namesAt (countsOf f)) f) ∙ ap (λ (x : List ℕ). drop start x) (h .rest) in
+      rw (length-same f (countsOf f) rows (h .stand) r l, start-same f (countsOf f) rows (h .stand) r l)
+      (ap (λ (x : List ℕ). take (lengthOf (rows .lengths) r) x) behind)
 
   -- and it passes every check where they keep their rules
   header-held : Kept (countsOf f) rows names → Header f
@@ -101,7 +105,17 @@ module _ (f : List ℕ) (rows : Rows) (names : List ℕ) (h : Holds f (countsOf 
 header-read : (f : List ℕ) → Header f → headerCode f ≡ 0
 unfolding headerCode countsCode offsetsOk
 header-read f h =
-    rw (le-ltb _ _ (h .long), eq-eqb _ _ (h .whole), h .edition, h .counts, eq-eqb _ _ (h .tasks-at), eq-eqb _ _ (h .resources-at), eq-eqb _ _ (h .sections-at), eq-eqb _ _ (h .names-at), le-leb _ _ (h .ends))
+    rw (
+      le-ltb _ _ (h .long),
+      eq-eqb _ _ (h .whole),
+      h .edition,
+      h .counts,
+      eq-eqb _ _ (h .tasks-at),
+      eq-eqb _ _ (h .resources-at),
+      eq-eqb _ _ (h .sections-at),
+      eq-eqb _ _ (h .names-at),
+      le-leb _ _ (h .ends),
+    )
 
 whole-read : (f : List ℕ) → Whole f → refusal f ≡ 0
 unfolding refusal checkCode partsCode
@@ -174,7 +188,8 @@ read-holds f w =
         resource = λ i l.
             let row = resource-kept e (c .resources) resources i (w .starts) l in
             resource-row e resources i (row .spare)
-            ∙ ap₂ resourceNumbers (row .start ∙ sym (start-read e (c .resources) resources i (omega arith) (g .resources))) (sym (length-read e (c .resources) resources i l (g .resources)));
+            ∙ ap₂ resourceNumbers (row .start ∙ sym (start-read e (c .resources) resources i (omega arith) (g .resources)))
+            (sym (length-read e (c .resources) resources i l (g .resources)));
         section = λ i l. section-row e sections i ∙ ap sectionNumbers (sym (section-read e (c .sections) sections i l (g .sections)));
       };
       rest = refl;
@@ -202,10 +217,17 @@ holds-file : (f : List ℕ) (c : Counts) (rows : Rows) (names : List ℕ) → By
 unfolding fileOf headerBytes headerIn taskBytes resourceBytes sectionBytes
 holds-file f c rows names b h =
     let form : Format = formatOf (laid c) in
-    let head : headerBytes c (fileLength c names) ≡ take (tasksAt c) f = ap (rowBytes (form .header)) (sym (h .header)) ∙ fields-forth (form .header) f 0 b (omega (arith, h .size)) in
-    let tasks = rows-joined (form .task) (taskWidth (laid c) rows) (c .tasks) f (tasksAt c) (resourcesAt c) b (h .stand .task) (omega arith) (omega (arith, h .size)) head in
-    let resources = rows-joined (form .resource) (resourceWidth rows) (c .resources) f (resourcesAt c) (sectionsAt c) b (h .stand .resource) (omega arith) (omega (arith, h .size)) tasks in
-    let sections = rows-joined (form .section) (sectionWidth rows) (c .sections) f (sectionsAt c) (namesAt c) b (h .stand .section) (omega arith) (omega (arith, h .size)) resources in
+    let head : headerBytes c (fileLength c names) ≡ take (tasksAt c) f =
+    ap (rowBytes (form .header)) (sym (h .header)) ∙ fields-forth (form .header) f 0 b (omega (arith, h .size)) in
+    let tasks =
+    rows-joined (form .task) (taskWidth (laid c) rows) (c .tasks) f (tasksAt c) (resourcesAt c) b
+    (h .stand .task) (omega arith) (omega (arith, h .size)) head in
+    let resources =
+    rows-joined (form .resource) (resourceWidth rows) (c .resources) f (resourcesAt c) (sectionsAt c) b
+    (h .stand .resource) (omega arith) (omega (arith, h .size)) tasks in
+    let sections =
+    rows-joined (form .section) (sectionWidth rows) (c .sections) f (sectionsAt c) (namesAt c) b
+    (h .stand .section) (omega arith) (omega (arith, h .size)) resources in
     ap₂ _++_ sections (sym (h .rest)) ∙ take-append-drop (namesAt c) f
 
 pub read-then-written : ReadThenWritten
@@ -217,7 +239,9 @@ read-then-written f b e =
     }
 
 -- so the names of the values that are read are those that the question for names gives
-pub names-of-values : (f : List ℕ) → ((i : ℕ) → getD f i 0 < 256) → refusal f ≡ 0 → (r : ℕ) → r < countsOf f .resources → nameOf f r ≡ nameIn (rowsOf f .lengths) (namesOf f) r
+pub names-of-values : (f : List ℕ) → ((i : ℕ) → getD f i 0 < 256) → refusal f ≡ 0
+    → (r : ℕ) → r < countsOf f .resources → nameOf f r ≡ nameIn (rowsOf f .lengths) (namesOf f) r
 names-of-values f b e r l =
     let s : SameFile f = read-then-written f b e in
-    subst (λ (g : List ℕ). nameOf g r ≡ nameIn (rowsOf f .lengths) (namesOf f) r) (s .file) (written-then-read (countsOf f) (rowsOf f) (namesOf f) (s .accepted) .name-read r l)
+    subst (λ (g : List ℕ). nameOf g r ≡ nameIn (rowsOf f .lengths) (namesOf f) r) (s .file)
+    (written-then-read (countsOf f) (rowsOf f) (namesOf f) (s .accepted) .name-read r l)

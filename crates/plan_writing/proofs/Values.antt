@@ -1,12 +1,12 @@
 -- The rows of values in a file: they stand at their places, and the checks of a file's parts say of them what the rules of values say.
 use Rattle.plan_writing.proofs.Ground.{ℕ, _<_, true, _&&_, _≡_, sym, ap, ap₂, _∙_, List, _++_, append-assoc, length, getD, drop}
-use Rattle.plan_writing.proofs.Ground.{length-append, arith, eq-eqb, bytesBelow, all-same, sum-same, row-length, taskOf, sectionOf}
-use Rattle.plan_writing.proofs.Ground.{lengthOf, startOf, countsOk, tagsOk, uniqueOk, namesOk, sumsOk, TaskRow, Counts, Rows}
-use Rattle.plan_writing.proofs.Ground.{InRange, counts-facts, tags-kept, Edition, formatOf, laid, tasksAt, resourcesAt, sectionsAt}
-use Rattle.plan_writing.proofs.Ground.{namesAt, headerNumbers, sectionNumbers, resourceNumbers, taskAt, taskSpare, startAt, lengthAt}
-use Rattle.plan_writing.proofs.Ground.{resourceSpare, sectionAt, taskRows, lengthRows, sectionRows, partsCode, valuesTests, faithful}
-use Rattle.plan_writing.proofs.Ground.{task-read, length-read, section-read, headerBytes, taskBytes, resourceBytes, sectionBytes}
-use Rattle.plan_writing.proofs.Ground.{fileLength, fileOf}
+use Rattle.plan_writing.proofs.Ground.{length-append, arith, eq-eqb, bytesBelow, all-same, sum-same, taskOf, sectionOf, lengthOf}
+use Rattle.plan_writing.proofs.Ground.{startOf, countsOk, tagsOk, uniqueOk, namesOk, sumsOk, TaskRow, Counts, Rows, InRange}
+use Rattle.plan_writing.proofs.Ground.{counts-facts, tags-kept, Edition, formatOf, laid, tasksAt, resourcesAt, sectionsAt, namesAt}
+use Rattle.plan_writing.proofs.Ground.{sectionNumbers, resourceNumbers, taskAt, taskSpare, startAt, lengthAt, resourceSpare}
+use Rattle.plan_writing.proofs.Ground.{sectionAt, taskRows, lengthRows, sectionRows, partsCode, valuesTests, faithful, task-read}
+use Rattle.plan_writing.proofs.Ground.{length-read, section-read, headerBytes, taskBytes, resourceBytes, sectionBytes, fileLength}
+use Rattle.plan_writing.proofs.Ground.{fileOf, header-length}
 use Rattle.folds.proofs.Ground.{false, and-true, true≢false, []}
 use Rattle.folds.proofs.Tests.{all-from, is-not-true}
 use Rattle.plan_rules.specs.Rules.{taskOk, sectionOk, tasksOk, sectionsOk, testsCode}
@@ -70,15 +70,16 @@ module _ (c : Counts) (rows : Rows) (h : List ℕ) (lh : length h ≡ tasksAt c)
       let s : List ℕ = sectionPart c rows in
       let f : List ℕ = headed h c rows ++ x in
       record {
-        task = rows-stand (formatOf (laid c) .task) (taskWidth (laid c) rows) (c .tasks) f h (r ++ (s ++ x)) (tasksAt c) (e .task-solid) (λ i. e .task-long (taskOf (rows .tasks) i)) (simp append-assoc) lh;
-        resource = rows-stand (formatOf (laid c) .resource) (resourceWidth rows) (c .resources) f (h ++ t) (s ++ x) (resourcesAt c) (e .resource-solid) (λ i. e .resource-long) (simp append-assoc) tasks-end;
-        section = rows-stand (formatOf (laid c) .section) (sectionWidth rows) (c .sections) f ((h ++ t) ++ r) x (sectionsAt c) (e .section-solid) (λ i. e .section-long) (simp append-assoc) resources-end;
+        task =
+            rows-stand (formatOf (laid c) .task) (taskWidth (laid c) rows) (c .tasks) f h (r ++ (s ++ x)) (tasksAt c)
+            (e .task-solid) (λ i. e .task-long (taskOf (rows .tasks) i)) (simp append-assoc) lh;
+        resource =
+            rows-stand (formatOf (laid c) .resource) (resourceWidth rows) (c .resources) f (h ++ t) (s ++ x) (resourcesAt c)
+            (e .resource-solid) (λ i. e .resource-long) (simp append-assoc) tasks-end;
+        section =
+            rows-stand (formatOf (laid c) .section) (sectionWidth rows) (c .sections) f ((h ++ t) ++ r) x (sectionsAt c)
+            (e .section-solid) (λ i. e .section-long) (simp append-assoc) resources-end;
       }
-
--- a header is as long as its edition says
-pub header-length : (c : Counts) (len : ℕ) → length (headerBytes c len) ≡ tasksAt c
-unfolding headerBytes
-header-length c len = row-length (formatOf (laid c) .header) (headerNumbers c len)
 
 -- a file in which the rows of values stand: its rows are theirs
 module _ (f : List ℕ) (c : Counts) (rows : Rows) (h : RowsIn f c rows) where
@@ -112,14 +113,19 @@ module _ (f : List ℕ) (c : Counts) (rows : Rows) (h : RowsIn f c rows) where
   unfolding taskRowsOk tasksOk taskSpare
   tasks-checked =
       all-same (c .tasks) _ _
-      (λ i l. ap₂ _&&_ (ap (taskOk (formatOf (laid c) .mostTag) (c .processors)) (task-same i l)) (eq-eqb _ _ (ap (formatOf (laid c) .spareIn) (h .task i l) ∙ faithful (laid c) .spare-back (taskOf (rows .tasks) i))) ∙ and-true _)
+      (λ i l. ap₂ _&&_ (ap (taskOk (formatOf (laid c) .mostTag) (c .processors)) (task-same i l))
+      (eq-eqb _ _ (ap (formatOf (laid c) .spareIn) (h .task i l) ∙ faithful (laid c) .spare-back (taskOf (rows .tasks) i)))
+      ∙ and-true _)
 
   pub starts-checked : lengthRowsOk (laid c) (c .resources) resources ≡ true
   unfolding lengthRowsOk resourceSpare
   starts-checked =
-      all-from (c .resources) _ (λ i l. ap₂ _&&_ (eq-eqb _ _ (start-same i l ∙ sym (sum-same i _ _ (λ j m. length-same j (omega arith))))) (eq-eqb _ _ (ap (at 2) (h .resource i l))))
+      all-from (c .resources) _
+      (λ i l. ap₂ _&&_ (eq-eqb _ _ (start-same i l ∙ sym (sum-same i _ _ (λ j m. length-same j (omega arith)))))
+      (eq-eqb _ _ (ap (at 2) (h .resource i l))))
 
-  pub sections-checked : sectionRowsOk (laid c) (c .sections) (c .tasks) (c .resources) sections ≡ sectionsOk (c .sections) (c .tasks) (c .resources) (rows .sections)
+  pub sections-checked : sectionRowsOk (laid c) (c .sections) (c .tasks) (c .resources) sections
+      ≡ sectionsOk (c .sections) (c .tasks) (c .resources) (rows .sections)
   unfolding sectionRowsOk sectionsOk
   sections-checked = all-same (c .sections) _ _ (λ i l. ap (sectionOk (c .tasks) (c .resources)) (section-same i l))
 
@@ -130,11 +136,13 @@ module _ (f : List ℕ) (c : Counts) (rows : Rows) (h : RowsIn f c rows) where
     pub unique-checked : uniqueOk (c .tasks) (taskRows (laid c) (c .tasks) tasks) ≡ uniqueOk (c .tasks) (rows .tasks)
     unique-checked = unique-same (c .tasks) _ _ task-loaded
 
-    pub names-checked : (names : List ℕ) → namesOk (c .resources) (lengthRows (laid c) (c .resources) resources) names ≡ namesOk (c .resources) (rows .lengths) names
+    pub names-checked : (names : List ℕ)
+        → namesOk (c .resources) (lengthRows (laid c) (c .resources) resources) names ≡ namesOk (c .resources) (rows .lengths) names
     names-checked names =
         names-same (c .resources) _ _ (λ i l. length-read (laid c) (c .resources) resources i l (g .resources) ∙ length-same i l) names
 
-    pub sums-checked : sumsOk (c .tasks) (c .sections) (taskRows (laid c) (c .tasks) tasks) (sectionRows (laid c) (c .sections) sections) ≡ sumsOk (c .tasks) (c .sections) (rows .tasks) (rows .sections)
+    pub sums-checked : sumsOk (c .tasks) (c .sections) (taskRows (laid c) (c .tasks) tasks) (sectionRows (laid c) (c .sections) sections)
+        ≡ sumsOk (c .tasks) (c .sections) (rows .tasks) (rows .sections)
     sums-checked =
         sums-same (c .tasks) _ _ task-loaded (c .sections) _ _ (λ i l. section-read (laid c) (c .sections) sections i l (g .sections) ∙ section-same i l)
 
@@ -144,7 +152,8 @@ module _ (f : List ℕ) (c : Counts) (rows : Rows) (h : RowsIn f c rows) where
         rw (tasks-checked, unique-checked, starts-checked, names-checked names, sections-checked, sums-checked)
 
 -- the rows in a file of their own, with no names and with anything behind it, are checked as the values are
-pub parts-values : (c : Counts) (rows : Rows) (names x : List ℕ) {f : List ℕ} → countsOk c ≡ true → f ≡ fileOf c rows [] ++ x → fileCode c f names ≡ testsCode (valuesTests c rows names)
+pub parts-values : (c : Counts) (rows : Rows) (names x : List ℕ) {f : List ℕ} → countsOk c ≡ true → f ≡ fileOf c rows [] ++ x
+    → fileCode c f names ≡ testsCode (valuesTests c rows names)
 unfolding fileOf
 parts-values c rows names x {f} ok e =
     let h : List ℕ = headerBytes c (fileLength c []) in

@@ -1,3 +1,2 @@
-pub mod Encode
+pub mod Writing
 pub mod RoundTrip
-pub mod Inner

@@ -12,6 +12,7 @@ use Rattle.plan_rules.specs.Rules.{noTask, noSection, taskOf, sectionOf, length
 use Rattle.plan_rules.specs.declared.Counts.{Counts}
 use Rattle.plan_rules.specs.declared.Rows.{Rows}
 use Rattle.plan_layout.specs.Layout.{countsOf, rowsOf, namesOf, valuesCode}
+use Rattle.plan_bytes.specs.Encode.{fileOf}
 use Rattle.plan.specs.declared.Reading.{Reading}
 use Rattle.plan.specs.declared.ReadAnswer.the-variants.{Accepted}
 use Rattle.refusals.specs.Outcomes.{Outcome, outcome}
@@ -19,7 +20,7 @@ use Rattle.plan.specs.Acceptance.{refusal}
 use Rattle.plan.specs.Reading.{refusedWith, countValues, nameRefusal, nameOf}
 use Rattle.plan_writing.specs.declared.WriteAnswer.{WriteAnswer}
 use Rattle.plan_writing.specs.declared.WriteAnswer.the-variants.{Written, Refused}
-use Rattle.plan_writing.specs.Encode.{fileOf, writeCode}
+use Rattle.plan_writing.specs.Writing.{writeCode}
 
 -- the rows of a plan, with whatever stands past the counts made zero, as a reader gives them
 unfoldable pub trimmed : Counts → Rows → Rows

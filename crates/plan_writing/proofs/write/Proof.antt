@@ -1,6 +1,6 @@
 -- Each return is the case of the definition; the length fits 16 bits, since the counts and the names do.
 use Rattle.plan_writing.proofs.Ground.{ℕ, _+_, _<_, _≤_, refl, sym, ap, _∙_, length, arith, needs, tags-kept, Written, fileLength}
-use Rattle.plan_writing.proofs.Put.{sized}
+use Rattle.plan_writing.proofs.Same.{sized}
 use Rattle.plan_writing.proofs.Outcome.{code-values, code-short, code-fits, wrote, kept-back, ended-so}
 use Rattle.plan_writing.proofs.write.Statement.{statement}
 use Rattle.plan_writing.proofs.write.Tie as tie

@@ -1,11 +1,11 @@
 -- The invariant: the first `i` resource rows stand at the front of the buffer, what lies behind is as it was, and `start` is the sum of their lengths.
-use Rattle.plan_writing.proofs.Ground.{ℕ, _≤_, _-_, _*_, _≡_, refl, List, length-take, length-drop, arith, lengthOf, edition1}
-use Rattle.plan_writing.proofs.Ground.{resourceWidth, resourceBytes}
+use Rattle.plan_bytes.proofs.Ground.{ℕ, _≤_, _-_, _*_, _≡_, refl, List, length-take, length-drop, arith, lengthOf, edition1}
+use Rattle.plan_bytes.proofs.Ground.{resourceWidth, resourceBytes}
 use Rattle.folds.specs.Below.{sumBelow}
 use Rattle.folds.proofs.Figures.{sum-step}
-use Rattle.plan_writing.proofs.Put.{Rowed, rows-none, rows-more, rows-all, resource-length}
-use Rattle.plan_writing.proofs.put_resources.Statement.{statement}
-use Rattle.plan_writing.proofs.put_resources.Tie as tie
+use Rattle.plan_bytes.proofs.Put.{Rowed, rows-none, rows-more, rows-all, resource-length}
+use Rattle.plan_bytes.proofs.put_resources.Statement.{statement}
+use Rattle.plan_bytes.proofs.put_resources.Tie as tie
 
 -- the first i rows are written
 record Written (r : ℕ) (lengths before now : List ℕ) (end i : ℕ) : Type 0 where

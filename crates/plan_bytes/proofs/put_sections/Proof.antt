@@ -1,8 +1,8 @@
 -- The invariant: the first `i` section rows stand at the front of the buffer, and what lies behind is as it was.
-use Rattle.plan_writing.proofs.Ground.{_-_, length-take, length-drop, arith, edition1, sectionWidth, sectionBytes}
-use Rattle.plan_writing.proofs.Put.{Rowed, rows-none, rows-more, rows-all, section-length}
-use Rattle.plan_writing.proofs.put_sections.Statement.{statement}
-use Rattle.plan_writing.proofs.put_sections.Tie as tie
+use Rattle.plan_bytes.proofs.Ground.{_-_, length-take, length-drop, arith, edition1, sectionWidth, sectionBytes}
+use Rattle.plan_bytes.proofs.Put.{Rowed, rows-none, rows-more, rows-all, section-length}
+use Rattle.plan_bytes.proofs.put_sections.Statement.{statement}
+use Rattle.plan_bytes.proofs.put_sections.Tie as tie
 
 abbrev Inv-loop : tie.InvT-loop
 Inv-loop buf₀ s sections i₀ buf i = Rowed s sectionWidth (sectionBytes edition1 sections) buf₀ buf i

@@ -1,7 +1,7 @@
 -- The row is the bytes of the header's numbers.
-use Rattle.plan_writing.proofs.Ground.{arith, needs, rowBytes, digits, counts-facts, headerBytes}
-use Rattle.plan_writing.proofs.put_header.Statement.{statement}
-use Rattle.plan_writing.proofs.put_header.Tie as tie
+use Rattle.plan_bytes.proofs.Ground.{arith, needs, rowBytes, digits, counts-facts, headerBytes}
+use Rattle.plan_bytes.proofs.put_header.Statement.{statement}
+use Rattle.plan_bytes.proofs.put_header.Tie as tie
 
 names-fit : tie.Need-high-requires-4
 names-fit c κs =

@@ -1,4 +1,4 @@
--- What the private functions of this crate ask. None of this is a rule of document 01.
+-- What the functions of this crate ask. None of this is a rule of document 01.
 use Prim.Native.Nat.{ℕ, _*_, _≤_, _<_}
 use mathlib.Core.Bool.{true}
 use mathlib.Core.List.{List}
@@ -12,7 +12,7 @@ use Rattle.plan_rules.specs.declared.Rows.{Rows}
 use Rattle.plan_layout.specs.Editions.{edition1, formatOf}
 use Rattle.plan_layout.specs.Layout.{tasksAt}
 use Rattle.plan_layout.specs.Inner.{taskWidth}
-use Rattle.plan_writing.specs.Encode.{fileLength}
+use Rattle.plan_bytes.specs.Encode.{fileLength}
 
 -- a buffer has room for a header, whose numbers fit their fields
 pub record HeaderRoom (c : Counts) (len : ℕ) (buf : List ℕ) : Type 0 where

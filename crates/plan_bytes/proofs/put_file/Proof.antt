@@ -1,10 +1,11 @@
 -- Each part is put behind those before it: `rows-part` and `part-more`.
-use Rattle.plan_writing.proofs.Ground.{ℕ, _+_, refl, ap, _∙_, length, length-take, length-drop, arith, needs, InRange, counts-facts}
-use Rattle.plan_writing.proofs.Ground.{tasksAt, taskWidth, resourceWidth, sectionWidth, headerBytes}
-use Rattle.plan_writing.proofs.Put.{Front, put-front, part-more, rows-part, task-length, resource-length, section-length, file-same}
-use Rattle.plan_writing.proofs.Values.{header-length}
-use Rattle.plan_writing.proofs.put_file.Statement.{statement}
-use Rattle.plan_writing.proofs.put_file.Tie as tie
+use Rattle.plan_bytes.proofs.Ground.{ℕ, _+_, refl, ap, _∙_, length, length-take, length-drop, arith, needs, counts-facts, tasksAt}
+use Rattle.plan_bytes.proofs.Ground.{taskWidth, resourceWidth, sectionWidth, headerBytes}
+use Rattle.plan_rules.proofs.Laws.{InRange}
+use Rattle.plan_bytes.proofs.Put.{Front, put-front, part-more, rows-part, header-length, task-length, resource-length, section-length}
+use Rattle.plan_bytes.proofs.Put.{file-same}
+use Rattle.plan_bytes.proofs.put_file.Statement.{statement}
+use Rattle.plan_bytes.proofs.put_file.Tie as tie
 
 -- the beginning, the offsets, and what was put, each seen from what comes next
 abbrev begun : tie.After-names-at → tie.Start
@@ -66,10 +67,17 @@ returns c =
     let tasks = t .before .wide in
     let resources = r .before .wide2 in
     let end = names-at .result + length names in
-    let header : Front (headerBytes (a .args .c) end) (tasksAt (a .args .c)) (a .args .buf .now) _ = put-front (h .put-header .ensures) (header-length (a .args .c) end) (omega arith) in
-    let f1 = rows-part taskWidth _ (task-length (rows .tasks)) (tasks .result) (resources-at .result) header (t .put-tasks .ensures) (omega arith) (omega arith) in
-    let f2 = rows-part resourceWidth _ (resource-length (rows .lengths)) (resources .result) (sections-at .result) f1 (r .put-resources .ensures) (omega arith) (omega arith) in
-    let f3 = rows-part sectionWidth _ (section-length (rows .sections)) (a .args .c .sections) (names-at .result) f2 (s .put-sections .ensures) (omega arith) (omega arith) in
+    let header : Front (headerBytes (a .args .c) end) (tasksAt (a .args .c)) (a .args .buf .now) _ =
+    put-front (h .put-header .ensures) (header-length (a .args .c) end) (omega arith) in
+    let f1 =
+    rows-part taskWidth _ (task-length (rows .tasks)) (tasks .result) (resources-at .result) header
+    (t .put-tasks .ensures) (omega arith) (omega arith) in
+    let f2 =
+    rows-part resourceWidth _ (resource-length (rows .lengths)) (resources .result) (sections-at .result) f1
+    (r .put-resources .ensures) (omega arith) (omega arith) in
+    let f3 =
+    rows-part sectionWidth _ (section-length (rows .sections)) (a .args .c .sections) (names-at .result) f2
+    (s .put-sections .ensures) (omega arith) (omega arith) in
     let f4 = part-more names (length names) end f3 (n .put-bytes .ensures) refl refl (omega arith) in
     f4 .bytes ∙ file-same (a .args .c) rows names _ (tasks .ensures .same) (resources .ensures .same) (ap (λ (n : ℕ). n + length names) (names-at .ensures))
 

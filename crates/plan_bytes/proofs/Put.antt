@@ -1,16 +1,20 @@
 -- Laws of the writer: what stands at the front of a buffer after each part that is put, and the lengths of the parts.
-use Rattle.plan_writing.proofs.Ground.{ℕ, _+_, _-_, _*_, _<_, _≤_, true, _≡_, refl, ap, _∙_, List, _++_, leb, length, take, drop}
-use Rattle.plan_writing.proofs.Ground.{length-append, arith, leb-true, mostResources, mostNameBytes, bytesBelow, bytes-length}
-use Rattle.plan_writing.proofs.Ground.{row-length, taskOf, sectionOf, lengthOf, startOf, tagsOk, namesOk, TaskRow, SectionRow}
-use Rattle.plan_writing.proofs.Ground.{Counts, Rows, InRange, counts-facts, edition1, formatOf, laid, resourceNumbers}
-use Rattle.plan_writing.proofs.Ground.{sectionNumbers, valuesCode, taskWidth, resourceWidth, sectionWidth, headerBytes, taskBytes}
-use Rattle.plan_writing.proofs.Ground.{resourceBytes, sectionBytes, fileLength, fileOf}
-use Rattle.folds.proofs.Ground.{zero-mul}
+use Rattle.plan_bytes.proofs.Ground.{ℕ, _+_, _-_, _*_, _<_, _≤_, _≡_, refl, ap, _∙_, List, _++_, length, take, drop, arith, lengthOf}
+use Rattle.plan_bytes.proofs.Ground.{edition1, tasksAt, taskWidth, resourceWidth, sectionWidth, headerBytes, taskBytes}
+use Rattle.plan_bytes.proofs.Ground.{resourceBytes, sectionBytes}
+use Rattle.folds.proofs.Ground.{true, leb, length-append, leb-true, zero-mul}
+use Rattle.folds.specs.Bytes.{bytesBelow}
 use Rattle.folds.proofs.Tests.{all-at}
-use Rattle.folds.proofs.Figures.{sum-bound}
-use Rattle.folds.proofs.Parts.{put-part, put-length, bytes-step}
-use Rattle.plan_rules.proofs.Laws.{length-facts, names-facts}
-use Rattle.plan_writing.proofs.Same.{Kept, kept-facts}
+use Rattle.folds.proofs.Parts.{put-part, put-length, bytes-length, bytes-step}
+use Rattle.folds.proofs.RowLaws.{row-length}
+use Rattle.plan_rules.specs.Rules.{taskOf, sectionOf, startOf, tagsOk}
+use Rattle.plan_rules.specs.declared.TaskRow.{TaskRow}
+use Rattle.plan_rules.specs.declared.SectionRow.{SectionRow}
+use Rattle.plan_rules.specs.declared.Counts.{Counts}
+use Rattle.plan_rules.specs.declared.Rows.{Rows}
+use Rattle.plan_layout.specs.Editions.{formatOf}
+use Rattle.plan_layout.specs.Layout.{laid, headerNumbers, resourceNumbers, sectionNumbers}
+use Rattle.plan_bytes.specs.Encode.{fileLength, fileOf}
 
 -- m is l with the o bytes of x at its front
 pub record Front (x : List ℕ) (o : ℕ) (l m : List ℕ) : Type 0 where
@@ -22,12 +26,15 @@ pub put-front : {x l m : List ℕ} {o : ℕ} → m ≡ x ++ drop o l → length 
 put-front {x} {l} {m} {o} e s h = record { size = s; bytes = e; kept = ap length e ∙ put-length x l o s h }
 
 -- a call was lent `&mut m[o..]` and put x at the front of it
-pub part-more : {a l m y : List ℕ} {o : ℕ} (x : List ℕ) (k p : ℕ) → Front a o l m → y ≡ x ++ drop k (take (length m - o) (drop o m)) → length x ≡ k → o + k ≡ p → p ≤ length l → Front (a ++ x) p l (take o m ++ (y ++ drop (length m - o) (drop o m)))
+pub part-more : {a l m y : List ℕ} {o : ℕ} (x : List ℕ) (k p : ℕ) → Front a o l m → y ≡ x ++ drop k (take (length m - o) (drop o m))
+    → length x ≡ k → o + k ≡ p → p ≤ length l → Front (a ++ x) p l (take o m ++ (y ++ drop (length m - o) (drop o m)))
 part-more {a} {l} {m} {y} {o} x k p f q s e h =
     put-front (rw (← e) (put-part a x l m y o k (f .size) s (f .bytes) q)) (length-append a x ∙ omega (arith, f .size)) h
 
 -- and x was n rows of w bytes
-pub rows-part : {a l m y : List ℕ} {o : ℕ} (w : ℕ) (f : ℕ → List ℕ) → ((k : ℕ) → length (f k) ≡ w) → (n p : ℕ) → Front a o l m → y ≡ bytesBelow n f ++ drop (n * w) (take (length m - o) (drop o m)) → o + n * w ≡ p → p ≤ length l → Front (a ++ bytesBelow n f) p l (take o m ++ (y ++ drop (length m - o) (drop o m)))
+pub rows-part : {a l m y : List ℕ} {o : ℕ} (w : ℕ) (f : ℕ → List ℕ) → ((k : ℕ) → length (f k) ≡ w) → (n p : ℕ) → Front a o l m
+    → y ≡ bytesBelow n f ++ drop (n * w) (take (length m - o) (drop o m)) → o + n * w ≡ p → p ≤ length l
+    → Front (a ++ bytesBelow n f) p l (take o m ++ (y ++ drop (length m - o) (drop o m)))
 rows-part w f each n p g q e h = part-more (bytesBelow n f) (n * w) p g q (bytes-length w f each n) e h
 
 -- i of n rows of w bytes are put at the front
@@ -49,6 +56,11 @@ module _ {n w : ℕ} {f : ℕ → List ℕ} {l : List ℕ} where
   pub rows-all : {m : List ℕ} {i : ℕ} → Rowed n w f l m i → n ≤ i → m ≡ bytesBelow n f ++ drop (n * w) l
   rows-all {m} {i} p h = let e : i ≡ n = omega arith in rw (← e) (p .front .bytes)
 
+-- a header is as long as its edition says
+pub header-length : (c : Counts) (len : ℕ) → length (headerBytes c len) ≡ tasksAt c
+unfolding headerBytes
+header-length c len = row-length (formatOf (laid c) .header) (headerNumbers c len)
+
 -- how long the rows are
 pub task-length : (tasks : List TaskRow) (i : ℕ) → length (taskBytes edition1 tasks i) ≡ taskWidth
 unfolding taskBytes
@@ -64,7 +76,10 @@ section-length sections i = row-length (formatOf edition1 .section) (sectionNumb
 
 -- the parts of a file one after the other, by the numbers that were worked out
 pub file-same : {n r end : ℕ} (c : Counts) (rows : Rows) (names buf : List ℕ) → n ≡ c .tasks → r ≡ c .resources → end ≡ fileLength c names
-    → ((((headerBytes c end ++ bytesBelow n (taskBytes (laid c) (rows .tasks))) ++ bytesBelow r (resourceBytes (laid c) (rows .lengths))) ++ bytesBelow (c .sections) (sectionBytes (laid c) (rows .sections))) ++ names) ++ drop end buf
+    → ((((headerBytes c end ++ bytesBelow n (taskBytes (laid c) (rows .tasks)))
+    ++ bytesBelow r (resourceBytes (laid c) (rows .lengths)))
+    ++ bytesBelow (c .sections) (sectionBytes (laid c) (rows .sections)))
+    ++ names) ++ drop end buf
     ≡ fileOf c rows names ++ drop (fileLength c names) buf
 unfolding fileOf
 file-same c rows names buf e d h = rw (e, d, h)
@@ -73,21 +88,3 @@ file-same c rows names buf e d h = rw (e, d, h)
 pub tag-at : (n most i : ℕ) (tasks : List TaskRow) → tagsOk n most tasks ≡ true → i < n → taskOf tasks i .tag ≤ most
 unfolding tagsOk
 tag-at n most i tasks h l = leb-true _ _ (all-at n i (λ k. leb (taskOf tasks k .tag) most) h l)
-
--- how much the names are
-names-length : (r : ℕ) (lengths names : List ℕ) → namesOk r lengths names ≡ true → length names ≤ r * mostNameBytes
-names-length r lengths names e =
-    let n = names-facts r lengths names e in
-    omega (arith, sum-bound r mostNameBytes (lengthOf lengths) (λ k l. length-facts r k lengths (n .ranges) l .high))
-
--- values that keep every rule, and how much they are
-pub record Sized (c : Counts) (rows : Rows) (names : List ℕ) : Type 0 where
-  pub rules : Kept c rows names
-  pub ranges : InRange c
-  pub short : length names ≤ mostResources * mostNameBytes
-
-pub sized : (c : Counts) (rows : Rows) (names : List ℕ) → valuesCode c rows names ≡ 0 → Sized c rows names
-sized c rows names e =
-    let k = kept-facts c rows names e in
-    let g = counts-facts c (k .counts) in
-    record { rules = k; ranges = g; short = omega (arith, names-length (c .resources) (rows .lengths) names (k .tests .names)) }
