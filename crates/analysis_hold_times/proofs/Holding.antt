@@ -1,14 +1,16 @@
 -- What the walk through a processor's tasks makes of the rows: hold times, and the sums and maxima beside them.
 use Rattle.analysis_hold_times.proofs.Ground.{ℕ, _+_, _*_, _-_, _<_, _≤_, max, Bool, true, false, cond, _&&_, _≡_, refl, sym, ap}
 use Rattle.analysis_hold_times.proofs.Ground.{_∙_, List, eqb, ltb, length, getD, replicate, arith, lt-ltb, le-ltb, eq-eqb, ne-eqb}
-use Rattle.analysis_hold_times.proofs.Ground.{sum-same, by-eq, Plan, Valid, planOf, valid-plan, uses, global, longestOn, longestOff}
-use Rattle.analysis_hold_times.proofs.Ground.{holdAt, budget, uses-longest, figureCount, cell, Held, RowSet, ResourceRow, Sits}
-use Rattle.analysis_hold_times.proofs.Ground.{AllAbove, Walk, sharedOn}
+use Rattle.analysis_hold_times.proofs.Ground.{by-eq, Plan, Valid, planOf, valid-plan, uses, global, longestOn, longestOff, holdAt}
+use Rattle.analysis_hold_times.proofs.Ground.{budget, figureCount, cell, Held, RowSet, ResourceRow, Walk, sharedOn}
+use Rattle.folds.proofs.Figures.{sum-same}
+use Rattle.analysis_equations.proofs.Laws.{uses-longest, budget-holds, off-high}
 use Rattle.analysis_equations.specs.HoldTimes.{interference, holdTime}
-use Rattle.analysis_equations.proofs.Laws.{budget-holds, off-high}
-use Rattle.analysis_hold_times.proofs.Rows.{row-same}
-use Rattle.analysis_hold_times.proofs.Walks.{passed, passed-none, passed-own, passed-new, passed-above, passed-other, passed-all, the-greatest, the-sum, FoldBelow, fold-none, fold-step, fold-done, sums-high}
-use Rattle.analysis_hold_times.proofs.Tops.{shared-high, top-high, top-own, top-off}
+use Rattle.analysis_sections.specs.Inner.{Sits, AllAbove}
+use Rattle.analysis_sections.proofs.Rows.{row-same}
+use Rattle.analysis_sections.proofs.Walks.{passed, passed-none, passed-own, passed-new, passed-above, passed-other, passed-all}
+use Rattle.analysis_sections.proofs.Walks.{the-greatest, the-sum, FoldBelow, fold-none, fold-step, fold-done, sums-high}
+use Rattle.analysis_hold_times.proofs.Others.{shared-high, top-high, top-own, top-off}
 
 module _ (p : Plan) (k : ℕ) (old : List ℕ) where
   -- the rows once the tasks with fewer than x above them are passed

@@ -1,8 +1,5 @@
 pub mod Ground
-pub mod Rows
-pub mod Ranks
-pub mod Walks
-pub mod Longest
-pub mod Tops
+pub mod Setting
+pub mod Others
 pub mod Holding
 pub mod Tables

@@ -1,15 +1,17 @@
 -- The table of hold times and budgets, processor by processor.
-use Rattle.analysis_hold_times.proofs.Ground.{ℕ, _+_, _<_, _≤_, Bool, false, cond, _&&_, and-false, _≡_, refl, sym, ap, _∙_, List}
-use Rattle.analysis_hold_times.proofs.Ground.{ltb, length, getD, arith, lt-ltb, le-ltb, eq-eqb, ne-eqb, anyBelow, by-eq, Plan, Valid}
-use Rattle.analysis_hold_times.proofs.Ground.{processorOf, sectionOn, uses, usedOn, longestOn, holdAt, budget, figureCount, cell}
-use Rattle.analysis_hold_times.proofs.Ground.{Held, RowSet, ResourceRow}
+use Rattle.analysis_hold_times.proofs.Ground.{ℕ, _+_, _<_, _≤_, Bool, false, cond, _&&_, _≡_, refl, sym, ap, _∙_, List, ltb, length}
+use Rattle.analysis_hold_times.proofs.Ground.{getD, arith, lt-ltb, le-ltb, eq-eqb, ne-eqb, by-eq, Plan, Valid, sectionOn, uses}
+use Rattle.analysis_hold_times.proofs.Ground.{longestOn, holdAt, budget, figureCount, cell, Held, RowSet, ResourceRow, by-lt}
+use Rattle.folds.proofs.Ground.{and-false}
+use Rattle.folds.specs.Below.{anyBelow}
+use Rattle.analysis_equations.specs.Sharing.{processorOf, usedOn}
 use Rattle.folds.proofs.Tests.{any-none}
 use Rattle.folds.proofs.Ranges.{max-none}
 use Rattle.analysis_equations.specs.HoldTimes.{userOn}
 use Rattle.analysis_equations.proofs.Laws.{budget-unused}
 use Rattle.analysis_figures.specs.Figures.{Figures}
-use Rattle.analysis_hold_times.specs.Inner.{Sections}
-use Rattle.analysis_hold_times.proofs.Rows.{ltb-more, by-lt}
+use Rattle.analysis_sections.specs.Inner.{Sections}
+use Rattle.analysis_sections.proofs.Rows.{ltb-more}
 
 module _ (p : Plan) where
   -- task j is one of a processor below k
@@ -73,7 +75,8 @@ module _ (p : Plan) (v : Valid p) where
       one : (j q : ℕ) → j < p .tasks → q < 16 → getD next (cell j q) 0 ≡ cond (ltb (processorOf p j) (k + 1)) (holdAt p j q) (longestOn p j q)
       one j q l lq =
           r .1 .at j q l lq
-          ∙ by-eq (λ (d : Bool). cond d (holdAt p j q) (getD old (cell j q) 0) ≡ cond (ltb (processorOf p j) (k + 1)) (holdAt p j q) (longestOn p j q)) (processorOf p j) k
+          ∙ by-eq (λ (d : Bool). cond d (holdAt p j q) (getD old (cell j q) 0) ≡ cond (ltb (processorOf p j) (k + 1)) (holdAt p j q) (longestOn p j q))
+          (processorOf p j) k
           (λ e. rw (lt-ltb (processorOf p j) (k + 1) (omega (arith, e))))
           (λ d. h .at j q (omega (arith, v .tasks)) lq ∙ rw (lt-ltb j (p .tasks) l)
           (ap (λ (b : Bool). cond b (holdAt p j q) (longestOn p j q)) (sym (ltb-more (processorOf p j) k d))))
@@ -82,7 +85,8 @@ module _ (p : Plan) (v : Valid p) where
   past-processors : (k q : ℕ) → p .processors ≤ k → 0 ≡ budget p k q
   unfolding usedOn
   past-processors k q l =
-      sym (budget-unused p k q (any-none (p .tasks) (userOn p k q) (λ i li. rw (ne-eqb (processorOf p i) k (λ e. omega (arith, v .task-fits i li .processor))))))
+      sym (budget-unused p k q (any-none (p .tasks) (userOn p k q)
+      (λ i li. rw (ne-eqb (processorOf p i) k (λ e. omega (arith, v .task-fits i li .processor))))))
 
   pub table-done : (k : ℕ) {t : List ℕ} → k ≡ p .processors → TableBelow p k t → Figures p t
   table-done k {t} e h =

@@ -1,6 +1,5 @@
 -- The invariant: the hold times are in place at the resources below `q`.
-use Rattle.analysis_hold_times.proofs.Ground.{_+_, _-_, cond, eqb, getD, arith, needs}
-use Rattle.analysis_hold_times.proofs.Rows.{Made, row-none, row-next, row-done}
+use Rattle.analysis_hold_times.proofs.Ground.{_+_, _-_, cond, eqb, getD, arith, needs, Made, row-none, row-next, row-done}
 use Rattle.analysis_hold_times.proofs.held_row.Statement.{statement}
 use Rattle.analysis_hold_times.proofs.held_row.Tie as tie
 
@@ -14,6 +13,8 @@ pub held-row-spec : {M : Type 1} → statement M
 held-row-spec =
     tie.close
     (tie.spec
-    Inv-loop μ-loop (λ c. row-none _ _) (λ c. omega arith) (λ c. omega arith) (λ c. omega arith) (λ c. omega arith) (λ c. omega arith) (λ c. omega arith) (λ c. omega (arith, c .before .before .pre (c .before .loop .q) (omega arith))) (λ c κs. search needs) (λ c. omega arith) (λ c. omega arith) (λ c. omega arith) (λ c. omega arith)
+    Inv-loop μ-loop (λ c. row-none _ _) (λ c. omega arith) (λ c. omega arith) (λ c. omega arith) (λ c. omega arith) (λ c. omega arith) (λ c. omega arith)
+    (λ c. omega (arith, c .before .before .pre (c .before .loop .q) (omega arith))) (λ c κs. search needs)
+    (λ c. omega arith) (λ c. omega arith) (λ c. omega arith) (λ c. omega arith)
     (λ c. let l = c .before .before .loop in row-next (l .q) _ _ (l .inv) (omega arith) (c .chosen .ensures))
     (λ c. let l = c .before .loop in row-done (l .q) _ _ (l .inv) (omega arith) (search needs)))

@@ -1,5 +1,6 @@
 -- The invariant: the processors passed have their hold times and budgets in the tables.
-use Rattle.analysis_hold_times.proofs.Ground.{ℕ, _-_, _≤_, sym, _∙_, List, arith, needs, planOf, valid-plan, Ordered, Tops}
+use Rattle.analysis_hold_times.proofs.Ground.{ℕ, _-_, _≤_, sym, _∙_, List, arith, needs, planOf, valid-plan, Tops}
+use Rattle.analysis_sections.specs.Inner.{Ordered}
 use Rattle.analysis_hold_times.specs.Inner.{Flags}
 use Rattle.analysis_hold_times.proofs.Tables.{TableBelow, table-none, table-begun, table-step, table-done}
 use Rattle.analysis_hold_times.proofs.hold_all.Statement.{statement}

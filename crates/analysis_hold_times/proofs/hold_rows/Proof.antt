@@ -1,7 +1,8 @@
 -- The invariant: the tasks passed have their hold times in the rows, and the sums and maxima are over them.
 use Rattle.analysis_hold_times.proofs.Ground.{ℕ, _-_, _<_, _≤_, sym, _∙_, List, arith, needs, planOf, valid-plan, Walk}
-use Rattle.analysis_hold_times.proofs.Walks.{order-there, next-sits, last-sits, all-above}
-use Rattle.analysis_hold_times.proofs.Holding.{HeldBelow, Next, low, first-high, held-none, held-done, above-high, product-high, own-high, own-top, held-step}
+use Rattle.analysis_sections.proofs.Walks.{order-there, next-sits, last-sits, all-above}
+use Rattle.analysis_hold_times.proofs.Holding.{HeldBelow, Next, low, first-high, held-none, held-done, above-high, product-high}
+use Rattle.analysis_hold_times.proofs.Holding.{own-high, own-top, held-step}
 use Rattle.analysis_hold_times.proofs.hold_rows.Statement.{statement}
 use Rattle.analysis_hold_times.proofs.hold_rows.Tie as tie
 

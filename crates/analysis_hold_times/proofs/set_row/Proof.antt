@@ -1,6 +1,7 @@
 -- The invariant: the figures below `q` of the row are put down.
-use Rattle.analysis_hold_times.proofs.Ground.{_-_, _≤_, _≡_, refl, arith, stampedBelow, stamped-length, stamped-step}
-use Rattle.analysis_hold_times.proofs.Rows.{setBelow, set-done}
+use Rattle.analysis_hold_times.proofs.Ground.{_-_, _≤_, _≡_, refl, arith, stampedBelow, stamped-length}
+use Rattle.folds.proofs.Arrays.{stamped-step}
+use Rattle.analysis_hold_times.proofs.Setting.{setBelow, set-done}
 use Rattle.analysis_hold_times.proofs.set_row.Statement.{statement}
 use Rattle.analysis_hold_times.proofs.set_row.Tie as tie
 
