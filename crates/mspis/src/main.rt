@@ -15,14 +15,6 @@ struct Served {
     state: State,
 }
 
-// "refused N".
-fn print_refused(number: u8) {
-    let mut out = [0u8; print_lines::LINE];
-    let line = print_lines::refused_line(number, &mut out);
-    let end = line.length;
-    io::write_all(STDOUT_FILENO, &out[0..end]);
-}
-
 // "plan P N R S".
 fn print_plan(counts: plan_rules::Counts) {
     let mut out = [0u8; print_lines::LINE];
@@ -110,12 +102,12 @@ fn serve_all(file: &[u8]) {
 
 fn main() {
     let mut buf = io::large_buffer();
-    let end = input::read_plan(&mut buf);
+    let end = streams::read_plan(&mut buf);
     let file = &buf[0..end];
     let found = plan::read(file);
     let answer = found.answer;
     let ReadAnswer::Accepted(counts) = answer else {
-        print_refused(plan::number(answer));
+        streams::print_refused(plan::number(answer));
         return;
     };
     print_plan(counts);

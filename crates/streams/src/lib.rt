@@ -1,10 +1,11 @@
-// A plan from standard input, for the programs.
+// Standard input and output for the programs: a plan that is read, and the line of a refusal.
 use libc::STDIN_FILENO;
+use libc::STDOUT_FILENO;
 ghost use Prim.Native.Nat.{_≤_};
 ghost use mathlib.Core.Path.{_≡_};
 ghost use lib.ListN.{length, take};
 ghost use Rattle.plan.specs.Reading.{planLength};
-ghost use Rattle.input.specs.Input.{mostPlanBytes, Came};
+ghost use Rattle.streams.specs.Streams.{mostPlanBytes, Came};
 
 // Reads a plan to the front of the buffer: as many bytes as its header says, or as many as there are. What lies behind them in the
 // part that was lent for reading is not known. The buffer is as long as the longest plan that a header can tell of.
@@ -31,4 +32,12 @@ pub fn read_plan(buf: &mut [u8]) -> usize
     let mut own = io::large_buffer();
     let end = read_whole(&mut own);
     print_text::put(buf, 0, &own[0..end])
+}
+
+// Prints "refused N".
+pub fn print_refused(number: u8) {
+    let mut out = [0u8; print_lines::LINE];
+    let line = print_lines::refused_line(number, &mut out);
+    let end = line.length;
+    io::write_all(STDOUT_FILENO, &out[0..end]);
 }

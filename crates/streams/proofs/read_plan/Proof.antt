@@ -1,8 +1,8 @@
 -- What came is put at the front, and nothing behind it is touched.
 use Rattle.folds.proofs.Ground.{arith, needs}
-use Rattle.input.proofs.Laws.{came}
-use Rattle.input.proofs.read_plan.Statement.{statement}
-use Rattle.input.proofs.read_plan.Tie as tie
+use Rattle.streams.proofs.Laws.{came}
+use Rattle.streams.proofs.read_plan.Statement.{statement}
+use Rattle.streams.proofs.read_plan.Tie as tie
 
 returns : tie.Need-returns
 returns c =

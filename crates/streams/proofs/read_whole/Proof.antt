@@ -1,8 +1,8 @@
 -- Bytes 14-15 are among the first 16, so what is read behind these does not change them.
 use Rattle.folds.proofs.Ground.{arith, needs}
-use Rattle.input.proofs.Laws.{told-most, told-still, all-plan}
-use Rattle.input.proofs.read_whole.Statement.{statement}
-use Rattle.input.proofs.read_whole.Tie as tie
+use Rattle.streams.proofs.Laws.{told-most, told-still, all-plan}
+use Rattle.streams.proofs.read_whole.Statement.{statement}
+use Rattle.streams.proofs.read_whole.Tie as tie
 
 returns-2 : tie.Need-returns-2
 returns-2 c =

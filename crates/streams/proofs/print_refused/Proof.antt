@@ -1,7 +1,8 @@
 -- The line fits into its buffer.
-use Rattle.mspis.proofs.Ground.{arith, needs, line-fits}
-use Rattle.mspis.proofs.print_refused.Statement.{statement}
-use Rattle.mspis.proofs.print_refused.Tie as tie
+use Rattle.folds.proofs.Ground.{arith, needs}
+use Rattle.print_text.proofs.Lines.{line-fits}
+use Rattle.streams.proofs.print_refused.Statement.{statement}
+use Rattle.streams.proofs.print_refused.Tie as tie
 
 pub print-refused-spec : {M : Type 1} → statement M
 print-refused-spec =

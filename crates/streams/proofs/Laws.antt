@@ -6,7 +6,7 @@ use Rattle.plan_layout.specs.Layout.{lengthSaid}
 use Rattle.plan_layout.proofs.Laws.{length-field-said}
 use Rattle.plan.specs.Reading.{planLength}
 use Rattle.print_text.specs.Text.{Put}
-use Rattle.input.specs.Input.{Came}
+use Rattle.streams.specs.Streams.{Came}
 
 -- the length that a plan tells stands in the bytes that every header has
 header-told : (r : ℕ) (s : List ℕ) → headerLength ≤ r → lengthSaid (take r s) ≡ lengthSaid s
