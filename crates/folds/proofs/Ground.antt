@@ -10,5 +10,5 @@ pub use lib.Seq.{append-snoc, drop-append-add, drop-at, drop-cons, drop-drop, dr
 pub use native.Mathlib.Nat.{add-assoc, add-comm, add-sub-cancel-left, add-suc, add-zero, div-add-mod', div-lt-iff-lt-mul, div-zero, eq-of-mul-eq-mul-right, eq-or-lt-of-le, le-antisymm, le-of-eq, le-of-suc-le-suc, lt-of-lt-of-le, max-le, max-zero, mod-eq-of-lt, mod-lt, mul-add-mod-self-right, mul-le-mul, mul-le-mul-right, mul-suc, not-suc-le-zero, pow-suc, pow-succ', sub-zero, suc-add, suc-mul, zero-add, zero-mul}
 pub use native.Mathlib.Numerals.{add-one}
 pub use native.Mathlib.Omega.{arith}
-pub use borrow.Author.Tests.{eq-eqb, eqb-false, eqb-true, le-leb, le-ltb, leb-false, leb-true, lt-leb, lt-ltb, ltb-false, ltb-true, ne-eqb, not-false, not-true}
+pub use borrow.Author.Tests.{eq-eqb, eqb-false, eqb-true, le-leb, le-ltb, leb-true, lt-leb, lt-ltb, ltb-false, ltb-true, ne-eqb, not-false, not-true}
 pub use borrow.Author.Needs.{needs}

@@ -1,6 +1,6 @@
 -- What the machine's private functions and `machine::surveyed` rely on and give. None of this is a rule of document 01.
 use Prim.Native.Nat.{ℕ}
-use mathlib.Core.List.{List, [], _∷_}
+use mathlib.Core.List.{List}
 use mathlib.Core.Path.{_≡_}
 use lib.Count.{ones}
 use Rattle.plan.specs.Acceptance.{refusal}

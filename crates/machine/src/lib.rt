@@ -19,7 +19,6 @@ ghost use Rattle.machine.specs.Replies.{reply, replyOutcome, Next, After
 ghost use Rattle.machine.specs.Inner.{cutsIn};
 ghost use Rattle.machine.specs.Promise.{Ran, FreshRan};
 
-mod acting;
 pub mod surveyed;
 
 // The answer to a tick, the number of cuts in it, and the next state.

@@ -5,7 +5,6 @@ use Rattle.machine_rules.specs.declared.Call.{Call}
 use Rattle.machine_rules.specs.declared.Call.the-variants.{Request, Release, Tick}
 use Rattle.machine_calls.specs.declared.Decoded.{Decoded}
 use Rattle.machine_calls.specs.Calls.{callOf, decodedCalls, tagAt, bytesAt, callIn, callsBelow}
-use Rattle.machine_calls.specs.Inner.{CallIn}
 
 -- a decoding says whether there is a call
 pub decoded-call : (d : Decoded) {cs : List Call} → decodedCalls d ≡ cs → not (d .known) ≡ false → cs ≡ d .call ∷ []

@@ -1,5 +1,5 @@
 -- A release: the number by which it is refused, and what it does where it is not.
-use Rattle.machine_replies.proofs.Ground.{ℕ, _+_, _*_, _-_, _<_, _≤_, true, cond, _≡_, refl, sym, _∙_, _≢_, List, eqb, getD, arith, ne-eqb}
+use Rattle.machine_replies.proofs.Ground.{ℕ, _+_, _*_, _-_, _<_, _≤_, true, cond, _≡_, sym, _∙_, _≢_, List, eqb, getD, arith, ne-eqb}
 use Rattle.machine_replies.proofs.Ground.{boolByte, code-zero, mostProcessors, mostTasks, mostResources, notHeld, TaskRow, Plan, Valid}
 use Rattle.machine_replies.proofs.Ground.{taskNumber, Answer, Release, View, releaseCode, State, lineAt, slot, shows, Seats, Whole, sound-of}
 use Rattle.machine_replies.proofs.Ground.{Tabled, sized, Acted, NewHead, grantedAnswer}

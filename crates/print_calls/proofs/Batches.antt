@@ -1,11 +1,10 @@
 -- The lines of many calls, one more at a time.
-use Rattle.print_calls.proofs.Ground.{ℕ, _+_, _-_, _<_, _≤_, true, false, _&&_, _≡_, refl, sym, _∙_, inl, inr, List, [], _++_}
+use Rattle.print_calls.proofs.Ground.{ℕ, _+_, _-_, _<_, _≤_, true, false, _&&_, _≡_, refl, sym, _∙_, inl, inr, List, _++_}
 use Rattle.print_calls.proofs.Ground.{length, arith, first-zero, then-zero, State, CallBytes, callWidth, bytesAt, callIn}
 use Rattle.print_calls.proofs.Ground.{stateRefusal, AfterBytes, callLine, mostLine, Printed, none, more, linesCode, Written, Stepped}
 use Rattle.folds.proofs.Ground.{true≢false, ap, _⊎_, leb, take, drop, length-take, length-drop, take-add, drop-drop, length-take-le, leb-true, le-leb, lt-ltb}
 use Rattle.folds.proofs.Tests.{and-parts}
 use Rattle.folds.proofs.Searches.{on-le}
-use Rattle.print_text.specs.Text.{Put}
 use Rattle.print_text.proofs.TextLaws.{put-front, put-behind}
 use Rattle.machine_calls.proofs.Calls.{bytes-part}
 use Rattle.print_calls.specs.declared.Step.{Step}

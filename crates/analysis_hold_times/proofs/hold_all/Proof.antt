@@ -1,7 +1,6 @@
 -- The invariant: the processors passed have their hold times and budgets in the tables.
 use Rattle.analysis_hold_times.proofs.Ground.{ℕ, _-_, _≤_, sym, _∙_, List, arith, needs, planOf, valid-plan, Tops}
-use Rattle.analysis_sections.specs.Inner.{Ordered}
-use Rattle.analysis_hold_times.specs.Inner.{Flags}
+use Rattle.analysis_sections.specs.Inner.{Flags, Ordered}
 use Rattle.analysis_hold_times.proofs.Tables.{TableBelow, table-none, table-begun, table-step, table-done}
 use Rattle.analysis_hold_times.proofs.hold_all.Statement.{statement}
 use Rattle.analysis_hold_times.proofs.hold_all.Tie as tie
@@ -14,17 +13,17 @@ record Passed (f old order tops flags : List ℕ) (m k : ℕ) (figures : List �
   table : TableBelow (planOf f) k figures
 
 abbrev Inv-loop : tie.InvT-loop
-Inv-loop file figures₀ order tops m flags k₀ figures k = Passed file figures₀ order tops flags m k figures
+Inv-loop file figures₀ order tops flags m k₀ figures k = Passed file figures₀ order tops flags m k figures
 
 abbrev μ-loop : tie.MeasureT-loop
-μ-loop file figures₀ order tops m flags k₀ figures k = m - k
+μ-loop file figures₀ order tops flags m k₀ figures k = m - k
 
 loop-holds : tie.Need-loop-holds Inv-loop μ-loop
 loop-holds c =
-    let read = c .before .before .before in
+    let read = c .before .before in
     let h = read .before .before .before .before .pre in
     let none = table-none _ (valid-plan _ (h .known .plan)) (h .known .sections) in
-    record { within = omega arith; known = h .known; longest = h .longest; shared = c .shared-flags .ensures; table = none }
+    record { within = omega arith; known = h .known; longest = h .longest; shared = h .shared; table = none }
 
 -- ── a turn: the hold times of a processor, and then its budgets ──
 abbrev turn : tie.After-hold-rows Inv-loop μ-loop → tie.At-loop Inv-loop μ-loop
@@ -61,7 +60,7 @@ pub hold-all-spec : {M : Type 1} → statement M
 hold-all-spec =
     tie.close
     (tie.spec
-    Inv-loop μ-loop (λ c κs. search needs) (λ c κs. search needs) (λ c κs. search needs) loop-holds hold-rows-requires (λ c. omega arith)
+    Inv-loop μ-loop (λ c κs. search needs) (λ c κs. search needs) loop-holds hold-rows-requires (λ c. omega arith)
     (λ c κs. let long = held c .hold-rows .ensures .1 .long in
     (omega (arith, long, valid-plan _ (turn (held c) .loop .inv .known .plan) .processors), long))
     (λ c. omega arith) (λ c. omega arith) loop-again (λ c. let i = c .before .loop .inv in i .table .long ∙ sym (i .known .sections .long))

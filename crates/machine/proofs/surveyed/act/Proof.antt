@@ -3,8 +3,8 @@ use Rattle.machine.proofs.Ground.{true, _≡_, sym, _∙_, arith, not-f
 use Rattle.folds.proofs.Ground.{not-true}
 use Rattle.machine.proofs.Answered.{refused-reply}
 use Rattle.machine.proofs.Replied.{unsound-code, sound-code, acted-reply}
-use Rattle.machine.proofs.acting.act.Statement.{statement}
-use Rattle.machine.proofs.acting.act.Tie as tie
+use Rattle.machine.proofs.surveyed.act.Statement.{statement}
+use Rattle.machine.proofs.surveyed.act.Tie as tie
 
 -- ── where the state is sound ──
 abbrev seated : tie.Else1 → tie.After-seat-tasks
