@@ -1,5 +1,5 @@
--- Rules 4 to 6 for one global resource, in the words of document 01, "The machine". Nothing here knows a plan: what governs the line
--- is given by `Terms`.
+-- Rules 4 to 6 for one global resource, in the words of document 01, "The machine", and giving up, in those of document 02 §1. Nothing
+-- here knows a plan: what governs the line is given by `Terms`.
 use Prim.Native.Nat.{ℕ, _+_, _*_, _-_}
 use mathlib.Core.Bool.{Bool, false, cond, _&&_, _||_, not}
 use mathlib.Core.List.{List, [], _∷_, _++_}
@@ -93,6 +93,29 @@ aheadOf i (u ∷ us) = cond (eqb u i) [] (u ∷ aheadOf i us)
 abbrev pub sumOf : (ℕ → ℕ) → List ℕ → ℕ
 sumOf f [] = 0
 sumOf f (u ∷ us) = f u + sumOf f us
+
+-- ── a task gives up ──
+
+-- these tasks without task i
+abbrev pub allBut : ℕ → List ℕ → List ℕ
+allBut i [] = []
+allBut i (u ∷ us) = cond (eqb u i) (allBut i us) (u ∷ allBut i us)
+
+-- the turn of processor k with these tasks. "a processor left with no task leaves the processor queue" (02 §1): then it has none
+abbrev pub turnWith : ℕ → List ℕ → List Turn
+turnWith k [] = []
+turnWith k (u ∷ us) = turn k u us ∷ []
+
+-- the turns without task i
+abbrev pub turnsBut : ℕ → List Turn → List Turn
+turnsBut i [] = []
+turnsBut i (turn k u us ∷ rest) = turnWith k (allBut i (u ∷ us)) ++ turnsBut i rest
+
+-- "a waiting task leaves its task queue" (02 §1): who holds stays, the hold left and the budget left are as they were, and all others
+-- keep their order
+abbrev pub withdrawn : ℕ → Line → Line
+withdrawn i (line h b []) = line h b []
+withdrawn i (line h b (turn k u us ∷ rest)) = line h b (turn k u (allBut i us) ∷ turnsBut i rest)
 
 module _ (t : Terms) where
   -- "A processor that becomes head gets its whole budget and its first task is granted, with its hold time as hold left." With
