@@ -3,6 +3,8 @@ pub mod Moves
 pub mod SoundLines
 pub mod OnceLines
 pub mod InTime
+pub mod LineCodes
+pub mod GivenUp
 pub mod Bounds
 pub mod Since
 pub mod Promise

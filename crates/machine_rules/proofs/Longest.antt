@@ -2,15 +2,15 @@
 -- once; so their hold times are at most those of all fellows.
 use Rattle.machine_rules.proofs.Ground.{ℕ, _+_, _≤_, _<_, true, false, true≢false, _≡_, sym, ap, _∙_, List, [], _∷_, length, arith}
 use Rattle.machine_rules.proofs.Ground.{eq-eqb, ne-eqb, listBelow, first-zero, Plan, Valid, processorOf, global, holdAt, fellow}
-use Rattle.machine_rules.proofs.Ground.{waitTime, taskNumber, useCode, Line, line, among, inLine, queueOf, aheadIn, limit, EachOnce}
+use Rattle.machine_rules.proofs.Ground.{waitTime, taskNumber, useCode, Line, line, among, inLine, queueOf, tasksOf, aheadIn, limit, EachOnce}
 use Rattle.machine_rules.proofs.Ground.{Waits, Call, Request, View, terms, requestCode, requestAnswer, answer, after, Event, Bounded}
-use Rattle.machine_rules.proofs.Ground.{Asked, fellows, longestWait}
+use Rattle.machine_rules.proofs.Ground.{Asked, Kept, Waiter, fellows, longestWait}
 use Rattle.folds.proofs.Ground.{_*_}
 use Rattle.folds.specs.Below.{countBelow}
 use Rattle.folds.proofs.Figures.{sum-same}
 use Rattle.analysis_equations.specs.Blocking.{fellowHolds}
 use Rattle.analysis_equations.proofs.Laws.{fellow-hold}
-use Rattle.queue_rules.specs.Rules.{tasksOf, sumOf}
+use Rattle.queue_rules.specs.Rules.{sumOf}
 use Rattle.queue_rules.proofs.Lists.{list-length, list-sum}
 use Rattle.queue_rules.proofs.Sound.{sound-queue}
 use Rattle.queue_rules.proofs.Once.{Once, once-tasks, ahead-among, ahead-once, tasks-none, tasks-own, once-sum, once-length, limit-more}
@@ -92,6 +92,9 @@ module _ (p : Plan) (v : Valid p) where
             record { early = w .early; call = w .call; late = w .late; split = w .split; happens = w .happens; soon = omega (arith, w .soon) };
       }
 
+  kept-more : {w : Waiter p} {s : View} {cs : List Call} {m n : ℕ} → m ≤ n → Kept p w s cs m → Kept p w s cs n
+  kept-more l r = record { bound = bounded-more l (r .bound); only = r .only; own = r .own; stays = λ h. bounded-more l (r .stays h) }
+
   module _ (s : View) (o : Orderly p s) where
     -- after any list of calls
     pub never-more : (calls : List Call) (tag q a m : ℕ) → answer p (after p s calls) (Request tag q) ≡ Waits a m
@@ -105,8 +108,8 @@ module _ (p : Plan) (v : Valid p) where
         record {
           told-ahead = λ tag q w. most tag q w .few;
           told-limit = λ tag q w. most tag q w .short;
-          asked = λ tag q w. bounded-more (most tag q w .short) (kept .asked tag q w);
-          start = λ i q w. bounded-more (waiting-most i q (s .lines q) (o .sound q) (o .once q)) (kept .start .task i q w);
+          asked = λ tag q w. kept-more (most tag q w .short) (kept .asked tag q w);
+          start = λ i q w. kept-more (waiting-most i q (s .lines q) (o .sound q) (o .once q)) (kept .start .task i q w);
         }
       where
         most : (tag q : ℕ) (w : Asked p s calls tag q) → AtMost (taskNumber p tag) q (w .ahead) (w .limit)

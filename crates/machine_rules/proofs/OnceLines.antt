@@ -4,7 +4,8 @@ use Rattle.machine_rules.proofs.Ground.{step, after}
 use Rattle.queue_rules.proofs.Sound.{is-free}
 use Rattle.queue_rules.proofs.Moves.{sound-entered, sound-released, sound-ticked}
 use Rattle.queue_rules.proofs.Once.{empty, each-entered, each-released, each-ticked}
-use Rattle.machine_rules.proofs.Moves.{Move, stays, enters, leaves, ticks, moved}
+use Rattle.queue_rules.proofs.Withdrawn.{sound-withdrawn, each-withdrawn}
+use Rattle.machine_rules.proofs.Moves.{Move, stays, enters, leaves, gives-up, ticks, moved}
 use Rattle.machine_rules.proofs.SoundLines.{known, SoundAt, accepted, fits}
 
 pub record Orderly (p : Plan) (s : View) : Type 0 where
@@ -32,6 +33,11 @@ module _ (p : Plan) (v : Valid p) where
       record {
         sound = sound-released (terms p q) (known p q) (p .processors) (fits p v q) (w .sound q);
         once = each-released (terms p q) (s .lines q) (w .once q);
+      }
+  neat-move {s} {q} w (gives-up tag e) =
+      record {
+        sound = sound-withdrawn (terms p q) (known p q) (p .processors) (taskNumber p tag) (w .sound q);
+        once = each-withdrawn (taskNumber p tag) (s .lines q) (w .once q);
       }
   neat-move {s} {q} w ticks =
       record {

@@ -2,13 +2,15 @@
 use Rattle.machine_rules.proofs.Ground.{ℕ, Bool, true, false, _&&_, not, and-false, true≢false, _≡_, refl, sym, ap, _∙_, _⊎_, inl}
 use Rattle.machine_rules.proofs.Ground.{inr, List, [], _∷_, _++_, eq-eqb, not-true, and-parts, Plan, Valid, taskNumber, Line, line}
 use Rattle.machine_rules.proofs.Ground.{inLine, holds, queued, isHead, waiting, without, entered, Waits, Call, Request, View, fresh}
-use Rattle.machine_rules.proofs.Ground.{terms, callCode, requestAnswer, step, answer, after, Event, grants, ends, occurs}
+use Rattle.machine_rules.proofs.Ground.{terms, callCode, requestAnswer, step, answer, after, Event, ended, ends, givesUp, occurs, taskFor, is-not-true}
 use Rattle.folds.proofs.Ground.{_||_, ⊎-elim}
 use Rattle.queue_rules.proofs.Stays.{entered-waiting, released-waiting, ticked-waiting}
+use Rattle.queue_rules.proofs.Withdrawn.{withdrawn-waiting}
 use Rattle.machine_rules.specs.Waiting.{StillWaits, StillWithout, TaskSince, asked-since, task-since-start, CoreSince, sent-since, core-since-start, EachSince}
-use Rattle.machine_rules.proofs.Moves.{Move, stays, enters, leaves, ticks, moved}
+use Rattle.machine_rules.proofs.Moves.{Move, stays, enters, leaves, gives-up, ticks, moved}
 use Rattle.machine_rules.proofs.SoundLines.{known, fits}
 use Rattle.machine_rules.proofs.OnceLines.{Orderly, orderly-fresh, orderly-step}
+use Rattle.machine_rules.proofs.GivenUp.{task-gave}
 
 pub after-last : (p : Plan) (s : View) (cs : List Call) (c : Call) → after p s (cs ++ (c ∷ [])) ≡ step p (after p s cs) c
 after-last p s [] c = refl
@@ -63,20 +65,22 @@ module _ (p : Plan) (v : Valid p) where
           ⊎-elim (λ h. inl h) (λ h. inr (rw h at (told-wait s tag q e (rw (← h) at w))))
           (entered-waiting (terms p q) (known p q) (p .processors) i (taskNumber p tag) (s .lines q) w)
       go (leaves tag) w = inl (released-waiting (terms p q) (known p q) (p .processors) i (fits p v q) (o .sound q) (o .once q) w)
+      go (gives-up tag e) w = inl (withdrawn-waiting i (taskNumber p tag) (s .lines q) w)
       go ticks w = inl (ticked-waiting (terms p q) (known p q) (p .processors) i (fits p v q) (o .sound q) (o .once q) w)
 
   -- each task that waits has asked
   pub each-task : (s : View) (calls : List Call) → Orderly p s → (i q : ℕ) → waiting i (after p s calls .lines q) ≡ true → TaskSince p s calls i q
   each-task s calls o i q w =
-      go (seen-since p (λ s. waiting i (s .lines q)) (grants p i q) (λ s c. Requests s i q c) v goes (task-begins i q) s calls o w)
+      go (seen-since p (λ s. waiting i (s .lines q)) (ended p (taskFor p i q)) (λ s c. Requests s i q c) v goes (task-begins i q) s calls o w)
     where
-      goes : (s : View) (c : Call) → waiting i (step p s c .lines q) ≡ true → grants p i q s c ≡ false
+      goes : (s : View) (c : Call) → waiting i (step p s c .lines q) ≡ true → ended p (taskFor p i q) s c ≡ false
       goes s c x =
           let l = step p s c .lines q in
           let (_, n) = and-parts (inLine i l) _ x in
-          rw (not-true (holds i l) n) (and-false (not (holds i (s .lines q))))
+          let stays : givesUp p i q s c ≡ false = is-not-true _ (λ h. let (_, z) = task-gave p q s i c h in true≢false (sym x ∙ z)) in
+          rw (not-true (holds i l) n, and-false (not (holds i (s .lines q))), stays)
 
-      go : Since p (λ s. waiting i (s .lines q)) (grants p i q) (λ s c. Requests s i q c) s calls → TaskSince p s calls i q
+      go : Since p (λ s. waiting i (s .lines q)) (ended p (taskFor p i q)) (λ s c. Requests s i q c) s calls → TaskSince p s calls i q
       go (at-start x y) = task-since-start x y
       go (by-call before _ since l (requests {tag = tag} {a = a} {m = m} e t) x y) =
           asked-since (record {

@@ -1,4 +1,5 @@
--- Document 01, "The machine": the lines of all resources, and what a call does to them. A state is here what it shows.
+-- Document 01, "The machine", and document 02 §1: the lines of all resources, and what a call does to them. A state is here what it
+-- shows.
 use Prim.Native.Nat.{ℕ}
 use mathlib.Core.Bool.{Bool, true, false, cond, _&&_}
 use mathlib.Core.List.{List, [], _∷_}
@@ -7,17 +8,18 @@ use lib.ListN.{length}
 use Rattle.folds.specs.Below.{anyBelow}
 use Rattle.folds.specs.Words.{wordBelow}
 use Rattle.plan_reading.specs.Plan.{Plan}
-use Rattle.refusals.specs.Numbers.{unknownTag, unknownResource, alreadyInLine, notHeld}
+use Rattle.refusals.specs.Numbers.{unknownTag, unknownResource, alreadyInLine, notHeld, notWaiting}
 use Rattle.refusals.specs.Outcomes.{Outcome}
 use Rattle.sizes.specs.Sizes.{mostResources}
 use Rattle.analysis_equations.specs.Sharing.{processorOf}
 use Rattle.analysis_equations.specs.HoldTimes.{holdAt, budget, waitTime}
 use Rattle.analysis_equations.specs.Questions.{taskNumber, useCode}
-use Rattle.queue_rules.specs.Rules.{Terms, turn, Line, line, free, inLine, holds, tasksOf, entered, released, cut, ticked, limit}
+use Rattle.queue_rules.specs.Rules.{Terms, turn, Line, line, free, inLine, holds, waiting, tasksOf, withdrawn, entered, released, cut}
+use Rattle.queue_rules.specs.Rules.{ticked, limit}
 use Rattle.machine_rules.specs.declared.Call.{Call}
-use Rattle.machine_rules.specs.declared.Call.the-variants.{Request, Release, Tick}
+use Rattle.machine_rules.specs.declared.Call.the-variants.{Request, Release, GiveUp, Tick}
 use Rattle.machine_rules.specs.declared.Answer.{Answer}
-use Rattle.machine_rules.specs.declared.Answer.the-variants.{Granted, Waits, Next, Free, Ticked, Refused}
+use Rattle.machine_rules.specs.declared.Answer.the-variants.{Granted, Waits, Next, Free, Left, Ticked, Refused}
 
 -- the line of each resource
 abbrev pub Lines : Type 0
@@ -54,23 +56,33 @@ module _ (p : Plan) where
   unfoldable pub requestCode : View → ℕ → ℕ → ℕ
   requestCode s tag q = cond (eqb (useCode p tag q) 0) (cond (busy s (taskNumber p tag)) alreadyInLine 0) (useCode p tag q)
 
-  -- "Release: 11; 12; 16, the task does not hold it."
-  unfoldable pub releaseCode : View → ℕ → ℕ → ℕ
-  releaseCode s tag q =
+  -- 11; 12; then this number, unless the line passes the test for the task
+  unfoldable pub lineCode : (ℕ → Line → Bool) → ℕ → View → ℕ → ℕ → ℕ
+  lineCode test number s tag q =
       cond (ltb (taskNumber p tag) (p .tasks))
-      (cond (ltb q (p .resources)) (cond (holds (taskNumber p tag) (s .lines q)) 0 notHeld) unknownResource)
+      (cond (ltb q (p .resources)) (cond (test (taskNumber p tag) (s .lines q)) 0 number) unknownResource)
       unknownTag
+
+  -- "Release: 11; 12; 16, the task does not hold it."
+  abbrev pub releaseCode : View → ℕ → ℕ → ℕ
+  releaseCode s tag q = lineCode holds notHeld s tag q
+
+  -- "23 when the named task is not waiting for that resource, after 11 and 12" (02 §1)
+  abbrev pub giveUpCode : View → ℕ → ℕ → ℕ
+  giveUpCode s tag q = lineCode waiting notWaiting s tag q
 
   -- "A start, a tick and the question of admission refuse nothing further."
   abbrev pub callCode : View → Call → ℕ
   callCode s (Request tag q) = requestCode s tag q
   callCode s (Release tag q) = releaseCode s tag q
+  callCode s (GiveUp tag q) = giveUpCode s tag q
   callCode s Tick = 0
 
   -- what a call does that is not refused. "Resources do not affect each other in a tick."
   abbrev pub effect : View → Call → View
   effect s (Request tag q) = record { lines = change (s .lines) q (entered (terms q) (taskNumber p tag)) }
   effect s (Release tag q) = record { lines = change (s .lines) q (released (terms q)) }
+  effect s (GiveUp tag q) = record { lines = change (s .lines) q (withdrawn (taskNumber p tag)) }
   effect s Tick = record { lines = λ q. ticked (terms q) (s .lines q) }
 
   -- what a call does: "The state is unchanged" where it is refused
@@ -98,6 +110,7 @@ module _ (p : Plan) where
   abbrev pub acceptedAnswer : View → Call → Answer
   acceptedAnswer s (Request tag q) = requestAnswer (taskNumber p tag) q (s .lines q)
   acceptedAnswer s (Release tag q) = releaseAnswer (released (terms q) (s .lines q))
+  acceptedAnswer s (GiveUp tag q) = Left
   acceptedAnswer s Tick = Ticked (wordBelow mostResources (λ q. cut (s .lines q))) (wordBelow mostResources (regranted s))
 
   -- what a call is answered
@@ -113,11 +126,12 @@ module _ (p : Plan) where
   abbrev pub run : List Call → View
   run cs = after fresh cs
 
--- document 01's number and values for each answer: the number of the refusal, 0 for none; then which answer it is, and its values
+-- the number and values of each answer: the number of the refusal, 0 for none; then which answer it is, and its values
 abbrev pub answerOutcome : Answer → Outcome
 answerOutcome Granted = record { number = 0; values = 0 ∷ [] }
 answerOutcome (Waits ahead most) = record { number = 0; values = 1 ∷ ahead ∷ most ∷ [] }
 answerOutcome (Next tag) = record { number = 0; values = 2 ∷ tag ∷ [] }
 answerOutcome Free = record { number = 0; values = 3 ∷ [] }
 answerOutcome (Ticked cuts grants) = record { number = 0; values = 4 ∷ cuts ∷ grants ∷ [] }
+answerOutcome Left = record { number = 0; values = 5 ∷ [] }
 answerOutcome (Refused code) = record { number = code; values = [] }

@@ -1,23 +1,27 @@
 -- Demand 3 on the definitions: who waits in a list of calls, since when, and what is promised. Document 01, "The machine", last
--- paragraph. The list is made on what any sound state s shows; demand 3 speaks of a fresh machine, in which nobody is
--- in line.
+-- paragraph, and document 02 §1: "For a task that gives up, and for a core that so leaves the queue, the promised limit ends there; for
+-- everyone else, tasks of the same card included, it still runs from when their wait began." The list is made on what any sound state s
+-- shows; demand 3 speaks of a fresh machine, in which nobody is in line.
 use Prim.Native.Nat.{ℕ, _+_, _≤_, _<_}
 use mathlib.Core.Bool.{Bool, true, false, _&&_, _||_, not}
 use mathlib.Core.List.{List, [], _∷_, _++_}
 use mathlib.Core.Path.{_≡_}
+use lib.Dec.{eqb}
 use Rattle.plan_reading.specs.Plan.{Plan}
+use Rattle.analysis_equations.specs.Sharing.{processorOf}
 use Rattle.analysis_equations.specs.HoldTimes.{waitTime}
 use Rattle.analysis_equations.specs.Questions.{taskNumber}
 use Rattle.queue_rules.specs.Rules.{holds, queued, isHead, waiting, without, aheadIn, limit}
 use Rattle.machine_rules.specs.declared.Call.{Call}
-use Rattle.machine_rules.specs.declared.Call.the-variants.{Request, Release, Tick}
+use Rattle.machine_rules.specs.declared.Call.the-variants.{Request, Release, GiveUp, Tick}
 use Rattle.machine_rules.specs.declared.Answer.the-variants.{Waits}
-use Rattle.machine_rules.specs.Machine.{View, fresh, terms, step, answer, after, run}
+use Rattle.machine_rules.specs.Machine.{View, fresh, terms, callCode, step, answer, after, run}
 
 -- 1 for a tick
 abbrev pub isTick : Call → ℕ
 isTick (Request tag q) = 0
 isTick (Release tag q) = 0
+isTick (GiveUp tag q) = 0
 isTick Tick = 1
 
 -- "Ticks since a call are the tick calls after it."
@@ -36,6 +40,21 @@ module _ (p : Plan) where
   abbrev pub grants : ℕ → ℕ → Event
   grants i q s c = not (holds i (s .lines q)) && holds i (step p s c .lines q)
 
+  -- it is a give-up of q, not refused, by one of these tasks
+  abbrev pub withdraws : (ℕ → Bool) → ℕ → Event
+  withdraws those q s (Request tag r) = false
+  withdraws those q s (Release tag r) = false
+  withdraws those q s (GiveUp tag r) = (eqb r q && those (taskNumber p tag)) && eqb (callCode p s (GiveUp tag r)) 0
+  withdraws those q s Tick = false
+
+  -- task i gives q up by it
+  abbrev pub givesUp : ℕ → ℕ → Event
+  givesUp i q = withdraws (λ j. eqb j i) q
+
+  -- core k leaves the queue of q by it: one of its own tasks gives up, and none is left
+  abbrev pub empties : ℕ → ℕ → Event
+  empties k q s c = withdraws (λ j. eqb (processorOf p j) k) q s c && not (queued k (step p s c .lines q))
+
   -- it leaves core k other than queued without q
   abbrev pub ends : ℕ → ℕ → Event
   ends k q s c = not (without k (step p s c .lines q))
@@ -43,6 +62,10 @@ module _ (p : Plan) where
   -- it leaves core k as head of q
   abbrev pub heads : ℕ → ℕ → Event
   heads k q s c = isHead k (step p s c .lines q)
+
+  -- the one or the other
+  abbrev pub either : Event → Event → Event
+  either e g s c = e s c || g s c
 
   -- some call of the list does so, the first made on s and each on what the last one left
   abbrev pub occurs : Event → View → List Call → Bool
@@ -67,15 +90,47 @@ module _ (p : Plan) where
     -- and where they are as many, it was served, at the latest by the tick that filled them
     pub comes : most ≤ ticks cs → Within served s cs most
 
-  -- the wait of task i for q: it is over, and served, when the task is granted
+  -- Who waits: whether it does, seen in a state; by which calls its wait is over and by which it is served, where it does not give up; and
+  -- by which it gives up
+  pub record Waiter : Type 0 where
+    pub waits : View → Bool
+    pub over : Event
+    pub served : Event
+    pub quits : Event
+
+  -- task i, that waits for q: its wait is over, and served, when it is granted
+  abbrev pub taskFor : ℕ → ℕ → Waiter
+  taskFor i q = record { waits = λ s. waiting i (s .lines q); over = grants i q; served = grants i q; quits = givesUp i q }
+
+  -- core k without q: that is over when it is not, and served when it is head
+  abbrev pub coreFor : ℕ → ℕ → Waiter
+  coreFor k q = record { waits = λ s. without k (s .lines q); over = ends k q; served = heads k q; quits = empties k q }
+
+  -- its wait ends: it is served or gives up
+  abbrev pub ended : Waiter → Event
+  ended w = either (w .served) (w .quits)
+
+  -- w waits on s, and these calls are made: its wait takes at most so long
+  pub record Kept (w : Waiter) (s : View) (cs : List Call) (most : ℕ) : Type 0 where
+    -- so long as it neither was served nor gave up, the ticks are fewer; and where they are as many, it did the one or the other
+    pub bound : Bounded (ended w) (ended w) s cs most
+    -- nothing else ends it: so long as neither happened, it waits
+    pub only : occurs (ended w) s cs ≡ false → w .waits (after p s cs) ≡ true
+    -- what counts as its giving up is that: it waited, and does not any more. So nobody else's give-up counts
+    pub own : (before : List Call) (c : Call) (since : List Call) → cs ≡ before ++ (c ∷ since) → w .quits (after p s before) c ≡ true
+        → (w .waits (after p s before) ≡ true) × (w .waits (step p (after p s before) c) ≡ false)
+    -- where it does not give up, the promise of document 01, whoever else does
+    pub stays : occurs (w .quits) s cs ≡ false → Bounded (w .over) (w .served) s cs most
+
+  -- the wait of task i for q
   abbrev pub TaskKept : ℕ → ℕ → View → List Call → ℕ → Type 0
-  TaskKept i q = Bounded (grants i q) (grants i q)
+  TaskKept i q = Kept (taskFor i q)
 
-  -- core k without q: that is over when it is not, and served when it is head. It takes at most the wait time
+  -- that of core k without q: it takes at most the wait time
   abbrev pub CoreKept : ℕ → ℕ → View → List Call → Type 0
-  CoreKept k q s cs = Bounded (ends k q) (heads k q) s cs (waitTime p k q)
+  CoreKept k q s cs = Kept (coreFor k q) s cs (waitTime p k q)
 
-  -- Whoever waits in a state is served, whatever is called from there: a task within the limit for those ahead of it in that state, a
+  -- Whoever waits in a state is served or gives up, whatever is called from there: a task within the limit for those ahead of it in that state, a
   -- core within its wait time
   pub record ServedFrom (s : View) (calls : List Call) : Type 0 where
     pub task : (i q : ℕ) → waiting i (s .lines q) ≡ true → TaskKept i q s calls (limit (terms p q) i (aheadIn (terms p q) i (s .lines q)))
@@ -105,12 +160,13 @@ module _ (p : Plan) where
     pub came : (not (queued k (after p s before .lines q)) || isHead k (after p s before .lines q)) ≡ true
     pub went : without k (afterCall s before call .lines q) ≡ true
 
-  -- "A task still waits when its last accepted request for the resource was answered "waits" and no later call granted it."
+  -- "A task still waits when its last accepted request for the resource was answered "waits" and no later call granted it", nor did it
+  -- give up since
   pub record StillWaits (s : View) (calls : List Call) (i q : ℕ) : Type 0 where
     pub tag : ℕ
     pub task : taskNumber p tag ≡ i
     pub request : Asked s calls tag q
-    pub still : occurs (grants i q) (afterCall s (request .before) (Request tag q)) (request .since) ≡ false
+    pub still : occurs (ended (taskFor i q)) (afterCall s (request .before) (Request tag q)) (request .since) ≡ false
 
   -- a core has been without the resource since it last joined or was sent to the tail
   pub record StillWithout (s : View) (calls : List Call) (k q : ℕ) : Type 0 where
@@ -120,7 +176,7 @@ module _ (p : Plan) where
   -- or, where the list does not begin with a fresh machine, since its start
   pub data TaskSince (s : View) (calls : List Call) (i q : ℕ) : Type 0 where
     asked-since : StillWaits s calls i q → TaskSince s calls i q
-    task-since-start : waiting i (s .lines q) ≡ true → occurs (grants i q) s calls ≡ false → TaskSince s calls i q
+    task-since-start : waiting i (s .lines q) ≡ true → occurs (ended (taskFor i q)) s calls ≡ false → TaskSince s calls i q
 
   -- and so for a core
   pub data CoreSince (s : View) (calls : List Call) (k q : ℕ) : Type 0 where

@@ -1,9 +1,10 @@
 // The calls of the machine and what it answers. The rules are in specs/, the bound on waiting for whole lists of calls in proofs/.
 
-// A request or a release, each of a tag and a resource, or a tick.
+// A request, a release or a give-up, each of a tag and a resource, or a tick.
 pub enum Call {
     Request(u16, u8),
     Release(u16, u8),
+    GiveUp(u16, u8),
     Tick,
 }
 
@@ -14,6 +15,8 @@ pub enum Answer {
     // The tag granted next.
     Next(u16),
     Free,
+    // The task has left the line.
+    Left,
     // The resources cut, and those with a new grant.
     Ticked(u16, u16),
     Refused(u8),

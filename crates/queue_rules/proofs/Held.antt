@@ -1,16 +1,11 @@
 -- A line that one task holds since it came, while tasks of one other processor wait: who comes to it next waits behind them, for the
 -- first of them made its processor the second in the queue, and nobody has left.
-use Rattle.queue_rules.proofs.Ground.{ℕ, false, _≡_, refl, List, [], _∷_, _++_, eq-eqb, ne-eqb, Terms, Turn, turn, Line, line}
-use Rattle.queue_rules.proofs.Ground.{queueOf, among, inLine, tasksOf, entered}
-
--- a turn of processor k with these tasks, none where there are no tasks
-abbrev pub behind : ℕ → List ℕ → List Turn
-behind k [] = []
-behind k (u ∷ us) = turn k u us ∷ []
+use Rattle.queue_rules.proofs.Ground.{ℕ, false, _≡_, refl, List, [], _∷_, _++_, eq-eqb, ne-eqb, Terms, turn, Line, line}
+use Rattle.queue_rules.proofs.Ground.{queueOf, among, inLine, tasksOf, entered, turnWith}
 
 -- task j holds, and these of processor k wait
 abbrev pub heldBy : Terms → ℕ → ℕ → List ℕ → Line
-heldBy t j k us = line (t .hold j) (t .budget (t .processor j)) (turn (t .processor j) j [] ∷ behind k us)
+heldBy t j k us = line (t .hold j) (t .budget (t .processor j)) (turn (t .processor j) j [] ∷ turnWith k us)
 
 module _ (t : Terms) (j k : ℕ) where
   -- nobody else is in line

@@ -1,12 +1,14 @@
 -- How long somebody of processor k is still kept from the resource: a bound that no move raises and a tick lowers. Said once, for a
--- task (Waiting) and for a processor (Heads): who is kept is told by `Own`, its bound in the tasks of k, and by `done`.
-use Rattle.queue_rules.proofs.Ground.{ℕ, _+_, _-_, _≤_, _<_, Bool, false, cond, _≡_, ap, List, [], _∷_, _++_, eqb, arith, by-eq}
-use Rattle.queue_rules.proofs.Ground.{Terms, Turn, turn, Line, line, queueOf, tasksOf, begin, join, entered, leave, released, ticked}
+-- task (Waiting) and for a processor (Heads): who is kept is told by `there`, with which tasks of k it is in line, by `Own`, its bound
+-- in them, and by `done`.
+use Rattle.queue_rules.proofs.Ground.{ℕ, _+_, _-_, _≤_, _<_, Bool, true, false, cond, or-true, true≢false, _≡_, sym, _∙_, ap, List, []}
+use Rattle.queue_rules.proofs.Ground.{_∷_, _++_, eqb, eq-eqb, ne-eqb, arith, by-eq, Terms, Turn, turn, Line, line, queueOf, holds, hasTurn}
+use Rattle.queue_rules.proofs.Ground.{tasksOf, begin, join, entered, leave, released, ticked, allBut, turnWith, turnsBut, withdrawn}
 use Rattle.queue_rules.specs.Rules.{cut}
 use Rattle.queue_rules.proofs.Cases.{by-test, by-leave}
 use Rattle.queue_rules.proofs.Sound.{Fits, load, but, load-but, Proper, stands, Sound, is-free, is-held, load-le}
 
-module _ (t : Terms) (k : ℕ) (done : Line → Bool) (Own : List ℕ → ℕ → Type 0) where
+module _ (t : Terms) (k : ℕ) (done : Line → Bool) (there : List ℕ → Bool) (Own : List ℕ → ℕ → Type 0) where
   -- behind a task that holds for h, and perhaps a round of the other processors
   pub record After (h : ℕ) (us : List ℕ) (n : ℕ) : Type 0 where
     pub rest : ℕ
@@ -20,6 +22,12 @@ module _ (t : Terms) (k : ℕ) (done : Line → Bool) (Own : List ℕ → ℕ �
     pub grows : (v : ℕ) {n : ℕ} {us : List ℕ} → Own us n → Own (us ++ (v ∷ [])) n
     pub next : {h b j u n : ℕ} {us : List ℕ} {rest : List Turn} → j ≡ k → Own (u ∷ us) n → done (line h b (turn j u us ∷ rest)) ≡ false
         → After (t .hold u) us n
+    -- it is there with its own; where it is not done, behind the first; and others may go, from before it or from behind
+    pub own-there : {n : ℕ} {us : List ℕ} → Own us n → there us ≡ true
+    pub there-behind : {u : ℕ} {us : List ℕ} → there us ≡ true → there (u ∷ us) ≡ true
+    pub there-next : {h b j u : ℕ} {us : List ℕ} {rest : List Turn} → j ≡ k → there (u ∷ us) ≡ true → done (line h b (turn j u us ∷ rest)) ≡ false
+        → there us ≡ true
+    pub shrinks : (v : ℕ) {n : ℕ} {us : List ℕ} → Own us n → there (allBut v us) ≡ true → Own (allBut v us) n
 
   -- in a queue: at most n from when its head begins
   pub data Far : List Turn → ℕ → Type 0 where
@@ -57,6 +65,52 @@ module _ (t : Terms) (k : ℕ) (done : Line → Bool) (Own : List ℕ → ℕ �
     kept-begin : {m n : ℕ} {q : List Turn} → Far q m → m ≤ n → done (begin t q) ≡ false → Waiting n (begin t q)
     kept-begin {n = n} (here {u = u} e o l) le nd = behind {h = t .hold u} {n = n} e (after-more (kept .next e o nd) (omega arith))
     kept-begin {n = n} (past {j = j} {m = m} f l) le nd = beyond {b = t .budget j} {m = m} {n = n} f (omega arith)
+
+    -- ── others go ──
+
+    far-more : {m n : ℕ} {q : List Turn} → Far q m → m ≤ n → Far q n
+    far-more {n = n} (here e o l) le = here {n = n} e o (omega arith)
+    far-more {n = n} (past {j = j} {m = m} f l) le = past {j = j} {m = m} {n = n} f (omega arith)
+
+    -- its own turn, where tasks are left; and another, left or not
+    with-own : (j m : ℕ) (us : List ℕ) (q : List Turn) {n : ℕ} → j ≡ k → Own us m → m ≤ n → Far (turnWith j us ++ q) n
+    with-own j m [] q e o le = absurd (kept .some o)
+    with-own j m (u ∷ us) q e o le = here e o le
+
+    with-other : (j m : ℕ) (us : List ℕ) {n : ℕ} {q : List Turn} → Far q m → t .budget j + m ≤ n → Far (turnWith j us ++ q) n
+    with-other j m [] {n} f le = far-more {n = n} f (omega arith)
+    with-other j m (u ∷ us) f le = past f le
+
+    module _ (known : ℕ → Bool) (procs : ℕ) where
+      -- a queue in which it stands has a turn of k
+      far-turn : {n : ℕ} {q : List Turn} → Far q n → hasTurn k q ≡ true
+      far-turn (here {j = j} e o le) = rw (eq-eqb j k e)
+      far-turn (past {j = j} f le) = rw (far-turn f) (or-true (eqb j k))
+
+      far-apart : {j u n : ℕ} {us : List ℕ} {rest : List Turn} → Proper t known procs (turn j u us ∷ rest) → Far rest n → eqb j k ≡ false
+      far-apart {j} (stands {rest = rest} lt a o r) f = ne-eqb j k (λ e. true≢false (sym (far-turn f) ∙ (rw e at a)))
+
+      far-there : {n : ℕ} {q : List Turn} → Proper t known procs q → Far q n → there (tasksOf k q) ≡ true
+      far-there pr (here {j = j} e o le) = rw (eq-eqb j k e) (kept .own-there o)
+      far-there (stands lt a o r) (past f le) = rw (far-apart (stands lt a o r) f) (far-there r f)
+
+      -- whoever has a bound is there
+      pub kept-there : {n : ℕ} {l : Line} → Sound t known procs l → Waiting n l → there (tasksOf k (queueOf l)) ≡ true
+      kept-there (is-held c pr) (behind {j = j} e a) = rw (eq-eqb j k e) (kept .there-behind (kept .own-there (a .own)))
+      kept-there (is-held c (stands lt a o r)) (beyond f le) = rw (far-apart (stands lt a o r) f) (far-there r f)
+
+      far-but : (v : ℕ) {n : ℕ} {q : List Turn} → Proper t known procs q → Far q n → there (allBut v (tasksOf k q)) ≡ true → Far (turnsBut v q) n
+      far-but v pr (here {j = j} {u = u} {m = m} {us = us} {rest = q} e o le) h =
+          with-own j m (allBut v (u ∷ us)) (turnsBut v q) e (kept .shrinks v o (rw (eq-eqb j k e) at h)) le
+      far-but v (stands lt a o r) (past {j = j} {u = u} {m = m} {us = us} f le) h =
+          with-other j m (allBut v (u ∷ us)) (far-but v r f (rw (far-apart (stands lt a o r) f) at h)) le
+
+      -- a task gives up that does not hold, and it is there still
+      pub kept-withdrawn : (v : ℕ) {n : ℕ} {l : Line} → Sound t known procs l → Waiting n l → holds v l ≡ false
+          → there (allBut v (tasksOf k (queueOf l))) ≡ true → done (withdrawn v l) ≡ false → Waiting n (withdrawn v l)
+      kept-withdrawn v (is-held c pr) (behind {j = j} {u = u} {us = us} e a) n h nd =
+          behind e (record { rest = a .rest; own = kept .shrinks v (a .own) (kept .there-next e (rw (eq-eqb j k e, n) at h) nd); sum = a .sum })
+      kept-withdrawn v (is-held c (stands lt x o r)) (beyond f le) n h nd = beyond (far-but v r f (rw (far-apart (stands lt x o r) f) at h)) le
 
     -- ── the moves ──
 

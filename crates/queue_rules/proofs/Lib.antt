@@ -10,4 +10,5 @@ pub mod Moves
 pub mod Lists
 pub mod Held
 pub mod Once
+pub mod Withdrawn
 pub mod Stays

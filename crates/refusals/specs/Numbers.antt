@@ -1,4 +1,4 @@
--- Document 01, "What each operation refuses, in order", and "The printing program": the numbers by which operations refuse. 0 stands for
+-- Document 01, "What each operation refuses, in order", and "The printing program", and document 02: the numbers by which operations refuse. 0 stands for
 -- no refusal. A definition whose name ends in "Refusal" has the numbers 1 to 9 of the plan in it; one that ends in "Code" has not.
 use Prim.Native.Nat.{ℕ}
 
@@ -81,6 +81,10 @@ unknownProcessor = 18
 -- 19, the state is not sound
 abbrev pub unsound : ℕ
 unsound = 19
+
+-- 23, "the named task is not waiting for that resource" (document 02 §1)
+abbrev pub notWaiting : ℕ
+notWaiting = 23
 
 -- ── The printing program ──
 

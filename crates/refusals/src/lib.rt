@@ -40,6 +40,8 @@ pub const UNKNOWN_PROCESSOR: u8 = 18;
 
 pub const UNSOUND: u8 = 19;
 
+pub const NOT_WAITING: u8 = 23;
+
 // The printing program.
 pub const NO_CALL: u8 = 21;
 
