@@ -2,7 +2,7 @@
 use Rattle.folds.proofs.Ground.{ℕ, zero, suc, _+_, _*_, _-_, _≤_, _<_, Bool, true, false, cond, _&&_, not, _≡_, refl, sym, ap, ap₂, _∙_, List, [], _∷_, _++_, eqb, length, getD, take, drop, List·getD-append, getD-append-add, getD-drop, getD-take, add-zero, zero-add, add-assoc, add-comm, suc-mul, arith, not-true, not-false}
 use Rattle.folds.specs.Bytes.{number}
 use Rattle.machine_rules.specs.declared.Call.{Call}
-use Rattle.machine_rules.specs.declared.Call.the-variants.{Request, Release, Tick}
+use Rattle.machine_rules.specs.declared.Call.the-variants.{Request, Release, GiveUp, Tick}
 use Rattle.machine_calls.specs.declared.Decoded.{Decoded}
 use Rattle.machine_calls.specs.Calls.{callOf, decodedCalls, tagAt, bytesAt, callIn, callsBelow}
 
@@ -22,13 +22,15 @@ pub data AtMostOne : List Call → Type 0 where
 
 pub at-most-one : (letter tag q : ℕ) → AtMostOne (callOf letter tag q)
 unfolding callOf
-at-most-one letter tag q = go (eqb letter 81) (eqb letter 82) (eqb letter 84 && (eqb tag 0 && eqb q 0))
+at-most-one letter tag q =
+    when (eqb letter 81) (one (Request tag q))
+    (when (eqb letter 82) (one (Release tag q))
+    (when (eqb letter 87) (one (GiveUp tag q))
+    (when (eqb letter 84 && (eqb tag 0 && eqb q 0)) (one Tick) none)))
   where
-    go : (a b d : Bool) → AtMostOne (cond a (Request tag q ∷ []) (cond b (Release tag q ∷ []) (cond d (Tick ∷ []) [])))
-    go true b d = one (Request tag q)
-    go false true d = one (Release tag q)
-    go false false true = one Tick
-    go false false false = none
+    when : (b : Bool) {x y : List Call} → AtMostOne x → AtMostOne y → AtMostOne (cond b x y)
+    when true f g = f
+    when false f g = g
 
 -- ── the tag ──
 module _ (w : ℕ) (l : List ℕ) (at : ℕ) where

@@ -1,4 +1,4 @@
--- Calls as bytes: document 01, "The printing program".
+-- Calls as bytes: document 01, "The printing program", and document 02 §1.
 use Prim.Native.Nat.{ℕ, zero, suc, _+_, _*_, _-_, _/_}
 use mathlib.Core.Bool.{cond, _&&_}
 use mathlib.Core.List.{List, [], _∷_, _++_}
@@ -6,7 +6,7 @@ use lib.Dec.{eqb}
 use lib.ListN.{length, getD}
 use Rattle.folds.specs.Bytes.{number}
 use Rattle.machine_rules.specs.declared.Call.{Call}
-use Rattle.machine_rules.specs.declared.Call.the-variants.{Request, Release, Tick}
+use Rattle.machine_rules.specs.declared.Call.the-variants.{Request, Release, GiveUp, Tick}
 use Rattle.machine_calls.specs.declared.CallBytes.{CallBytes}
 use Rattle.machine_calls.specs.declared.Decoded.{Decoded}
 
@@ -14,12 +14,14 @@ use Rattle.machine_calls.specs.declared.Decoded.{Decoded}
 abbrev pub callWidth : ℕ
 callWidth = 3
 
--- "a letter (Q request, R release, T tick), a tag, a resource. After T both are 0." Anything else is no call
+-- "a letter (Q request, R release, T tick), a tag, a resource. After T both are 0", and "the call W (tag, resource)" (02 §1). Anything
+-- else is no call
 unfoldable pub callOf : (letter tag resource : ℕ) → List Call
 callOf letter tag q =
     cond (eqb letter 81) (Request tag q ∷ [])
     (cond (eqb letter 82) (Release tag q ∷ [])
-    (cond (eqb letter 84 && (eqb tag 0 && eqb q 0)) (Tick ∷ []) []))
+    (cond (eqb letter 87) (GiveUp tag q ∷ [])
+    (cond (eqb letter 84 && (eqb tag 0 && eqb q 0)) (Tick ∷ []) [])))
 
 -- the calls that a decoding gives
 unfoldable pub decodedCalls : Decoded → List Call

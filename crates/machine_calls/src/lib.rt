@@ -1,4 +1,4 @@
-// Calls as bytes: document 01, "The printing program". A call is a letter, a tag and a resource. Where each of its bytes stands is said
+// Calls as bytes: document 01, "The printing program", and document 02 §1. A call is a letter, a tag and a resource. Where each of its bytes stands is said
 // here and nowhere else.
 use machine_rules::Call;
 ghost use mathlib.Core.Path.{_≡_};
@@ -35,6 +35,10 @@ pub fn decode(letter: u8, tag: u16, resource: u8) -> Decoded
         b'R' => Decoded {
             known: true,
             call: Call::Release(tag, resource),
+        },
+        b'W' => Decoded {
+            known: true,
+            call: Call::GiveUp(tag, resource),
         },
         b'T' => Decoded {
             known: (tag == 0) & (resource == 0),

@@ -7,7 +7,7 @@ use Rattle.sizes.specs.Sizes.{mostNameBytes}
 use Rattle.print_text.specs.Text.{quoted, mostDigits, mostSigned, decimal, signed, PutIn}
 use Rattle.plan_reading.specs.Plan.{planOf, namePart, Checked}
 use Rattle.machine_rules.specs.declared.Answer.{Answer}
-use Rattle.machine_rules.specs.declared.Answer.the-variants.{Granted, Waits, Next, Free as Freed, Ticked, Refused}
+use Rattle.machine_rules.specs.declared.Answer.the-variants.{Granted, Waits, Next, Free as Freed, Left, Ticked, Refused}
 use Rattle.print_lines.specs.declared.Word.{Word}
 use Rattle.print_lines.specs.declared.Word.the-variants.{To, Free, Global, Local, Met, Unmet, Yes, No}
 use Rattle.print_lines.specs.declared.Field.{Field}
@@ -24,6 +24,7 @@ Names f q Granted = Nameable f q
 Names f q (Waits ahead most) = Nameable f q
 Names f q (Next tag) = Nameable f q
 Names f q Freed = Nameable f q
+Names f q Left = Nameable f q
 Names f q (Ticked cuts grants) = Unit {0}
 Names f q (Refused code) = Unit {0}
 

@@ -219,6 +219,7 @@ pub fn put_answer(
             let free = Field::Says(Word::Free);
             put_line(buf, at, file, b"released", four(tag, name, free, NONE))
         }
+        Answer::Left => put_line(buf, at, file, b"left", four(tag, name, NONE, NONE)),
         Answer::Ticked(cuts, grants) => {
             let cuts = Field::Number(cuts as u64);
             let grants = Field::Number(grants as u64);
