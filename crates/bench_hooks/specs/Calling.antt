@@ -8,7 +8,7 @@ use Rattle.plan.specs.Acceptance.{refusal}
 use Rattle.plan_reading.specs.Plan.{planOf}
 use Rattle.machine_rules.specs.declared.Call.{Call}
 use Rattle.machine_rules.specs.declared.Answer.{Answer}
-use Rattle.machine_rules.specs.declared.Answer.the-variants.{Granted, Waits, Next, Free, Ticked, Refused}
+use Rattle.machine_rules.specs.declared.Answer.the-variants.{Granted, Waits, Next, Free, Left, Ticked, Refused}
 use Rattle.machine_rules.specs.Machine.{View, fresh, answer, run}
 use Rattle.machine_state.specs.declared.State.{State}
 use Rattle.machine_state.specs.Shows.{standing, lineAt, slot}
@@ -21,6 +21,7 @@ answerNumber (Waits ahead most) = 512 + 65536 * ahead + 16777216 * most
 answerNumber (Next tag) = 768 + 65536 * tag
 answerNumber Free = 1024
 answerNumber (Ticked cuts grants) = 1280 + 65536 * cuts + 4294967296 * grants
+answerNumber Left = 1536
 answerNumber (Refused code) = code
 
 -- what a call is answered after a list of calls on a fresh machine: by the rules, or the refusal of the plan

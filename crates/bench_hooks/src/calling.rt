@@ -18,6 +18,7 @@ fn answer_number(answer: Answer) -> u64
         Answer::Ticked(cuts, grants) => 1280
             + 65536 * folds::word(cuts)
             + 4294967296 * folds::word(grants),
+        Answer::Left => 1536,
         Answer::Refused(code) => folds::byte(code),
     }
 }

@@ -53,6 +53,7 @@ fn answer(answer: Answer, cut_count: u32) {
             print::number(tag as u64);
         }
         Answer::Free => print::text(b"free"),
+        Answer::Left => print::text(b"left"),
         Answer::Ticked(cuts, grants) => {
             print::text(b"tick");
             print::number(cuts as u64);
@@ -107,6 +108,7 @@ fn call(file: &[u8], state: State, bytes: CallBytes) -> Outcome {
     match wanted {
         Call::Request(tag, resource) => replied(machine::request(file, state, tag, resource)),
         Call::Release(tag, resource) => replied(machine::release(file, state, tag, resource)),
+        Call::GiveUp(tag, resource) => replied(machine::give_up(file, state, tag, resource)),
         Call::Tick => tick(file, state),
     }
 }

@@ -1,6 +1,6 @@
 -- What a call is answered, refused or not: its number, and the cuts of a tick.
 use Rattle.machine.proofs.Ground.{ℕ, Bool, true, cond, _≡_, refl, sym, ap, _∙_, List, [], _∷_, ne-eqb, code-zero, first-zero}
-use Rattle.machine.proofs.Ground.{then-zero, by-eq, refusal, Plan, planOf, taskNumber, Call, Request, Release, Tick, Answer, View}
+use Rattle.machine.proofs.Ground.{then-zero, by-eq, refusal, Plan, planOf, taskNumber, Call, Request, Release, GiveUp, Tick, Answer, View}
 use Rattle.machine.proofs.Ground.{requestAnswer, answerOutcome, State, shows, sound, stateRefusal, callRefusal, reply}
 use Rattle.machine.proofs.Ground.{Replied, cutsIn}
 use Rattle.folds.specs.Below.{countBelow}
@@ -24,6 +24,7 @@ release-number p (line h b (turn k u us ∷ rest)) = refl
 told-number : (p : Plan) (s : View) (c : Call) → answerOutcome (acceptedAnswer p s c) .number ≡ 0
 told-number p s (Request tag q) = request-number p (taskNumber p tag) q (s .lines q)
 told-number p s (Release tag q) = release-number p (released (terms p q) (s .lines q))
+told-number p s (GiveUp tag q) = refl
 told-number p s Tick = refl
 
 module _ (f : List ℕ) (s : State) where

@@ -8,7 +8,7 @@ pub use Rattle.plan_reading.specs.Plan.{Plan, Valid}
 unfoldable pub use Rattle.plan_reading.specs.Plan.{planOf}
 unfoldable pub use Rattle.analysis_equations.specs.Questions.{taskNumber}
 pub use Rattle.machine_rules.specs.declared.Call.{Call}
-pub use Rattle.machine_rules.specs.declared.Call.the-variants.{Release, Request, Tick}
+pub use Rattle.machine_rules.specs.declared.Call.the-variants.{GiveUp, Release, Request, Tick}
 pub use Rattle.machine_rules.specs.declared.Answer.{Answer}
 pub use Rattle.machine_rules.specs.Machine.{View, answerOutcome, callCode, requestAnswer}
 unfoldable pub use Rattle.machine_rules.specs.Machine.{answer, step}

@@ -7,7 +7,7 @@ use Rattle.plan.specs.Acceptance.{refusal}
 use Rattle.analysis_figures.specs.Figures.{Known}
 use Rattle.machine_rules.specs.declared.Call.{Call}
 use Rattle.machine_rules.specs.declared.Answer.{Answer}
-use Rattle.machine_rules.specs.declared.Answer.the-variants.{Granted, Waits, Next, Free, Ticked, Refused}
+use Rattle.machine_rules.specs.declared.Answer.the-variants.{Granted, Waits, Next, Free, Left, Ticked, Refused}
 use Rattle.machine_state.specs.declared.State.{State}
 use Rattle.machine_replies.specs.declared.Reply.{Reply}
 use Rattle.machine.specs.Replies as Replies
@@ -37,5 +37,6 @@ cutsIn Granted = 0
 cutsIn (Waits ahead most) = 0
 cutsIn (Next tag) = 0
 cutsIn Free = 0
+cutsIn Left = 0
 cutsIn (Ticked cuts grants) = ones cuts
 cutsIn (Refused code) = 0

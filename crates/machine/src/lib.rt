@@ -1,4 +1,4 @@
-// The machine: start, request, release and tick, each on a plan file and a state by value. Each takes any bytes and any state, and
+// The machine: start, request, release, give-up and tick, each on a plan file and a state by value. Each takes any bytes and any state, and
 // refuses by number what it does not accept.
 use machine_calls::CallBytes;
 use machine_calls::WIDTH;
@@ -10,7 +10,7 @@ ghost use mathlib.Core.Path.{_≡_};
 ghost use mathlib.Core.Bool.{true};
 ghost use Rattle.plan.specs.Acceptance.{refusal};
 ghost use Rattle.plan_reading.specs.Plan.{planOf};
-ghost use Rattle.machine_rules.specs.declared.Call.the-variants.{Request, Release, Tick};
+ghost use Rattle.machine_rules.specs.declared.Call.the-variants.{Request, Release, GiveUp, Tick};
 ghost use Rattle.machine_rules.specs.Machine.{answerOutcome, fresh};
 ghost use Rattle.machine_calls.specs.Calls.{callWidth, callIn, callsOf};
 ghost use Rattle.machine_state.specs.Shows.{freshState, shows};
@@ -75,6 +75,15 @@ pub fn release(file: &[u8], state: State, tag: u16, resource: u8) -> Reply
     call(file, state, Call::Release(tag, resource))
 }
 
+// A give-up by the task with this tag, which waits for the resource: it leaves the line.
+pub fn give_up(file: &[u8], state: State, tag: u16, resource: u8) -> Reply
+    ensures { λ r. ⌜ r .answer ≡ reply (now (file .entry)) state (GiveUp tag resource) ⌝ }
+    ensures { λ r. ⌜ Next (now (file .entry)) state (GiveUp tag resource) (r .state) ⌝ }
+    ensures { λ r. ⌜ answerOutcome (r .answer) ≡ replyOutcome (now (file .entry)) state (GiveUp tag resource) ⌝ }
+{
+    call(file, state, Call::GiveUp(tag, resource))
+}
+
 // The number of ones in the first word of a tick's answer.
 fn cuts_in(answer: Answer) -> u32
     ensures { λ r. ⌜ r ≡ cutsIn answer ⌝ }
@@ -85,6 +94,7 @@ fn cuts_in(answer: Answer) -> u32
         Answer::Waits(_, _) => 0,
         Answer::Next(_) => 0,
         Answer::Free => 0,
+        Answer::Left => 0,
         Answer::Refused(_) => 0,
     }
 }

@@ -1,77 +1,90 @@
--- A release: the number by which it is refused, and what it does where it is not.
+-- A release and a give-up: the numbers by which they are refused; and what a release does that is not.
 use Rattle.machine_replies.proofs.Ground.{ℕ, _+_, _*_, _-_, _<_, _≤_, true, cond, _≡_, sym, _∙_, _≢_, List, eqb, getD, arith, ne-eqb}
-use Rattle.machine_replies.proofs.Ground.{boolByte, code-zero, mostProcessors, mostTasks, mostResources, notHeld, TaskRow, Plan, Valid}
-use Rattle.machine_replies.proofs.Ground.{taskNumber, Answer, Release, View, releaseCode, State, lineAt, slot, shows, Seats, Whole, sound-of}
+use Rattle.machine_replies.proofs.Ground.{boolByte, Bool, false, refl, eq-eqb, mostProcessors, mostTasks, mostResources, notHeld, TaskRow, Plan, Valid}
+use Rattle.machine_replies.proofs.Ground.{taskNumber, Answer, Release, View, namedCode, lineCode, State, standing, lineAt, slot, shows, Seats, Whole, sound-of}
 use Rattle.machine_replies.proofs.Ground.{Tabled, sized, Acted, NewHead, grantedAnswer}
-use Rattle.folds.proofs.Ground.{true≢false, ltb, ltb-true, lt-ltb, le-ltb}
-use Rattle.folds.proofs.Tests.{code-next}
-use Rattle.refusals.specs.Numbers.{unknownTag, unknownResource}
-use Rattle.queue_rules.specs.Rules.{holds}
+use Rattle.folds.proofs.Ground.{true≢false, _&&_, not}
+use Rattle.folds.proofs.Arrays.{by-eq}
+use Rattle.refusals.specs.Numbers.{notWaiting}
+use Rattle.queue_rules.specs.Rules as Rules
+use Rattle.queue_rules.specs.Rules.{holds, waiting}
+use Rattle.machine_rules.specs.Machine.{releaseCode, giveUpCode}
+use Rattle.machine_rules.proofs.LineCodes.{named-task, named-resource, line-named, line-passes}
+use Rattle.machine_state.proofs.Told.{stands-is}
 use Rattle.machine_rules.specs.declared.Answer.the-variants.{Next}
 use Rattle.folds.proofs.Searches.{on-eq}
 use Rattle.machine_state.specs.declared.LineRow.{LineRow}
-use Rattle.machine_state.specs.Inner.{seat, seatCount}
+use Rattle.machine_state.specs.Inner.{seat}
 use Rattle.machine_steps.specs.Inner.{Leaving, leftBy}
 use Rattle.machine_steps.proofs.Passing.{flag, seat-read}
 use Rattle.machine_steps.proofs.Ready.{ready}
 use Rattle.machine_steps.proofs.Leaving.{head-low, holder-none, holder-seat, left-whole, left-shows, next-seat, next-told}
-use Rattle.machine_replies.specs.Inner.{headSeat}
+use Rattle.machine_replies.specs.Inner.{HeadOf, holderSeat, headSeat}
+
+-- who holds, on a sound state
+module _ {p : Plan} (v : Valid p) {s : State} (w : Whole p s) {seats : List ℕ} (t : Seats p (s .tasks) seats) (q : ℕ) (low : q < mostResources) where
+  pub head-of : HeadOf seats q (lineAt s q)
+  head-of = record { table = record { long = t .long; resource = low }; placed = λ n. head-low p v s w q low (omega arith) }
+
+  pub holds-by : (i : ℕ) → holds i (shows p s .lines q) ≡ eqb (holderSeat seats q (lineAt s q)) (i + 1)
+  unfolding holderSeat
+  holds-by i =
+      by-eq (λ (d : Bool). holds i (shows p s .lines q) ≡ eqb (cond d 0 (getD seats (seat q (slot (lineAt s q) 0) 0) 0)) (i + 1)) (lineAt s q .queued) 0
+      (λ e. holder-none p s q i e ∙ sym (ne-eqb 0 (i + 1) (λ z. omega arith)))
+      (λ n. holder-seat p v s w q low (omega arith) t i)
 
 -- ── the number, test by test ──
-module _ (p : Plan) (m : View) (tag q : ℕ) where
-  -- by copies of the numbers of tasks and of the task
-  pub release-unknown : {n i : ℕ} → n ≡ p .tasks → i ≡ taskNumber p tag → n ≤ i → unknownTag ≡ releaseCode p m tag q
-  unfolding releaseCode
-  release-unknown en ei l = rw (le-ltb (taskNumber p tag) (p .tasks) (rw (en, ei) at l))
+module _ (p : Plan) (test : ℕ → Rules.Line → Bool) (number : ℕ) (m : View) (tag q : ℕ) where
+  -- by a copy of the first
+  pub line-refused : {code : ℕ} → code ≡ namedCode p tag q → code ≢ 0 → code ≡ lineCode p test number m tag q
+  unfolding lineCode
+  line-refused e n = e ∙ rw (ne-eqb (namedCode p tag q) 0 (λ z. n (e ∙ z)))
 
-  module _ (task : taskNumber p tag < p .tasks) where
-    pub release-past : p .resources ≤ q → unknownResource ≡ releaseCode p m tag q
-    unfolding releaseCode
-    release-past r = rw (lt-ltb _ _ task, le-ltb _ _ r)
+  pub line-tested : namedCode p tag q ≡ 0 → lineCode p test number m tag q ≡ cond (test (taskNumber p tag) (m .lines q)) 0 number
+  unfolding lineCode
+  line-tested z = rw z
 
-    release-by : q < p .resources → releaseCode p m tag q ≡ cond (holds (taskNumber p tag) (m .lines q)) 0 notHeld
-    unfolding releaseCode
-    release-by r = rw (lt-ltb _ _ task, lt-ltb _ _ r)
-
-  -- what 0 tells
-  module _ (e : releaseCode p m tag q ≡ 0) where
-    after-tag : cond (ltb q (p .resources)) (cond (holds (taskNumber p tag) (m .lines q)) 0 notHeld) unknownResource ≡ 0
-    unfolding releaseCode
-    after-tag = code-next (ltb (taskNumber p tag) (p .tasks)) _ 10 e
-
-    pub release-resource : q < p .resources
-    release-resource = ltb-true _ _ (code-zero (ltb q (p .resources)) _ 11 after-tag)
-
-    release-holds : holds (taskNumber p tag) (m .lines q) ≡ true
-    release-holds = code-zero _ 0 15 (code-next (ltb q (p .resources)) _ 11 after-tag)
-
--- a release of a resource that is there by a task that is there, and the seats of the state
-pub record Releases (p : Plan) (s : State) (tag q : ℕ) (seats : List ℕ) : Type 0 where
+-- a task and a resource that are there, and the seats of a sound state
+pub record Passed (p : Plan) (s : State) (tag q : ℕ) (seats : List ℕ) : Type 0 where
   pub valid : Valid p
   pub whole : Whole p s
   pub seated : Seats p (s .tasks) seats
-  pub task : taskNumber p tag < p .tasks
-  pub resource : q < p .resources
+  pub named : namedCode p tag q ≡ 0
 
-module _ {p : Plan} {s : State} {tag q : ℕ} {seats : List ℕ} (a : Releases p s tag q seats) where
+module _ {p : Plan} {s : State} {tag q : ℕ} {seats : List ℕ} (a : Passed p s tag q seats) where
+  pub task-low : taskNumber p tag < mostTasks
+  task-low = omega (arith, a .valid .tasks, named-task p tag q (a .named))
+
   pub low : q < mostResources
-  low = omega (arith, a .valid .resources, a .resource)
+  low = omega (arith, a .valid .resources, named-resource p tag q (a .named))
 
-  pub release-free : lineAt s q .queued ≡ 0 → notHeld ≡ releaseCode p (shows p s) tag q
-  release-free e = sym (release-by p (shows p s) tag q (a .task) (a .resource) ∙ rw (holder-none p s q (taskNumber p tag) e))
+  -- who holds, by copies of the numbers: x of the seat, i of the task
+  holds-copy : {x i : ℕ} → x ≡ holderSeat seats q (lineAt s q) → i ≡ taskNumber p tag → holds (taskNumber p tag) (shows p s .lines q) ≡ eqb x (i + 1)
+  holds-copy ex ei = holds-by (a .valid) (a .whole) (a .seated) q low (taskNumber p tag) ∙ rw (ex, ei)
 
-  module _ (held : lineAt s q .queued ≢ 0) where
-    -- the head's first seat is in the table
-    pub head-seat : seat q (slot (lineAt s q) 0) 0 < seatCount
-    head-seat = omega (arith, low, head-low p (a .valid) s (a .whole) q low (omega arith))
+  pub release-by : {x i code : ℕ} → x ≡ holderSeat seats q (lineAt s q) → i ≡ taskNumber p tag → code ≡ cond (eqb x (i + 1)) 0 notHeld
+      → code ≡ releaseCode p (shows p s) tag q
+  release-by ex ei e = e ∙ sym (line-tested p holds notHeld (shows p s) tag q (a .named) ∙ rw (holds-copy ex ei))
 
-    -- who sits there holds: x, read by copies of the numbers, beside the task's number i
-    pub release-seat : {r k x i code : ℕ} → r ≡ q → k ≡ slot (lineAt s q) 0 → x ≡ getD seats ((r * mostProcessors + k) * mostTasks) 0
-        → i ≡ taskNumber p tag → code ≡ cond (eqb x (i + 1)) 0 notHeld → code ≡ releaseCode p (shows p s) tag q
-    release-seat {r} {k} er ek ex ei e =
-        let at : seat q (slot (lineAt s q) 0) 0 ≡ (r * mostProcessors + k) * mostTasks = omega arith in
-        let h = holder-seat p (a .valid) s (a .whole) q low (omega arith) (a .seated) (taskNumber p tag) in
-        e ∙ sym (release-by p (shows p s) tag q (a .task) (a .resource) ∙ rw (h, at, ← ex, ← ei))
+  -- a give-up: by the resource r in the task's row
+  abbrev rowResource : ℕ
+  rowResource = standing (s .tasks) (taskNumber p tag) .resource
+
+  waiting-by : waiting (taskNumber p tag) (shows p s .lines q) ≡ (eqb rowResource q && not (holds (taskNumber p tag) (shows p s .lines q)))
+  waiting-by =
+      rw (stands-is p (a .valid) s (a .whole) (taskNumber p tag) (named-task p tag q (a .named)) q (named-resource p tag q (a .named)))
+
+  pub give-up-away : rowResource ≢ q → notWaiting ≡ giveUpCode p (shows p s) tag q
+  give-up-away n = sym (line-tested p waiting notWaiting (shows p s) tag q (a .named) ∙ rw (waiting-by, ne-eqb rowResource q n))
+
+  pub give-up-by : rowResource ≡ q → {x i code : ℕ} → x ≡ holderSeat seats q (lineAt s q) → i ≡ taskNumber p tag
+      → code ≡ cond (eqb x (i + 1)) notWaiting 0 → code ≡ giveUpCode p (shows p s) tag q
+  give-up-by own {x} {i} ex ei e =
+      e ∙ sym (line-tested p waiting notWaiting (shows p s) tag q (a .named) ∙ rw (waiting-by, eq-eqb rowResource q own, holds-copy ex ei) (turned (eqb x (i + 1))))
+    where
+      turned : (b : Bool) → cond (not b) 0 notWaiting ≡ cond b notWaiting 0
+      turned true = refl
+      turned false = refl
 
 -- ── the answer ──
 -- one of n tasks, as its number plus 1
@@ -97,9 +110,9 @@ module _ {p : Plan} {seats : List ℕ} {q gone : ℕ} {l : LineRow} (h : NewHead
 pub release-held : (p : Plan) → Valid p → (s : State) (tag q : ℕ) → releaseCode p (shows p s) tag q ≡ 0
     → (q < mostResources) × (1 ≤ lineAt s q .queued)
 release-held p v s tag q e = (
-  omega (arith, v .resources, release-resource p (shows p s) tag q e),
+  omega (arith, v .resources, named-resource p tag q (line-named p holds 15 (shows p s) tag q e)),
   on-eq (1 ≤ lineAt s q .queued) (lineAt s q .queued) 0
-      (λ f. absurd (true≢false (sym (release-holds p (shows p s) tag q e) ∙ holder-none p s q (taskNumber p tag) f))) (λ n. omega arith),
+      (λ f. absurd (true≢false (sym (line-passes p holds 15 (shows p s) tag q e) ∙ holder-none p s q (taskNumber p tag) f))) (λ n. omega arith),
 )
 
 -- a resource that is held, and the tables of the state; r is a copy of the resource's number

@@ -5,12 +5,12 @@ pub use Rattle.folds.proofs.Tests.{code-zero, first-zero, then-zero}
 pub use Rattle.plan_reading.specs.Plan.{Plan, Valid}
 unfoldable pub use Rattle.plan_reading.specs.Plan.{planOf}
 unfoldable pub use Rattle.analysis_equations.specs.Questions.{taskNumber, useCode}
-pub use Rattle.machine_rules.specs.declared.Call.the-variants.{Release, Request, Tick}
+pub use Rattle.machine_rules.specs.declared.Call.the-variants.{GiveUp, Release, Request, Tick}
 pub use Rattle.machine_rules.specs.declared.Answer.{Answer}
 pub use Rattle.machine_rules.specs.Machine.{View, requestAnswer}
-unfoldable pub use Rattle.machine_rules.specs.Machine.{releaseCode, requestCode}
+unfoldable pub use Rattle.machine_rules.specs.Machine.{lineCode, namedCode, requestCode}
 pub use Rattle.machine_state.specs.declared.State.{State}
-pub use Rattle.machine_state.specs.Shows.{lineAt, slot}
+pub use Rattle.machine_state.specs.Shows.{lineAt, slot, standing}
 unfoldable pub use Rattle.machine_state.specs.Shows.{shows}
 pub use Rattle.sizes.specs.Sizes.{mostProcessors, mostResources, mostTasks}
 pub use Rattle.refusals.specs.Numbers.{alreadyInLine, notHeld}

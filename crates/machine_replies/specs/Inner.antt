@@ -2,22 +2,25 @@
 use Prim.Native.Nat.{ℕ, _-_, _≤_, _<_}
 use mathlib.Core.Bool.{true, cond}
 use mathlib.Core.List.{List}
+use mathlib.Core.Logic.{_≢_}
 use mathlib.Core.Path.{_≡_}
 use lib.Dec.{eqb}
 use lib.ListN.{length, getD}
 use Rattle.sizes.specs.Sizes.{mostProcessors, mostResources}
 use Rattle.plan_reading.specs.Plan.{Plan, planOf, Checked}
+use Rattle.analysis_equations.specs.Questions.{taskNumber}
 use Rattle.analysis_figures.specs.Figures.{Known}
 use Rattle.machine_rules.specs.declared.Call.{Call}
 use Rattle.machine_rules.specs.declared.Answer.{Answer}
 use Rattle.machine_rules.specs.declared.Answer.the-variants.{Next, Free}
-use Rattle.machine_rules.specs.Machine.{requestCode, callCode, effect, acceptedAnswer}
+use Rattle.machine_rules.specs.Machine.{requestCode, namedCode, giveUpCode, callCode, effect, acceptedAnswer}
 use Rattle.machine_state.specs.declared.LineRow.{LineRow}
 use Rattle.machine_state.specs.declared.State.{State}
 use Rattle.machine_state.specs.Shows.{lineAt, shows, slot}
 use Rattle.machine_state.specs.Sound.{sound}
-use Rattle.machine_state.specs.Inner.{seat, seatCount, Keys, Seats}
+use Rattle.machine_state.specs.Inner.{seat, seatCount, Keys, Seats, SeatTable}
 use Rattle.machine_replies.specs.declared.Reply.{Reply}
+use Rattle.machine_replies.specs.declared.Named.{Named}
 
 -- ── what they rely on ──
 
@@ -38,6 +41,11 @@ pub record OnSound (f : List ℕ) (s : State) (figures seats : List ℕ) : Type 
   pub seated : Seats (planOf f) (s .tasks) seats
   pub sound : sound (planOf f) s ≡ true
 
+-- the head of a line of q, where it is held, and who sits where
+pub record HeadOf (seats : List ℕ) (q : ℕ) (l : LineRow) : Type 0 where
+  pub table : SeatTable seats q
+  pub placed : l .queued ≢ 0 → slot l 0 < mostProcessors
+
 -- a request that is not refused
 pub record Asks (f : List ℕ) (s : State) (figures seats : List ℕ) (tag q : ℕ) : Type 0 where
   pub on : OnSound f s figures seats
@@ -50,6 +58,12 @@ pub record Frees (f : List ℕ) (s : State) (figures keys seats : List ℕ) (q :
   pub resource : q < mostResources
   pub held : 1 ≤ lineAt s q .queued
 
+-- a give-up that is not refused
+pub record Quits (f : List ℕ) (s : State) (keys seats : List ℕ) (tag q : ℕ) : Type 0 where
+  pub on : OnSeats f s seats
+  pub keyed : Keys (planOf f) (s .tasks) keys
+  pub code : giveUpCode (planOf f) (shows (planOf f) s) tag q ≡ 0
+
 -- a call that is not refused
 pub record Makes (f : List ℕ) (s : State) (figures keys seats : List ℕ) (c : Call) : Type 0 where
   pub on : OnSound f s figures seats
@@ -57,6 +71,15 @@ pub record Makes (f : List ℕ) (s : State) (figures keys seats : List ℕ) (c :
   pub code : callCode (planOf f) (shows (planOf f) s) c ≡ 0
 
 -- ── what they give ──
+
+-- the task with a tag, and 11 or 12
+pub record NamedBy (p : Plan) (tag q : ℕ) (r : Named) : Type 0 where
+  pub task : r .task ≡ taskNumber p tag
+  pub code : r .code ≡ namedCode p tag q
+
+-- the first task of the head, as its number plus 1; 0 where the line is free
+unfoldable pub holderSeat : List ℕ → ℕ → LineRow → ℕ
+holderSeat seats q l = cond (eqb (l .queued) 0) 0 (getD seats (seat q (slot l 0) 0) 0)
 
 -- such a call did what the rules say
 pub record Acted (p : Plan) (s : State) (c : Call) (r : Reply) : Type 0 where

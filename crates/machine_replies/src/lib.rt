@@ -6,17 +6,23 @@ use machine_state::LineRow;
 use machine_state::State;
 ghost use mathlib.Core.Path.{_≡_};
 ghost use Prim.Native.Nat.{ℕ};
-ghost use Rattle.plan_reading.specs.Plan.{planOf};
-ghost use Rattle.machine_rules.specs.declared.Call.the-variants.{Request, Release, Tick};
-ghost use Rattle.machine_rules.specs.Machine.{requestCode, releaseCode, callCode};
+ghost use Rattle.plan_reading.specs.Plan.{planOf, Checked};
+ghost use Rattle.machine_rules.specs.declared.Call.the-variants.{Request, Release, GiveUp, Tick};
+ghost use Rattle.machine_rules.specs.Machine.{requestCode, releaseCode, giveUpCode, callCode};
 ghost use Rattle.machine_state.specs.Shows.{shows};
-ghost use Rattle.machine_replies.specs.Inner.{OnKnown, OnSeats, OnSound, Asks, Frees, Makes};
-ghost use Rattle.machine_replies.specs.Inner.{Grants, Acted, grantedAnswer};
+ghost use Rattle.machine_replies.specs.Inner.{OnKnown, OnSeats, OnSound, HeadOf, Asks, Frees, Quits, Makes};
+ghost use Rattle.machine_replies.specs.Inner.{Grants, NamedBy, holderSeat, Acted, grantedAnswer};
 
 // The answer to a call, and the next state.
 pub struct Reply {
     pub answer: Answer,
     pub state: State,
+}
+
+// A task, and why it or a resource is refused.
+struct Named {
+    code: u8,
+    task: usize,
 }
 
 // 11 to 15, 0 where none, of a request on a sound state.
@@ -36,29 +42,76 @@ fn request_code(file: &[u8], figures: &[u16], state: State, tag: u16, q: u8) -> 
     0
 }
 
+// The task with this tag, and 11 or 12 where it or the resource is not there, 0 where both are.
+fn named(file: &[u8], tag: u16, q: u8) -> Named
+    requires { ⌜ Checked (now file) ⌝ }
+    ensures { λ r. ⌜ NamedBy (planOf (now (file .entry))) tag q r ⌝ }
+{
+    let counts = plan_reading::checked::counts(file);
+    let task = analysis_figures::task_number(file, tag);
+    if folds::wide(counts.tasks) <= task {
+        return Named {
+            code: refusals::UNKNOWN_TAG,
+            task,
+        };
+    }
+    if counts.resources <= q {
+        return Named {
+            code: refusals::UNKNOWN_RESOURCE,
+            task,
+        };
+    }
+    Named { code: 0, task }
+}
+
+// Who holds q, as a task's number plus 1; 0 where it is free.
+fn holder(line: LineRow, seats: &[u8], q: usize) -> u8
+    requires { ⌜ HeadOf (now seats) q line ⌝ }
+    ensures { λ r. ⌜ r ≡ holderSeat (now (seats .entry)) q line ⌝ }
+{
+    if line.queued == 0 {
+        return 0;
+    }
+    let queue = line.queue;
+    seats[(q * sizes::PROCESSORS + folds::wide(queue[0])) * sizes::TASKS]
+}
+
 // 11, 12 and 16, 0 where none, of a release on a sound state.
 fn release_code(file: &[u8], seats: &[u8], state: State, tag: u16, q: u8) -> u8
     requires { ⌜ OnSeats (now file) state (now seats) ⌝ }
     ensures { λ r. ⌜ r ≡ releaseCode (planOf (now (file .entry))) (shows (planOf (now (file .entry))) state) tag q ⌝ }
 {
-    let counts = plan_reading::checked::counts(file);
-    let i = analysis_figures::task_number(file, tag);
-    if folds::wide(counts.tasks) <= i {
-        return refusals::UNKNOWN_TAG;
+    let named = named(file, tag, q);
+    if named.code != 0 {
+        return named.code;
     }
-    if counts.resources <= q {
-        return refusals::UNKNOWN_RESOURCE;
-    }
-    let line = state.lines[q as usize];
-    if line.queued == 0 {
-        return refusals::NOT_HELD;
-    }
-    let queue = line.queue;
-    let first = seats[(folds::wide(q) * sizes::PROCESSORS + folds::wide(queue[0])) * sizes::TASKS];
-    if folds::wide(first) == i + 1 {
+    let r = folds::wide(q);
+    let line = state.lines[r];
+    if folds::wide(holder(line, seats, r)) == named.task + 1 {
         return 0;
     }
     refusals::NOT_HELD
+}
+
+// 11, 12 and 23, 0 where none, of a give-up on a sound state: it waits where its row names the resource and it does not hold it.
+fn give_up_code(file: &[u8], seats: &[u8], state: State, tag: u16, q: u8) -> u8
+    requires { ⌜ OnSeats (now file) state (now seats) ⌝ }
+    ensures { λ r. ⌜ r ≡ giveUpCode (planOf (now (file .entry))) (shows (planOf (now (file .entry))) state) tag q ⌝ }
+{
+    let named = named(file, tag, q);
+    if named.code != 0 {
+        return named.code;
+    }
+    let row = state.tasks[named.task];
+    if row.resource != q {
+        return refusals::NOT_WAITING;
+    }
+    let r = folds::wide(q);
+    let line = state.lines[r];
+    if folds::wide(holder(line, seats, r)) == named.task + 1 {
+        return refusals::NOT_WAITING;
+    }
+    0
 }
 
 // The refusal of a call on a sound state, 0 where there is none.
@@ -69,6 +122,7 @@ pub fn call_code(file: &[u8], figures: &[u16], seats: &[u8], state: State, call:
     match call {
         Call::Request(tag, q) => request_code(file, figures, state, tag, q),
         Call::Release(tag, q) => release_code(file, seats, state, tag, q),
+        Call::GiveUp(tag, q) => give_up_code(file, seats, state, tag, q),
         Call::Tick => 0,
     }
 }
@@ -137,6 +191,20 @@ fn release_on(
     }
 }
 
+// A give-up that is not refused.
+fn give_up_on(file: &[u8], keys: &[u16], seats: &[u8], state: State, tag: u16, q: u8) -> Reply
+    requires { ⌜ Quits (now file) state (now keys) (now seats) tag q ⌝ }
+    ensures { λ r. ⌜ Acted (planOf (now (file .entry))) state (GiveUp tag q) r ⌝ }
+{
+    let i = analysis_figures::task_number(file, tag);
+    let row = plan_reading::checked::task(file, i);
+    let next = machine_steps::withdraw(state, keys, seats, folds::wide(q), i, row.processor);
+    Reply {
+        answer: Answer::Left,
+        state: next,
+    }
+}
+
 // A tick, which is never refused.
 fn tick_on(file: &[u8], figures: &[u16], keys: &[u16], seats: &[u8], state: State) -> Reply
     requires { ⌜ Makes (now file) state (now figures) (now keys) (now seats) Tick ⌝ }
@@ -165,6 +233,7 @@ pub fn make(
     match call {
         Call::Request(tag, q) => request_on(file, figures, seats, state, tag, q),
         Call::Release(_, q) => release_on(file, figures, keys, seats, state, q),
+        Call::GiveUp(tag, q) => give_up_on(file, keys, seats, state, tag, q),
         Call::Tick => tick_on(file, figures, keys, seats, state),
     }
 }

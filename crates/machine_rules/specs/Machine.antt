@@ -56,12 +56,14 @@ module _ (p : Plan) where
   unfoldable pub requestCode : View → ℕ → ℕ → ℕ
   requestCode s tag q = cond (eqb (useCode p tag q) 0) (cond (busy s (taskNumber p tag)) alreadyInLine 0) (useCode p tag q)
 
-  -- 11; 12; then this number, unless the line passes the test for the task
+  -- 11, unknown tag; 12, resource ≥ R
+  unfoldable pub namedCode : ℕ → ℕ → ℕ
+  namedCode tag q = cond (ltb (taskNumber p tag) (p .tasks)) (cond (ltb q (p .resources)) 0 unknownResource) unknownTag
+
+  -- these; then this number, unless the line passes the test for the task
   unfoldable pub lineCode : (ℕ → Line → Bool) → ℕ → View → ℕ → ℕ → ℕ
   lineCode test number s tag q =
-      cond (ltb (taskNumber p tag) (p .tasks))
-      (cond (ltb q (p .resources)) (cond (test (taskNumber p tag) (s .lines q)) 0 number) unknownResource)
-      unknownTag
+      cond (eqb (namedCode tag q) 0) (cond (test (taskNumber p tag) (s .lines q)) 0 number) (namedCode tag q)
 
   -- "Release: 11; 12; 16, the task does not hold it."
   abbrev pub releaseCode : View → ℕ → ℕ → ℕ

@@ -8,13 +8,13 @@ use Rattle.plan.specs.Acceptance.{refusal}
 use Rattle.plan.proofs.Laws.{accepted-checked}
 use Rattle.analysis_equations.specs.Questions.{taskNumber, useCode}
 use Rattle.analysis_equations.proofs.Laws.{use-clear}
-use Rattle.queue_rules.specs.Rules.{Line, line, turn, released}
-use Rattle.machine_rules.specs.declared.Call.the-variants.{Request, Release, Tick}
+use Rattle.queue_rules.specs.Rules.{Line, line, turn, released, holds, waiting}
+use Rattle.machine_rules.specs.declared.Call.the-variants.{Request, Release, GiveUp, Tick}
 use Rattle.machine_rules.specs.declared.Answer.the-variants.{Refused}
 use Rattle.machine_rules.specs.Machine.{terms, requestCode, callCode, requestAnswer, releaseAnswer, acceptedAnswer}
 use Rattle.machine_state.specs.Shows.{shows}
 use Rattle.machine.specs.Replies.{callRefusal}
-use Rattle.machine_replies.proofs.Freed.{release-resource}
+use Rattle.machine_rules.proofs.LineCodes.{named-resource, line-named}
 use Rattle.machine_calls.specs.Calls.{callOf}
 use Rattle.print_lines.specs.Inner.{Nameable, Names}
 
@@ -45,19 +45,32 @@ module _ (f : List ℕ) (bytes : (k : ℕ) → k < length f → getD f k 0 < 256
 
   bytes-name : (letter tag q : ℕ) → each-names q (callOf letter tag q)
   unfolding callOf each-names requestCode
-  bytes-name letter tag q = go (eqb letter 81) (eqb letter 82) (eqb letter 84 && (eqb tag 0 && eqb q 0))
+  bytes-name letter tag q =
+      when (eqb letter 81) asks (when (eqb letter 82) frees (when (eqb letter 87) quits (when (eqb letter 84 && (eqb tag 0 && eqb q 0)) ticks tt)))
     where
-      go : (a b d : Bool) → each-names q (cond a (Request tag q ∷ []) (cond b (Release tag q ∷ []) (cond d (Tick ∷ []) [])))
-      go true b d =
+      when : (b : Bool) {x y : List Call} → each-names q x → each-names q y → each-names q (cond b x y)
+      when true h g = h
+      when false h g = g
+
+      asks : Names f q (reply f s (Request tag q))
+      asks =
           reply-names (Request tag q) q (λ e h.
           request-names f q (taskNumber (planOf f) tag) (shows (planOf f) s .lines q)
           (record { plan = h; below = use-clear (planOf f) tag q (first-zero (useCode (planOf f) tag q) _ e) .resource }))
-      go false true d =
+
+      frees : Names f q (reply f s (Release tag q))
+      frees =
           reply-names (Release tag q) q (λ e h.
           release-names f q (released (terms (planOf f) q) (shows (planOf f) s .lines q))
-          (record { plan = h; below = release-resource (planOf f) (shows (planOf f) s) tag q e }))
-      go false false true = reply-names Tick q (λ e h. tt)
-      go false false false = tt
+          (record { plan = h; below = named-resource (planOf f) tag q (line-named (planOf f) holds 15 (shows (planOf f) s) tag q e) }))
+
+      quits : Names f q (reply f s (GiveUp tag q))
+      quits =
+          reply-names (GiveUp tag q) q (λ e h.
+          record { plan = h; below = named-resource (planOf f) tag q (line-named (planOf f) waiting 22 (shows (planOf f) s) tag q e) })
+
+      ticks : Names f q (reply f s Tick)
+      ticks = reply-names Tick q (λ e h. tt)
 
   pub call-names : (b : CallBytes) (c : Call) → callIn b ≡ c ∷ [] → Names f (b .resource) (reply f s c)
   unfolding each-names

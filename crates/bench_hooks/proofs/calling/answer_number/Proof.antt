@@ -14,4 +14,5 @@ answer-number-spec =
     (λ c. rw (c .byte .ensures .same) (sym (ap answerNumber (c .before .before .answer .given .1))))
     (λ c. rw (c .word .ensures .same) (sym (ap answerNumber (c .before .before .answer2 .given .1)))) (λ c. search needs)
     (λ c. let h = c .before in
-    rw (h .word2 .ensures .same, c .word3 .ensures .same) (sym (ap answerNumber (h .before .before .answer3 .given .1)))) (λ c. search needs))
+    rw (h .word2 .ensures .same, c .word3 .ensures .same) (sym (ap answerNumber (h .before .before .answer3 .given .1))))
+    (λ c. search needs) (λ c. search needs))
