@@ -23,6 +23,9 @@ ALL = Plan(2, [Task(k, 16 * k + q, q + 1, 100, 50) for k in range(2) for q in ra
 # processor 0 has two tasks on each resource: hold times and budgets are 1 on the bus and 3 on the link; those of processor 1 are 1
 FELLOWS = Plan(2, [Task(0, 1, 4, 100, 50), Task(0, 2, 3, 100, 50), Task(0, 3, 2, 100, 50), Task(0, 4, 1, 100, 50), Task(1, 5, 1, 100, 50)],
                [b"bus", b"link"], [Section(i, q, 1) for i, q in [(0, 0), (1, 0), (2, 1), (3, 1), (4, 0), (4, 1)]])
+# hold times 1, 1 and 4 on processor 0, which has the budget 4, and 1 on processor 1
+SHORT = Plan(2, [Task(0, 1, 3, 100, 50), Task(0, 2, 2, 100, 50), Task(0, 3, 1, 100, 50), Task(1, 4, 1, 100, 50)], [b"bus"],
+             [Section(0, 0, 1), Section(1, 0, 1), Section(2, 0, 4), Section(3, 0, 1)])
 # 63 tasks of one processor, all of hold time 1
 CROWD = Plan(2, [Task(0, u, u + 1, 100, 50) for u in range(63)] + [Task(1, 255, 1, 100, 50)], [b"bus"],
              [Section(u, 0, 1) for u in range(64)])
@@ -444,6 +447,23 @@ GIVE_UPS = [
         T       tick 0 0 0      # 1/1
         T       tick 1 1 1      # to tag 2
      """, "0:3/3:0(1)"),
+    # without the give-up tag 4 is granted at the first tick: 4 is above 3
+    ("another core waits longer for a give-up, within its limit", SHORT, """
+        Q 1 0   granted         # 1/4
+        Q 3 0   waits 1 3       # 1 + 2 x 1
+        Q 2 0   waits 2 8       # 1 + 4 + 3 x 1
+        Q 4 0   waits 0 4
+        W 3 0   left
+        T       tick 1 1 1      # to tag 2, 1/3
+        T       tick 1 1 1      # to tag 4
+     """, "0:1/1:1(3)"),
+    ("the same without the give-up", SHORT, """
+        Q 1 0   granted         # 1/4
+        Q 3 0   waits 1 3
+        Q 2 0   waits 2 8
+        Q 4 0   waits 0 4
+        T       tick 1 1 1      # 4 is above 3; to tag 4
+     """, "0:1/1:1(3)0(2 1)"),
     # tag 3 waits one tick, and later all 3 that it is told anew; so does its processor
     ("a new limit runs from the new request", PAIR, """
         Q 1 0   granted         # 3/3
