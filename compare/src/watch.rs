@@ -84,7 +84,7 @@ pub struct Waits {
     beside: Beside,
 }
 
-/// Of the waits that came to their end, those in which another task gave up the same resource, and how many of these took every
+/// Of the waits that came to their end, those in which a task left the same line by a give-up, and how many of these took every
 /// tick allowed.
 #[derive(Clone, Copy, Debug, Default, PartialEq, Eq)]
 struct Beside {
@@ -132,7 +132,7 @@ impl Waits {
         let (ticks, limit) = self.closest;
         println!(
             "  {} waits of {who} watched, {} of them given up, {} to {end}: the closest {ticks} of {limit} ticks, {} at the last tick allowed; \
-             while another gave up {}, {} of them at the last tick allowed.",
+             with a give-up in the same line meanwhile {}, {} of them at the last tick allowed.",
             self.began, self.gave_up, self.ended, self.at_limit, self.beside.ended, self.beside.at_limit
         );
     }
@@ -203,7 +203,7 @@ struct Wait {
     resource: usize,
     limit: u32,
     ticks: u32,
-    /// Another task gave up the same resource since the wait began.
+    /// A task left the same line by a give-up since the wait began.
     beside: bool,
 }
 
