@@ -1,7 +1,7 @@
 """The cases of the machine that are not for proof, as lists of calls: the rules of its lines at their edges, and each refusal.
 
-Each case has a label, a plan, calls with their answers, and the state at the end, worked out here by hand from document 01. The
-model is a second look: it has to agree with every one of them.
+Each case has a label, a plan, calls with their answers, and the state at the end, worked out here by hand from documents 01 and 02.
+The model is a second look: it has to agree with every one of them.
 """
 import model
 from analysis_cases import BARE, EIGHT, LISTING, OWN, PAPER, SILENT
@@ -23,6 +23,9 @@ ALL = Plan(2, [Task(k, 16 * k + q, q + 1, 100, 50) for k in range(2) for q in ra
 # processor 0 has two tasks on each resource: hold times and budgets are 1 on the bus and 3 on the link; those of processor 1 are 1
 FELLOWS = Plan(2, [Task(0, 1, 4, 100, 50), Task(0, 2, 3, 100, 50), Task(0, 3, 2, 100, 50), Task(0, 4, 1, 100, 50), Task(1, 5, 1, 100, 50)],
                [b"bus", b"link"], [Section(i, q, 1) for i, q in [(0, 0), (1, 0), (2, 1), (3, 1), (4, 0), (4, 1)]])
+# hold times 1, 1 and 4 on processor 0, which has the budget 4, and 1 on processor 1
+SHORT = Plan(2, [Task(0, 1, 3, 100, 50), Task(0, 2, 2, 100, 50), Task(0, 3, 1, 100, 50), Task(1, 4, 1, 100, 50)], [b"bus"],
+             [Section(0, 0, 1), Section(1, 0, 1), Section(2, 0, 4), Section(3, 0, 1)])
 # 63 tasks of one processor, all of hold time 1
 CROWD = Plan(2, [Task(0, u, u + 1, 100, 50) for u in range(63)] + [Task(1, 255, 1, 100, 50)], [b"bus"],
              [Section(u, 0, 1) for u in range(64)])
@@ -116,6 +119,7 @@ TURNS = [
     ("a plan with no sections", BARE, """
         Q 1 0   refused 13
         R 1 0   refused 16
+        W 1 0   refused 23
         T       tick 0 0 0
      """, "nobody"),
     ("a lone processor sent back by a release", PAIR, """
@@ -295,6 +299,186 @@ PLACES = [
      """, "0:3/7:1(5)"),
 ]
 
+GIVE_UPS = [
+    ("the head's second task gives up", PAPER, """
+        Q 12 0  granted         # 4/7
+        Q 11 0  waits 1 24      # 4 + 2 x 10
+        Q 13 0  waits 2 37      # 4 + 3 + 3 x 10
+        Q 1 0   waits 0 7
+        T       tick 0 0 0      # 3/6
+        W 11 0  left            # 3/6 still
+        R 12 0  to 1            # of processor 1 tag 13 is next, and 7 is above 6
+     """, "0:2/10:0(0)1(7)"),
+    ("the head's last task gives up", PAPER, """
+        Q 12 0  granted         # 4/7
+        Q 11 0  waits 1 24
+        Q 13 0  waits 2 37
+        W 13 0  left
+        R 12 0  to 11           # 3/7
+        R 11 0  free
+     """, "nobody"),
+    ("the first task of a core that is not head gives up", PAPER, """
+        Q 11 0  granted         # 3/7
+        Q 1 0   waits 0 7
+        Q 2 0   waits 1 16
+        Q 4 0   waits 2 26
+        W 1 0   left
+        R 11 0  to 2            # 3/10
+     """, "0:3/10:0(1 3)"),
+    ("a middle task of a core that is not head gives up", PAPER, """
+        Q 11 0  granted
+        Q 1 0   waits 0 7
+        Q 2 0   waits 1 16
+        Q 4 0   waits 2 26
+        W 2 0   left
+        R 11 0  to 1            # 2/10
+     """, "0:2/10:0(0 3)"),
+    ("the last task of a core that is not head gives up", PAPER, """
+        Q 11 0  granted
+        Q 1 0   waits 0 7
+        Q 2 0   waits 1 16
+        Q 4 0   waits 2 26
+        W 4 0   left
+        R 11 0  to 1            # 2/10
+     """, "0:2/10:0(0 1)"),
+    ("the only task of a middle core gives up", EIGHT, """
+        Q 0 0   granted         # 1/1
+        Q 1 0   waits 0 34
+        Q 2 0   waits 0 33
+        Q 3 0   waits 0 32
+        W 2 0   left            # processor 2 leaves
+        T       tick 1 1 1      # to 1, 2/2
+     """, "0:2/2:1(1)3(3)"),
+    ("the only task of the core behind the head gives up", EIGHT, """
+        Q 0 0   granted
+        Q 1 0   waits 0 34
+        Q 2 0   waits 0 33
+        W 1 0   left
+        T       tick 1 1 1      # to 2, 3/3
+     """, "0:3/3:2(2)"),
+    ("the only task of the tail core gives up", EIGHT, """
+        Q 0 0   granted
+        Q 1 0   waits 0 34
+        Q 2 0   waits 0 33
+        W 2 0   left
+        T       tick 1 1 1      # to 1, 2/2
+        T       tick 0 0 0
+        T       tick 1 0 1
+     """, "nobody"),
+    ("a core leaves when its last task does", PAPER, """
+        Q 11 0  granted
+        Q 1 0   waits 0 7
+        Q 2 0   waits 1 16
+        W 1 0   left            # processor 0 stays
+        W 2 0   left
+        R 11 0  free
+     """, "nobody"),
+    ("two of eight processors leave, and one joins again", EIGHT, """
+        Q 7 0   granted         # 8/8
+        Q 0 0   waits 0 35
+        Q 6 0   waits 0 29
+        Q 1 0   waits 0 34
+        Q 5 0   waits 0 30
+        Q 2 0   waits 0 33
+        Q 4 0   waits 0 31
+        Q 3 0   waits 0 32
+        W 1 0   left
+        W 3 0   left
+        Q 1 0   waits 0 34
+     """, "0:8/8:7(7)0(0)6(6)5(5)2(2)4(4)1(1)"),
+    ("gives up and asks again", PAPER, """
+        Q 11 0  granted
+        Q 1 0   waits 0 7
+        Q 2 0   waits 1 16
+        W 1 0   left
+        Q 1 0   waits 1 17      # a new place and a new limit: 3 + 2 x 7
+        R 11 0  to 2            # 3/10
+     """, "0:3/10:0(1 0)"),
+    ("gives up and asks again, behind another core", EIGHT, """
+        Q 0 0   granted
+        Q 1 0   waits 0 34
+        Q 2 0   waits 0 33
+        W 1 0   left
+        Q 1 0   waits 0 34      # its processor joins at the tail
+        T       tick 1 1 1      # to 2, 3/3
+     """, "0:3/3:2(2)1(1)"),
+    ("gives up and asks for another resource", PAPER, """
+        Q 12 0  granted         # r1: 4/7
+        Q 11 0  waits 1 24
+        W 11 0  left
+        Q 11 1  granted         # r2: 2/4
+     """, "0:4/7:1(6) 1:2/4:1(5)"),
+    ("hold left and budget left stay", PAPER, """
+        Q 2 0   granted         # 3/10
+        Q 1 0   waits 1 17
+        Q 11 0  waits 0 10
+        2 T     tick 0 0 0      # 1/8
+        W 11 0  left
+        W 1 0   left
+     """, "0:1/8:0(1)"),
+    ("another line stays", PAPER, """
+        Q 11 1  granted         # r2: 2/4
+        Q 3 1   waits 0 4
+        Q 12 0  granted         # r1: 4/7
+        Q 2 0   waits 0 7
+        W 2 0   left
+     """, "0:4/7:1(6) 1:2/4:1(5)0(2)"),
+    # tag 2 is told 7 and is granted at its second tick
+    ("a fellow is granted earlier than it was told", PAIR, """
+        Q 3 0   granted         # 2/2
+        Q 1 0   waits 0 2
+        Q 2 0   waits 1 7
+        T       tick 0 0 0      # 1/1
+        W 1 0   left
+        T       tick 1 1 1      # to tag 2
+     """, "0:3/3:0(1)"),
+    # tag 2 is told 7, and is granted at its seventh tick as without the give-up
+    ("the whole limit beside a give-up", PAIR, """
+        Q 3 0   granted         # 2/2
+        Q 1 0   waits 0 2
+        Q 2 0   waits 1 7
+        T       tick 0 0 0      # 1/1
+        T       tick 1 1 1      # to tag 1, 3/3
+        Q 3 0   waits 0 3
+        W 3 0   left
+        Q 3 0   waits 0 3
+        2 T     tick 0 0 0      # 1/1
+        T       tick 1 1 1      # 3 is above 0; to tag 3, 2/2
+        T       tick 0 0 0      # 1/1
+        T       tick 1 1 1      # to tag 2
+     """, "0:3/3:0(1)"),
+    # without the give-up tag 4 is granted at the first tick: 4 is above 3
+    ("another core waits longer for a give-up, within its limit", SHORT, """
+        Q 1 0   granted         # 1/4
+        Q 3 0   waits 1 3       # 1 + 2 x 1
+        Q 2 0   waits 2 8       # 1 + 4 + 3 x 1
+        Q 4 0   waits 0 4
+        W 3 0   left
+        T       tick 1 1 1      # to tag 2, 1/3
+        T       tick 1 1 1      # to tag 4
+     """, "0:1/1:1(3)"),
+    ("the same without the give-up", SHORT, """
+        Q 1 0   granted         # 1/4
+        Q 3 0   waits 1 3
+        Q 2 0   waits 2 8
+        Q 4 0   waits 0 4
+        T       tick 1 1 1      # 4 is above 3; to tag 4
+     """, "0:1/1:1(3)0(2 1)"),
+    # tag 3 waits one tick, and later all 3 that it is told anew; so does its processor
+    ("a new limit runs from the new request", PAIR, """
+        Q 1 0   granted         # 3/3
+        Q 3 0   waits 0 3
+        Q 2 0   waits 1 7
+        T       tick 0 0 0      # 2/2
+        W 3 0   left
+        T       tick 0 0 0      # 1/1
+        T       tick 1 1 1      # 3 is above 0: sent back alone; to tag 2, 3/3
+        Q 3 0   waits 0 3
+        2 T     tick 0 0 0      # 1/1
+        T       tick 1 1 1      # to tag 3
+     """, "0:2/2:1(2)"),
+]
+
 WORDS = [
     ("cuts and grants on several resources", WIDE, """
         Q 10 0  granted         # 2/2
@@ -350,6 +534,10 @@ WIDTHS = [
         R 2 0   to 3            # 1/1
         Q 0 0   waits 60 121
      """, f"0:1/1:0({' '.join(map(str, range(3, 63)))} 0)"),
+    ("one of 63 in a queue gives up and asks again", CROWD, "Q 0 0 granted \n" + "\n".join(f"Q {u} 0 waits {u} {2 * u + 1}" for u in range(1, 63)) + """
+        W 31 0  left
+        Q 31 0  waits 62 125    # 62 + 63 x 1
+     """, f"0:1/1:0({' '.join(str(u) for u in range(63) if u != 31)} 31)"),
     # before u of them stand 62,000 + 61,000 + .. ticks, in units of 1,000 the sum of 62 - j over j below u
     ("long hold times and limits", LONG, "Q 0 0 granted \n"
      + "\n".join(f"Q {u} 0 waits {u} {1000 * (62 * u - u * (u - 1) // 2 + u + 1)}" for u in range(1, 61)) + """
@@ -382,6 +570,8 @@ REFUSALS = [
         Q 2 0   refused 13
         Q 2 2   refused 12
         R 1 0   refused 16
+        W 1 0   refused 23
+        W 2 0   refused 23
      """, "nobody"),
     ("requests refused 15", PAPER, """
         Q 2 0   granted
@@ -426,11 +616,49 @@ REFUSALS = [
         R 1 0   refused 16
         R 2 0   to 1
      """, "0:3/3:0(0)"),
+    ("give-ups refused", PAPER, """
+        W 1 0   refused 23      # nobody is in line
+        Q 2 0   granted         # r1: 3/10
+        Q 1 0   waits 1 17
+        Q 11 0  waits 0 10
+        Q 3 1   granted         # r2: 10/10
+        Q 12 1  waits 0 10
+        W 6 0   refused 11
+        W 6 3   refused 11      # before 12
+        W 0 255 refused 11
+        W 1 3   refused 12      # before 23
+        W 2 16  refused 12
+        W 11 255 refused 12
+        W 2 0   refused 23      # holds it
+        W 3 1   refused 23      # holds it
+        W 4 0   refused 23      # not in line
+        W 13 0  refused 23      # not in line, of a processor that is
+        W 11 1  refused 23      # waits for another
+        W 12 0  refused 23      # waits for another
+        W 2 1   refused 23      # holds another, and has no section on this
+        W 1 1   refused 23      # waits for another, and has no section on this
+        W 5 0   refused 23      # not in line, and no section on it
+        W 1 2   refused 23      # local, with a section on it
+        W 5 2   refused 23      # local, and not in line
+        W 11 2  refused 23      # local, with no section on it
+        W 11 0  left
+        W 11 0  refused 23      # no more
+        W 1 0   left
+     """, "0:3/10:0(1) 1:10/10:0(2)1(6)"),
+    ("a give-up after a cut, and after a grant", PAIR, """
+        Q 1 0   granted         # 3/3
+        Q 3 0   waits 0 3
+        2 T     tick 0 0 0
+        T       tick 1 1 1      # to tag 3
+        W 1 0   refused 23
+        W 3 0   refused 23
+     """, "0:2/2:1(2)"),
     ("three bytes that are no call", LISTING, """
         Q 20 0  granted         # 3/3
         X 10 0  none
         X 0 0   none
         q 10 0  none
+        w 10 0  none
         T 0 1   none
         T 1 0   none
         T 10 0  none
@@ -438,7 +666,7 @@ REFUSALS = [
      """, "0:2/2:1(1)"),
 ]
 
-LISTS = AGREED + TURNS + PLACES + WORDS + WIDTHS + REFUSALS
+LISTS = AGREED + TURNS + PLACES + GIVE_UPS + WORDS + WIDTHS + REFUSALS
 
 # ---- the records ----
 

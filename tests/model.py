@@ -1,4 +1,4 @@
-"""The analysis and the machine in document 01's words: a second look at the results in machine_cases.py and sheet_cases.py.
+"""The analysis and the machine in the words of documents 01 and 02: a second look at the results in machine_cases.py and sheet_cases.py.
 
 A line is what is kept of one resource: the turns, each a processor with its tasks in line, the hold left and the budget left.
 """
@@ -177,6 +177,15 @@ class Machine:
         self.leave(q)
         return "free" if self.holder(q) is None else f"to {self.plan.tasks[self.holder(q)].tag}"
 
+    def give_up(self, i, q):
+        """A task that waits for q leaves, and its processor with it where it has no other in line."""
+        line = self.lines[q]
+        if i == self.holder(q) or not any(i in tasks for _, tasks in line.turns):
+            return "refused 23"
+        rest = [(k, [u for u in tasks if u != i]) for k, tasks in line.turns]
+        line.turns = [(k, tasks) for k, tasks in rest if tasks]
+        return "left"
+
     def tick(self):
         held = [q for q in range(16) if self.lines[q].turns]
         for q in held:
@@ -190,14 +199,15 @@ class Machine:
 
     def call(self, letter, tag, q):
         """What a call is answered; `none` where this is no call."""
-        if letter not in "QR":
+        calls = {"Q": self.request, "R": self.release, "W": self.give_up}
+        if letter not in calls:
             return self.tick() if (letter, tag, q) == ("T", 0, 0) else "none"
         tags = [t.tag for t in self.plan.tasks]
         if tag not in tags:
             return "refused 11"
         if q >= len(self.plan.names):
             return "refused 12"
-        return self.request(tags.index(tag), q) if letter == "Q" else self.release(tags.index(tag), q)
+        return calls[letter](tags.index(tag), q)
 
     def shown(self):
         """For each resource that is held the hold left, the budget left, and its processors with their tasks."""

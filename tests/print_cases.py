@@ -1,12 +1,12 @@
 """The cases of the lines that calls print: every kind of line, buffers that are just long enough or too short by one, and what is refused.
 
-Each case has a label, a plan, how many bytes are lent for each line, and calls with their lines, written here by hand from document 01;
-some have a state that the calls begin on, or lines that go into one buffer.
+Each case has a label, a plan, how many bytes are lent for each line, and calls with their lines, written here by hand from documents 01
+and 02; some have a state that the calls begin on, or lines that go into one buffer.
 """
 from analysis_cases import LISTING, PAPER
 from machine_cases import PAIR, body, call_bytes
 from plan_cases import BREAKS, GOOD, Plan, Section, Task, file, word
-from state_cases import FRESH, THREE, TWO, paper_state
+from state_cases import BEHIND, FRESH, THREE, TWO, paper_state
 
 SHORT = "refused 10 unchanged"
 UNSOUND = "refused 19 unchanged"
@@ -37,11 +37,21 @@ LISTS = [
         (("Q", 3, 0), "waits 3 bus 0 3"),
         (("R", 1, 0), "released 1 bus to 3"),
     ]),
+    ("a give-up", PAIR, 96, [
+        (("Q", 1, 0), "granted 1 bus"),
+        (("Q", 3, 0), "waits 3 bus 0 3"),
+        (("W", 3, 0), "left 3 bus"),
+        (("W", 3, 0), "refused 23"),
+        (("Q", 3, 0), "waits 3 bus 0 3"),
+        (("R", 1, 0), "released 1 bus to 3"),
+    ]),
     ("behind 61 tasks", LONGEST, 96, [crowd(u) for u in range(62)] + [
+        (("W", 254, 0), "left 254 converter-in"),
         (("R", 193, 0), "released 193 converter-in to 194"),
     ]),
     ("no calls", LISTING, 96, [
         (("q", 20, 0), "refused 21"),
+        (("w", 20, 0), "refused 21"),
         (("T", 1, 0), "refused 21"),
         (("T", 0, 1), "refused 21"),
         (("\0", 0, 0), "refused 21"),
@@ -55,6 +65,9 @@ LISTS = [
         (("Q", 1, 0), "granted 1 r1"),
         (("Q", 1, 0), "refused 15"),
         (("R", 2, 0), "refused 16"),
+        (("W", 99, 3), "refused 11"),
+        (("W", 1, 3), "refused 12"),
+        (("W", 1, 0), "refused 23"),
     ]),
     # "granted 20 bus" and its end are 15 bytes
     ("just long enough", LISTING, 15, [(("Q", 20, 0), "granted 20 bus")]),
@@ -71,10 +84,10 @@ LISTS = [
 ]
 
 
-# two that are calls and two that are none
-SOME = [("Q", 20, 0), ("T", 0, 0), ("x", 0, 0), ("T", 1, 0)]
+# three that are calls and two that are none
+SOME = [("Q", 20, 0), ("W", 10, 0), ("T", 0, 0), ("x", 0, 0), ("T", 1, 0)]
 
-# lists on a given state: TWO has two ticks left of the first task
+# lists on a given state: TWO has two ticks left of the first task, in BEHIND tag 10 waits
 ON_STATES = [
     ("held", PAIR, TWO, 96, [
         (("Q", 2, 0), "waits 2 bus 1 7"),
@@ -82,6 +95,9 @@ ON_STATES = [
         (("R", 1, 0), "released 1 bus to 2"),
     ]),
     ("held, one byte too short", PAIR, TWO, 15, [(("Q", 2, 0), SHORT), (("Q", 2, 0), SHORT), (("T", 0, 0), "tick 0 0")]),
+    # "left 10 bus" and its end are 12 bytes
+    ("a give-up, just long enough", LISTING, BEHIND, 12, [(("W", 10, 0), "left 10 bus"), (("W", 10, 0), "refused 23")]),
+    ("a give-up, one byte too short", LISTING, BEHIND, 11, [(("W", 10, 0), SHORT), (("W", 10, 0), SHORT), (("T", 0, 0), "tick 0 0")]),
     ("not sound", PAPER, paper_state(0, 5), 96, [(call, UNSOUND) for call in SOME]),
     ("not sound, no room", PAPER, paper_state(0, 5), 0, [(call, UNSOUND) for call in SOME]),
     ("sound by another plan", LISTING, THREE, 96, [(("R", 10, 0), UNSOUND)]),
@@ -100,6 +116,10 @@ AT_ONCE = [
     ("just long enough", FRESH, 96, ASKED[:1], b"Q\x0a\0T\0\0", "0:3/3:1(1)"),
     ("no calls", FRESH, 96, [(("x", 0, 0), "refused 21")], b"x\0\0", "nobody"),
     ("on a state", TWO, 1024, [(("T", 0, 0), "tick 0 0"), (("T", 0, 0), "tick 1 0")], b"", "nobody"),
+    ("a give-up", BEHIND, 1024, [(("W", 10, 0), "left 10 bus"), (("W", 20, 0), "refused 23")], b"W\x14", "0:3/3:1(1)"),
+    # the first line takes 12 bytes, the second begins where 96 are left
+    ("a give-up, room for one more", BEHIND, 108, [(("W", 10, 0), "left 10 bus"), (("T", 0, 0), "tick 0 0")], b"", "0:2/2:1(1)"),
+    ("a give-up, one byte too short for one more", BEHIND, 107, [(("W", 10, 0), "left 10 bus")], b"T\0\0", "0:3/3:1(1)"),
     ("no whole call", FRESH, 1024, [], b"Q\x14", "nobody"),
     ("no whole call and no room", FRESH, 0, [], b"Q\x14", "nobody"),
     ("nothing", FRESH, 0, [], b"", "nobody"),

@@ -1,6 +1,6 @@
 """The cases of the machine that are not for proof, as one call on a given state: sound states at their edges, and states that are not.
 
-Each case has a label, a plan, a state, a call and its result, worked out here by hand from document 01; the model has to agree.
+Each case has a label, a plan, a state, a call and its result, worked out here by hand from documents 01 and 02; the model has to agree.
 """
 import model
 from analysis_cases import BARE, EIGHT, LISTING, PAPER, SILENT
@@ -47,6 +47,10 @@ TWO = image({0: ([0], 2, 2)}, {0: (0, 0)})
 THREE = image({0: ([0], 3, 3)}, {0: (0, 0)})
 # tag 1 was just granted r1 of PAPER
 GRANTED = image({0: ([0], 2, 10)}, {0: (0, 0)})
+# LISTING: tag 20 was just granted the bus, and tag 10 waits
+BEHIND = image({0: ([1, 0], 3, 3)}, {1: (0, 0), 0: (0, 0)})
+# paper_state with tag 1 behind 2 and 4
+THIRD = image({0: ([1, 0], 3, 5), 1: ([0], 4, 6)}, STANDING | {0: (0, 2)})
 
 # label, plan, state, call and result, with what the next state shows where the call is not refused
 SOUND = [
@@ -70,6 +74,26 @@ SOUND = [
     ("held, refused 14", PAPER, paper_state(), "Q 4 2", "refused 14 unchanged"),
     ("held, refused 15", PAPER, paper_state(), "Q 12 1", "refused 15 unchanged"),
     ("held, refused 16", PAPER, paper_state(), "R 11 0", "refused 16 unchanged"),
+    ("fresh, a give-up", PAPER, FRESH, "W 11 0", "refused 23 unchanged"),
+    ("fresh, a give-up of tag 257", PAPER, FRESH, "W 257 0", "refused 11 unchanged"),
+    ("held, a give-up of the head's second", PAPER, paper_state(), "W 11 0", "left changed | 0:3/5:1(6)0(1 3) 1:4/6:0(2)"),
+    ("held, a give-up of the first of another", PAPER, paper_state(), "W 2 0", "left changed | 0:3/5:1(6 5)0(3) 1:4/6:0(2)"),
+    ("held, a give-up of the last of another", PAPER, paper_state(), "W 4 0", "left changed | 0:3/5:1(6 5)0(1) 1:4/6:0(2)"),
+    ("three in line, a give-up of the first", PAPER, THIRD, "W 2 0", "left changed | 0:3/5:1(6 5)0(3 0) 1:4/6:0(2)"),
+    ("three in line, a give-up of the second", PAPER, THIRD, "W 4 0", "left changed | 0:3/5:1(6 5)0(1 0) 1:4/6:0(2)"),
+    ("three in line, a give-up of the third", PAPER, THIRD, "W 1 0", "left changed | 0:3/5:1(6 5)0(1 3) 1:4/6:0(2)"),
+    ("held, a give-up of the only task of a core", LISTING, BEHIND, "W 10 0", "left changed | 0:3/3:1(1)"),
+    ("held, a give-up of the holder", PAPER, paper_state(), "W 12 0", "refused 23 unchanged"),
+    ("held, a give-up of the holder, alone", PAPER, paper_state(), "W 3 1", "refused 23 unchanged"),
+    ("held, a give-up of who waits for another", PAPER, paper_state(), "W 11 1", "refused 23 unchanged"),
+    ("held, a give-up of who holds another", PAPER, paper_state(), "W 12 1", "refused 23 unchanged"),
+    ("held, a give-up of an idle task", PAPER, paper_state(), "W 13 0", "refused 23 unchanged"),
+    ("held, a give-up of a local one", PAPER, paper_state(), "W 4 2", "refused 23 unchanged"),
+    ("held, a give-up of one with no section", PAPER, paper_state(), "W 2 1", "refused 23 unchanged"),
+    ("held, a give-up refused 11", PAPER, paper_state(), "W 99 3", "refused 11 unchanged"),
+    ("held, a give-up of tag 267", PAPER, paper_state(), "W 267 0", "refused 11 unchanged"),
+    ("held, a give-up refused 12", PAPER, paper_state(), "W 11 3", "refused 12 unchanged"),
+    ("hold left 1, a give-up", PAPER, paper_state(1, 1), "W 11 0", "left changed | 0:1/1:1(6)0(1 3) 1:4/6:0(2)"),
     ("hold left at the hold time", PAPER, paper_state(4, 5), "T", "tick 0 0 0 changed | 0:3/4:1(6 5)0(1 3) 1:3/5:0(2)"),
     ("hold left at both", PAPER, paper_state(4, 4), "T", "tick 0 0 0 changed | 0:3/3:1(6 5)0(1 3) 1:3/5:0(2)"),
     ("hold left at the budget left", PAPER, paper_state(3, 3), "T", "tick 0 0 0 changed | 0:2/2:1(6 5)0(1 3) 1:3/5:0(2)"),
@@ -81,6 +105,10 @@ SOUND = [
     ("both at the budget", PAPER, image({0: ([1], 7, 7)}, {7: (0, 0)}), "R 13 0", "free changed | nobody"),
     ("eight processors, a tick", EIGHT, FULL, "T", "tick 0 0 0 changed | 0:7/7:7(7)0(0)6(6)1(1)5(5)2(2)4(4)3(3)"),
     ("eight processors, a release", EIGHT, FULL, "R 7 0", "to 0 changed | 0:1/1:0(0)6(6)1(1)5(5)2(2)4(4)3(3)"),
+    ("eight processors, a give-up behind the head", EIGHT, FULL, "W 0 0", "left changed | 0:8/8:7(7)6(6)1(1)5(5)2(2)4(4)3(3)"),
+    ("eight processors, a give-up in the middle", EIGHT, FULL, "W 5 0", "left changed | 0:8/8:7(7)0(0)6(6)1(1)2(2)4(4)3(3)"),
+    ("eight processors, a give-up at the tail", EIGHT, FULL, "W 3 0", "left changed | 0:8/8:7(7)0(0)6(6)1(1)5(5)2(2)4(4)"),
+    ("eight processors, a give-up of the head", EIGHT, FULL, "W 7 0", "refused 23 unchanged"),
     ("two ticks left, by LISTING", LISTING, TWO, "Q 20 0", "waits 0 2 changed | 0:2/2:0(0)1(1)"),
     ("two ticks left, by PAIR", PAIR, TWO, "Q 2 0", "waits 1 7 changed | 0:2/2:0(0 1)"),
     ("two ticks left, by PAPER", PAPER, TWO, "Q 2 0", "waits 1 16 changed | 0:2/2:0(0 1)"),
@@ -208,7 +236,7 @@ UNSOUND = [(label, PAPER, state) for label, state in CLOCKS + SLOTS + TASKS] + [
 ]
 
 # calls that are refused on a sound state too, by a number that comes after 19
-AFTER_19 = ["Q 99 0", "Q 1 3", "Q 1 1", "Q 4 2", "Q 12 1", "R 99 0", "R 1 3", "R 11 0"]
+AFTER_19 = ["Q 99 0", "Q 1 3", "Q 1 1", "Q 4 2", "Q 12 1", "R 99 0", "R 1 3", "R 11 0", "W 99 0", "W 11 3", "W 12 0"]
 
 # ---- the records ----
 
@@ -240,7 +268,7 @@ def one_case(label, plan, state, text, result):
 def state_cases():
     found = [one_case(*row) for row in SOUND]
     for label, plan, state in UNSOUND:
-        for text in ["T", "Q 1 0", "R 12 0"]:
+        for text in ["T", "Q 1 0", "R 12 0", "W 11 0"]:
             found.append(one_case(f"{label}, {text}", plan, state, text, "refused 19 unchanged"))
     for text in AFTER_19:
         found.append(one_case(f"not sound, {text}", PAPER, paper_state(0, 5), text, "refused 19 unchanged"))
@@ -252,11 +280,11 @@ def refused_plans():
     found = []
     bad = [(str(number), ways[0](file(GOOD)), number) for number, ways in BREAKS.items()] + [("1, with no bytes", b"", 1)]
     for name, content, k in bad:
-        calls = [("Q", 10, 0), ("R", 99, 9), ("T", 0, 0), ("X", 0, 0)]
-        result = f"refused {k}; refused {k}; refused {k}; refused {k}; none | nobody run"
+        calls = [("Q", 10, 0), ("R", 99, 9), ("W", 99, 9), ("T", 0, 0), ("X", 0, 0)]
+        result = f"refused {k}; refused {k}; refused {k}; refused {k}; refused {k}; none | nobody run"
         found.append((b"M", f"calls of a plan that breaks {name}", body(content, *[call_bytes(*call) for call in calls]), result))
         for how, state in [("fresh", FRESH), ("not sound", put(FRESH, in_line(0), 9))]:
-            for call in calls[:3]:
+            for call in calls[:4]:
                 label = f"{call[0]} on a state that is {how}, of a plan that breaks {name}"
                 found.append((b"S", label, body(content, state, wide_call(*call)), f"refused {k} unchanged"))
     return found

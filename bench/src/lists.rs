@@ -3,7 +3,7 @@
 use compare::lists::{holder, TICK};
 use compare::random::Random;
 use peer::calls::{Call, TUNED};
-use peer::machine::{Standing, State};
+use peer::machine::{Standing, State, NONE};
 use peer::Plan;
 
 /// Each task of the `long` plan asks for the resource of its first section, then ticks: none of them ends a hold.
@@ -39,19 +39,43 @@ pub fn turns(count: usize) -> Vec<u8> {
     asks.chain(again).flatten().collect()
 }
 
-/// A call that often does something: a request by a task of the plan, a release by a holder, a tick, now and then any bytes.
+/// All tasks of the `narrow` plan ask, but for the last of processor 0; then, in turn, that one asks, behind the 62 others of its
+/// processor, and gives up.
+pub fn give_ups(count: usize) -> Vec<u8> {
+    const LAST: u8 = 62;
+    let asks = (0u8..64).filter(|&i| i != LAST).map(|i| [b'Q', i, 0]);
+    let again = std::iter::repeat_n([[b'Q', LAST, 0], [b'W', LAST, 0]], count);
+    asks.chain(again.flatten()).flatten().collect()
+}
+
+/// A give-up by a task that waits, from a random one on.
+fn give_up(plan: &Plan, state: &State, random: &mut Random) -> Option<[u8; 3]> {
+    let tasks = usize::from(plan.counts.tasks);
+    let start = random.below(tasks);
+    let waits = |row: &usize| {
+        let resource = state.tasks[*row].resource;
+        resource != NONE && holder(plan, state, resource.into()) != Some(*row)
+    };
+    let row = (start..start + tasks).map(|row| row % tasks).find(waits)?;
+    Some([b'W', plan.tasks[row].tag as u8, state.tasks[row].resource])
+}
+
+/// A call that often does something: a request by a task of the plan, a release by a holder, a give-up by a task that waits, a tick,
+/// now and then any bytes.
 pub fn some(plan: &Plan, state: &State, random: &mut Random) -> [u8; 3] {
     let tasks = usize::from(plan.counts.tasks);
     let resource = random.below(usize::from(plan.counts.resources) + 1);
     let tag = plan.tasks[random.below(tasks)].tag as u8;
-    match random.below(16) {
+    match random.below(19) {
         0 => [random.number() as u8, random.number() as u8, resource as u8],
         1 => [b'R', tag, resource as u8],
-        2..=4 => match holder(plan, state, resource % 16) {
+        2 => [b'W', tag, resource as u8],
+        3..=4 => give_up(plan, state, random).unwrap_or(TICK),
+        5..=7 => match holder(plan, state, resource % 16) {
             Some(row) => [b'R', plan.tasks[row].tag as u8, resource as u8],
             None => TICK,
         },
-        5..=7 => TICK,
+        8..=10 => TICK,
         _ => {
             let count = usize::from(plan.counts.sections).max(1);
             let section = plan.sections[random.below(count)];

@@ -114,6 +114,11 @@ fn machine() {
             plans::narrow(),
             lists::turns(320),
         ),
+        (
+            "a request and a give-up behind 62 tasks, in turn",
+            plans::narrow(),
+            lists::give_ups(320),
+        ),
     ];
     for (what, plan, calls) in lists {
         for (which, other) in [

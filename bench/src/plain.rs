@@ -66,6 +66,7 @@ pub fn answer_number(answer: &Answer) -> u64 {
         Answer::Ticked { cuts, grants } => {
             1280 + (u64::from(cuts) << 16) + (u64::from(grants) << 32)
         }
+        Answer::Left => 1536,
         Answer::Refused(k) => k.into(),
     }
 }

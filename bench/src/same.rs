@@ -68,7 +68,7 @@ pub fn sheets(count: usize) {
 /// `count` lists of calls on as many plans: the answer to each call, and all of the state after each list.
 pub fn lists(count: usize, length: usize) {
     let mut random = Random(START);
-    let mut met = [0; 6];
+    let mut met = [0; 7];
     for i in 0..count {
         let file = plans::some(&mut random);
         let plan = peer::read(&file).expect("the plan keeps the rules");
@@ -98,6 +98,6 @@ pub fn lists(count: usize, length: usize) {
     println!(
         "{count} lists of {length} calls: the same answers and the same last states from both"
     );
-    let [refused, granted, waits, next, free, ticks] = met;
-    println!("  {granted} granted, {waits} waits, {next} to another, {free} free, {ticks} ticks, {refused} refused");
+    let [refused, granted, waits, next, free, ticks, left] = met;
+    println!("  {granted} granted, {waits} waits, {next} to another, {free} free, {left} left, {ticks} ticks, {refused} refused");
 }

@@ -1,7 +1,7 @@
 //! Made cases of each kind, as the case program takes them.
 
 use compare::damage::maybe_broken;
-use compare::lists::{Habits, Maker, GREEDY};
+use compare::lists::{Habits, Maker, FICKLE, GREEDY};
 use compare::plans::{self, Size};
 use compare::random::Random;
 use peer::cases::{state_bytes, LONGEST_LINE, ROOM, SHEET_ROOM};
@@ -21,7 +21,8 @@ pub fn case(kind: u8, number: usize) -> Vec<u8> {
         b'R' => reading(random),
         b'W' => writing(random),
         b'M' => listing(random),
-        b'V' if number == 0 => at_the_limit(),
+        b'V' if number == 0 => three_tasks(AT_THE_LIMIT),
+        b'V' if number == 1 => three_tasks(WITH_GIVE_UPS),
         b'V' => watched(random),
         b'P' => printing(random),
         b'O' => printing_on(random),
@@ -169,12 +170,16 @@ fn printing_at_once(random: &mut Random) -> Vec<u8> {
     )
 }
 
-/// Lists whose every state is shown: most of them greedy and on small plans, so that waits come near their limits.
+/// Lists whose every state is shown: most of them greedy or fickle and on small plans, so that waits come near their limits.
 fn watched(random: &mut Random) -> Vec<u8> {
-    let (size, habits, count) = match random.below(8) {
-        0..=4 => (Size::tiny(random), GREEDY, random.within(20, 300)),
-        5 => (Size::crowded(random), GREEDY, random.within(100, 600)),
-        6 => (Size::some(random), Habits::some(random), random.below(100)),
+    let (size, habits, count) = match random.below(10) {
+        0..=3 => (Size::tiny(random), GREEDY, random.within(20, 300)),
+        4..=6 => (Size::tiny(random), FICKLE, random.within(20, 300)),
+        7 => {
+            let habits = [GREEDY, FICKLE][random.below(2)];
+            (Size::crowded(random), habits, random.within(100, 600))
+        }
+        8 => (Size::some(random), Habits::some(random), random.below(100)),
         _ => (Size::tiny(random), Habits::some(random), random.below(300)),
     };
     let good = plans::some(size, random);
@@ -183,9 +188,18 @@ fn watched(random: &mut Random) -> Vec<u8> {
     after_length(&file, &calls)
 }
 
-/// Processor 0 has two tasks with a section of 3 each, processor 1 one with a section of 2, which asks again when it was cut:
-/// the last task of processor 0 is told 7 and granted at the seventh tick.
-fn at_the_limit() -> Vec<u8> {
+/// Whoever was cut asks again: the last task of processor 0 is told 7 and granted at the seventh tick.
+const AT_THE_LIMIT: &[u8] = b"Q\x03\0Q\x01\0Q\x02\0T\0\0T\0\0Q\x03\0T\0\0T\0\0T\0\0T\0\0T\0\0T\0\0";
+
+/// The same, but that the task of processor 1 gives up and asks again at once, which changes nothing of it. Then it asks, gives up
+/// a tick later, and asks when the other fellow of processor 0 was granted: it waits all 3 ticks that it is told, counted from there,
+/// and so does its processor, which had left the queue.
+const WITH_GIVE_UPS: &[u8] =
+    b"Q\x03\0Q\x01\0Q\x02\0T\0\0T\0\0Q\x03\0W\x03\0Q\x03\0T\0\0T\0\0T\0\0T\0\0T\0\0\
+    Q\x01\0Q\x03\0T\0\0W\x03\0T\0\0T\0\0Q\x03\0T\0\0T\0\0T\0\0";
+
+/// Calls on a plan in which processor 0 has two tasks with a section of 3 each, processor 1 one with a section of 2.
+fn three_tasks(calls: &[u8]) -> Vec<u8> {
     let file = [
         &[1, 2, 3, 1, 3, 0, 16, 0, 40, 0, 44, 0, 56, 0, 59, 0][..],
         &[0, 1, 1, 0, 50, 0, 9, 0],
@@ -198,7 +212,6 @@ fn at_the_limit() -> Vec<u8> {
         b"bus",
     ]
     .concat();
-    let calls = b"Q\x03\0Q\x01\0Q\x02\0T\0\0T\0\0Q\x03\0T\0\0T\0\0T\0\0T\0\0T\0\0T\0\0";
     after_length(&file, calls)
 }
 
@@ -232,6 +245,7 @@ fn calling(random: &mut Random) -> Vec<u8> {
     let file = plans::some(Size::some(random), random);
     let habits = Habits {
         wrong: 1,
+        give_ups: random.within(1, 3),
         ..Habits::some(random)
     };
     let mut maker = Maker::new(&file, habits);

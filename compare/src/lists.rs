@@ -12,6 +12,7 @@ pub const TICK: [u8; 3] = [b'T', 0, 0];
 pub struct Habits {
     pub requests: usize,
     pub releases: usize,
+    pub give_ups: usize,
     pub ticks: usize,
     /// Calls that are mostly refused.
     pub wrong: usize,
@@ -25,23 +26,34 @@ pub struct Habits {
 pub const GREEDY: Habits = Habits {
     requests: usize::MAX,
     releases: 0,
+    give_ups: 0,
     ticks: 1,
     wrong: 0,
     odd: 0,
     run: 1,
 };
 
+/// As greedy, but now and then one that waits gives up, and then asks again.
+pub const FICKLE: Habits = Habits {
+    give_ups: 1,
+    ..GREEDY
+};
+/// So many calls of a fickle list for each give-up.
+const PATIENCE: usize = 6;
+
 impl Habits {
     /// Some that fill the queues, some that empty them.
     pub fn some(random: &mut Random) -> Habits {
-        match random.below(6) {
+        match random.below(7) {
             0 => GREEDY,
+            1 => FICKLE,
             kind => Habits {
                 requests: random.within(2, 12),
                 releases: random.within(0, 4),
+                give_ups: random.within(0, 3),
                 ticks: random.within(1, 4),
                 wrong: kind % 2,
-                odd: kind / 5,
+                odd: kind / 6,
                 run: random.within(1, 12),
             },
         }
@@ -135,11 +147,29 @@ impl<'a> Maker<'a> {
         Some([b'R', self.tag(row), q as u8])
     }
 
+    /// A give-up of a task that waits, found from a random section on.
+    fn give_up(&self, random: &mut Random) -> Option<[u8; 3]> {
+        let start = random.below(self.shared.len().max(1));
+        let (behind, front) = self.shared.split_at(start.min(self.shared.len()));
+        let waits = |s: &&Section| {
+            let (row, q) = (usize::from(s.task), usize::from(s.resource));
+            self.state.tasks[row].resource == s.resource
+                && holder(&self.plan, &self.state, q) != Some(row)
+        };
+        let s = front.iter().chain(behind).find(waits)?;
+        Some([b'W', self.tag(s.task.into()), s.resource])
+    }
+
+    /// The same call with the letter of a give-up.
+    fn as_give_up(call: Option<[u8; 3]>) -> Option<[u8; 3]> {
+        call.map(|[_, tag, resource]| [b'W', tag, resource])
+    }
+
     /// A call that is refused, but for some that happen to be right.
     fn wrong(&self, random: &mut Random) -> Option<[u8; 3]> {
-        let letter = [b'Q', b'R'][random.below(2)];
+        let letter = b"QRW"[random.below(3)];
         let resource = random.below(usize::from(self.plan.counts.resources) + 1) as u8;
-        match random.below(8) {
+        match random.below(11) {
             0 => Some([letter, random.byte(), resource]),
             1 => Some([letter, self.some_tag(random), random.byte()]),
             2..=3 => Some([letter, self.some_tag(random), resource]),
@@ -148,6 +178,10 @@ impl<'a> Maker<'a> {
                 let s = self.section(true, random)?;
                 Some([b'R', self.tag(s.task.into()), s.resource])
             }
+            // By the holder, by an idle task, and by one that is in line, most often for another resource.
+            7 => Self::as_give_up(self.release(random)),
+            8 => Self::as_give_up(self.request(false, random)),
+            9 => Self::as_give_up(self.request(true, random)),
             _ => {
                 let s = self.own.get(random.below(self.own.len().max(1)))?;
                 Some([letter, self.tag(s.task.into()), s.resource])
@@ -160,7 +194,7 @@ impl<'a> Maker<'a> {
         match random.below(4) {
             0 => [b'T', random.below(2) as u8, random.below(2) as u8],
             1 => [b'T', random.byte(), 0],
-            2 => [b"qrtSUP\0\n"[random.below(8)], self.some_tag(random), 0],
+            2 => [b"qrtwSUP\0\n"[random.below(9)], self.some_tag(random), 0],
             _ => [random.byte(), random.byte(), random.byte()],
         }
     }
@@ -172,9 +206,13 @@ impl<'a> Maker<'a> {
         }
         let h = self.habits;
         if h.requests == usize::MAX {
-            return self.request(false, random).unwrap_or(TICK);
+            let call = match h.give_ups > 0 && random.once_in(PATIENCE) {
+                true => self.give_up(random),
+                false => self.request(false, random),
+            };
+            return call.unwrap_or(TICK);
         }
-        let kinds = [h.requests, h.releases, h.wrong, h.odd, h.ticks];
+        let kinds = [h.requests, h.releases, h.give_ups, h.wrong, h.odd, h.ticks];
         let mut at = random.below(kinds.iter().sum());
         let kind = kinds.iter().position(|&share| {
             let here = at < share;
@@ -184,8 +222,9 @@ impl<'a> Maker<'a> {
         let call = match kind {
             Some(0) => self.request(false, random),
             Some(1) => self.release(random),
-            Some(2) => self.wrong(random),
-            Some(3) => Some(self.odd(random)),
+            Some(2) => self.give_up(random),
+            Some(3) => self.wrong(random),
+            Some(4) => Some(self.odd(random)),
             _ => {
                 self.ticks_left = random.below(h.run);
                 None

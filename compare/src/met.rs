@@ -6,6 +6,7 @@ pub struct Met {
     waits: usize,
     passed_on: usize,
     freed: usize,
+    left: usize,
     ticks: usize,
     /// Ticks that end a hold.
     cuts: usize,
@@ -19,6 +20,7 @@ impl Default for Met {
             waits: 0,
             passed_on: 0,
             freed: 0,
+            left: 0,
             ticks: 0,
             cuts: 0,
             refused: [0; 256],
@@ -37,6 +39,7 @@ impl Met {
             (Some("to"), _) => self.passed_on += 1,
             (Some("released"), _) if answer.ends_with(" free") => self.freed += 1,
             (Some("released"), _) => self.passed_on += 1,
+            (Some("left"), _) => self.left += 1,
             (Some("tick"), cuts) => {
                 self.ticks += 1;
                 self.cuts += usize::from(cuts != Some("0"));
@@ -54,6 +57,7 @@ impl Met {
         self.waits += other.waits;
         self.passed_on += other.passed_on;
         self.freed += other.freed;
+        self.left += other.left;
         self.ticks += other.ticks;
         self.cuts += other.cuts;
         for (mine, other) in self.refused.iter_mut().zip(&other.refused) {
@@ -63,8 +67,8 @@ impl Met {
 
     pub fn tell(&self) {
         println!(
-            "  {} granted, {} waits, {} passed on, {} freed, {} ticks, {} of them with a cut.",
-            self.granted, self.waits, self.passed_on, self.freed, self.ticks, self.cuts
+            "  {} granted, {} waits, {} passed on, {} freed, {} left, {} ticks, {} of them with a cut.",
+            self.granted, self.waits, self.passed_on, self.freed, self.left, self.ticks, self.cuts
         );
         self.tell_refused();
     }

@@ -8,6 +8,7 @@ pub struct Machine {
     pub start: fn(&[u8]) -> (u8, State),
     pub request: fn(&[u8], &State, u16, u8) -> (Answer, State),
     pub release: fn(&[u8], &State, u16, u8) -> (Answer, State),
+    pub give_up: fn(&[u8], &State, u16, u8) -> (Answer, State),
     pub tick: fn(&[u8], &State) -> (Answer, State),
     /// The state after a list of calls from a fresh state on.
     pub run: fn(&[u8], &[u8]) -> State,
@@ -18,6 +19,7 @@ pub const TUNED: Machine = Machine {
     start: machine::start,
     request: machine::request,
     release: machine::release,
+    give_up: machine::give_up,
     tick: machine::tick,
     run: |file, calls| machine::run(file, calls, &mut |_, _| ()),
 };
@@ -27,6 +29,7 @@ pub const PLAIN: Machine = Machine {
     start: plain::start,
     request: plain::request,
     release: plain::release,
+    give_up: plain::give_up,
     tick: plain::tick,
     run: plain::run,
 };
@@ -63,6 +66,7 @@ impl Call {
 pub trait Operations {
     fn request(&mut self, state: &State, tag: u16, resource: u8) -> (Answer, State);
     fn release(&mut self, state: &State, tag: u16, resource: u8) -> (Answer, State);
+    fn give_up(&mut self, state: &State, tag: u16, resource: u8) -> (Answer, State);
     fn tick(&mut self, state: &State) -> (Answer, State);
 
     /// The answer to a call, and the next state; none where it is no call: another letter, or a tick with a tag or a resource.
@@ -72,6 +76,7 @@ pub trait Operations {
         match call.letter {
             b'Q' => Some(self.request(state, tag, resource)),
             b'R' => Some(self.release(state, tag, resource)),
+            b'W' => Some(self.give_up(state, tag, resource)),
             b'T' if tag == 0 && resource == 0 => Some(self.tick(state)),
             _ => None,
         }
@@ -96,6 +101,11 @@ impl Operations for OnFile<'_> {
     }
 
     #[inline]
+    fn give_up(&mut self, state: &State, tag: u16, resource: u8) -> (Answer, State) {
+        (self.machine.give_up)(self.file, state, tag, resource)
+    }
+
+    #[inline]
     fn tick(&mut self, state: &State) -> (Answer, State) {
         (self.machine.tick)(self.file, state)
     }
@@ -110,6 +120,11 @@ impl Operations for Once<'_> {
     #[inline]
     fn release(&mut self, state: &State, tag: u16, resource: u8) -> (Answer, State) {
         Once::release(self, state, tag, resource)
+    }
+
+    #[inline]
+    fn give_up(&mut self, state: &State, tag: u16, resource: u8) -> (Answer, State) {
+        Once::give_up(self, state, tag, resource)
     }
 
     #[inline]

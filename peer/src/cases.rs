@@ -200,6 +200,7 @@ fn answered(answer: Answer) -> Result<String, u8> {
         Answer::Next(tag) => format!("to {tag}"),
         Answer::Free => "free".to_string(),
         Answer::Ticked { cuts, grants } => format!("tick {cuts} {grants} {}", cuts.count_ones()),
+        Answer::Left => "left".to_string(),
         Answer::Refused(number) => return Err(number),
     })
 }

@@ -1,4 +1,4 @@
-//! The machine of document 01, which grants global resources by Rules 4 to 6 of the paper.
+//! The machine of document 01, which grants global resources by Rules 4 to 6 of the paper, with the give-up of document 02.
 //!
 //! Each call checks the file and the state it is given, and gives its answer with the next state; after a refusal that is
 //! the state given. What it needs stands in tables of fixed size: longest sections from one pass over the sections, then
@@ -13,6 +13,7 @@ use crate::{read, Plan, Refusal, MAX_PROCESSORS, MAX_RESOURCES, MAX_TASKS};
 const IN_LINE: u8 = 15;
 const NOT_HELD: u8 = 16;
 const NOT_SOUND: u8 = 19;
+const NOT_WAITING: u8 = 23;
 
 /// Stands where there is no resource, place, processor or task.
 pub const NONE: u8 = u8::MAX;
@@ -53,6 +54,8 @@ pub enum Answer {
         cuts: u16,
         grants: u16,
     },
+    /// The task gave up.
+    Left,
     Refused(u8),
 }
 
@@ -89,10 +92,13 @@ impl Line {
         self.queued += 1;
     }
 
-    /// The head leaves, and those behind it move up.
-    fn leave(&mut self) {
+    /// The processor at a place leaves, and those behind it move up.
+    #[inline]
+    fn leave(&mut self, place: usize) {
         let queue = u64::from_le_bytes(self.queue);
-        self.queue = (queue >> 8 | u64::from(NONE) << 56).to_le_bytes();
+        let moved = queue >> 8 | u64::from(NONE) << 56;
+        let behind = u64::MAX << (8 * place);
+        self.queue = (queue & !behind | moved & behind).to_le_bytes();
         self.queued -= 1;
     }
 }
@@ -396,7 +402,7 @@ impl Tables<'_, '_> {
     /// Gives the task that is granted, if any.
     fn pass_on(&mut self, q: usize, line: &mut Line, follower: u8) -> Option<usize> {
         if follower == NONE {
-            line.leave();
+            line.leave(0);
             if line.queued == 0 {
                 *line = Line::FREE;
                 return None;
@@ -411,7 +417,7 @@ impl Tables<'_, '_> {
         }
         let k = line.head();
         self.first[slot(q, k)] = follower;
-        line.leave();
+        line.leave(0);
         line.join(k);
         Some(self.begin(q, line))
     }
@@ -523,6 +529,35 @@ impl Tables<'_, '_> {
         }))
     }
 
+    fn give_up(&mut self, next: &mut State, row: Found, resource: u8) -> Result<Answer, u8> {
+        let (row, q) = self.asked(row, resource)?;
+        let k = self.figures.plan.tasks[row].processor;
+        let (line, Standing { place, .. }) = (&mut next.lines[q], next.tasks[row]);
+        let holds = (place == 0) & (line.queue[0] == k);
+        if (next.tasks[row].resource != resource) | holds {
+            return Err(NOT_WAITING);
+        }
+        next.tasks[row] = Standing::NONE;
+        let k = usize::from(k) % MAX_PROCESSORS;
+        let count = self.places[slot(q, k)].trailing_ones();
+        if count == 1 {
+            let place = line.queue.iter().position(|&p| usize::from(p) == k);
+            line.leave(place.unwrap_or(0));
+        } else if u32::from(place) + 1 < count {
+            self.close_up(&mut next.tasks, k, Standing { resource, place });
+        }
+        Ok(Answer::Left)
+    }
+
+    /// The tasks of processor `k` that stand behind a place which was left move up.
+    fn close_up(&self, tasks: &mut [Standing; MAX_TASKS], k: usize, left: Standing) {
+        for row in self.figures.order.on(k) {
+            let s = &mut tasks[row];
+            let behind = (s.resource == left.resource) & (s.place > left.place);
+            s.place -= u8::from(behind);
+        }
+    }
+
     fn tick(&mut self, next: &mut State) -> Answer {
         let cuts = count_down(&mut next.lines);
         let mut grants = 0;
@@ -597,6 +632,16 @@ pub fn release(file: &[u8], state: &State, tag: u16, resource: u8) -> (Answer, S
     (answer.unwrap_or_else(Answer::Refused), next)
 }
 
+/// A waiting task leaves the line.
+pub fn give_up(file: &[u8], state: &State, tag: u16, resource: u8) -> (Answer, State) {
+    let mut next = *state;
+    let answer = make_on(file, &mut next, |tables, next| {
+        let row = row_of(tables.figures.plan, tag);
+        tables.give_up(next, row, resource)
+    });
+    (answer.unwrap_or_else(Answer::Refused), next)
+}
+
 /// A tick in which nothing happens.
 const IDLE: Answer = Answer::Ticked { cuts: 0, grants: 0 };
 
@@ -655,6 +700,15 @@ impl Once<'_> {
         (answer.unwrap_or_else(Answer::Refused), next)
     }
 
+    /// A waiting task leaves the line.
+    pub fn give_up(&mut self, state: &State, tag: u16, resource: u8) -> (Answer, State) {
+        let (row, mut next) = (self.row(tag), *state);
+        let answer = make(&mut self.figures, &mut next, |tables, next| {
+            tables.give_up(next, row, resource)
+        });
+        (answer.unwrap_or_else(Answer::Refused), next)
+    }
+
     /// A tick passes.
     pub fn tick(&mut self, state: &State) -> (Answer, State) {
         let mut next = *state;
@@ -676,6 +730,7 @@ pub fn run(file: &[u8], calls: &[u8], each: &mut dyn FnMut(&Answer, &State)) -> 
         let (answer, next) = match (call[0], call[1], call[2]) {
             (b'Q', tag, resource) => request(file, &state, tag.into(), resource),
             (b'R', tag, resource) => release(file, &state, tag.into(), resource),
+            (b'W', tag, resource) => give_up(file, &state, tag.into(), resource),
             (b'T', 0, 0) => tick(file, &state),
             _ => continue,
         };
@@ -733,6 +788,10 @@ mod tests {
             self.took(release(&self.file, &self.state, tag, resource))
         }
 
+        fn w(&mut self, tag: u16, resource: u8) -> Answer {
+            self.took(give_up(&self.file, &self.state, tag, resource))
+        }
+
         fn t(&mut self) -> Answer {
             self.took(tick(&self.file, &self.state))
         }
@@ -742,6 +801,17 @@ mod tests {
             for _ in 0..ticks {
                 assert_eq!(self.t(), ticked(0, 0));
             }
+        }
+
+        /// A give-up that is accepted.
+        fn gone(&mut self, tag: u16, resource: u8) {
+            assert_eq!(self.w(tag, resource), Left);
+        }
+
+        /// The rows of the tasks of processor `k` in line, in order.
+        fn tasks(&self, q: usize, k: usize) -> Vec<usize> {
+            let figures = Figures::of(&self.file);
+            Model::of(&figures, &self.state).tasks[k][q].clone()
         }
 
         /// Hold left and budget left.
@@ -963,10 +1033,15 @@ mod tests {
         assert_eq!(b.state, State::FRESH);
     }
 
+    /// Two tasks of processor 0 with hold times of 3, and one of processor 1 with one of 2.
+    fn three() -> Vec<u8> {
+        let tasks = [(0, 1, 2), (0, 2, 1), (1, 3, 1)];
+        file(2, 1, &tasks, &[(0, 0, 3), (1, 0, 3), (2, 0, 2)])
+    }
+
     #[test]
     fn a_limit_of_seven_met_at_the_seventh_tick() {
-        let tasks = [(0, 1, 2), (0, 2, 1), (1, 3, 1)];
-        let mut b = Bench::new(file(2, 1, &tasks, &[(0, 0, 3), (1, 0, 3), (2, 0, 2)]));
+        let mut b = Bench::new(three());
         assert_eq!(b.q(3, 0), Granted);
         assert_eq!(b.q(1, 0), waits(0, 2));
         assert_eq!(b.q(2, 0), waits(1, 3 + 2 * 2));
@@ -987,6 +1062,119 @@ mod tests {
                 place: 0
             }
         );
+    }
+
+    /// Figure 2 with P2's 12 as holder of R1 and 11 and 13 behind it, and P1's 1, 2 and 4; 3 holds R2. Two ticks are gone.
+    fn two_rows() -> Bench {
+        let mut b = Bench::new(figure2());
+        assert_eq!(b.q(12, 0), Granted);
+        assert_eq!(b.q(11, 0), waits(1, 4 + 2 * 10));
+        assert_eq!(b.q(13, 0), waits(2, 4 + 3 + 3 * 10));
+        assert_eq!(b.q(1, 0), waits(0, 7));
+        assert_eq!(b.q(2, 0), waits(1, 2 + 2 * 7));
+        assert_eq!(b.q(4, 0), waits(2, 2 + 3 + 3 * 7));
+        assert_eq!(b.q(3, 1), Granted);
+        b.quiet(2);
+        assert_eq!((b.queue(0), b.left(0)), (&[1, 0][..], (2, 5)));
+        b
+    }
+
+    #[test]
+    fn a_task_gives_up_at_each_place_of_the_heads_line() {
+        for (tag, rows) in [(11, [6, 7]), (13, [6, 5])] {
+            let mut b = two_rows();
+            let before = b.state;
+            b.gone(tag, 0);
+            assert_eq!(
+                (b.tasks(0, 1), b.tasks(0, 0)),
+                (rows.to_vec(), vec![0, 1, 3])
+            );
+            // Queues of processors, hold left and budget left stay.
+            assert_eq!(b.state.lines, before.lines);
+        }
+    }
+
+    #[test]
+    fn a_task_gives_up_at_each_place_of_another_line() {
+        for (tag, rows, [first, second]) in [
+            (1, [1, 3], [2, 4]),
+            (2, [0, 3], [1, 4]),
+            (4, [0, 1], [1, 2]),
+        ] {
+            let mut b = two_rows();
+            let before = b.state;
+            b.gone(tag, 0);
+            assert_eq!(
+                (b.tasks(0, 0), b.tasks(0, 1)),
+                (rows.to_vec(), vec![6, 5, 7])
+            );
+            assert_eq!(b.state.lines, before.lines);
+            assert_eq!(b.r(12, 0), Next(11));
+            // 13 needs 7 of the 5 that are left.
+            assert_eq!(b.r(11, 0), Next(first));
+            assert_eq!(b.queue(0), [0, 1]);
+            assert_eq!(b.r(first, 0), Next(second));
+        }
+    }
+
+    #[test]
+    fn a_processor_whose_tasks_have_all_given_up_leaves() {
+        let mut b = two_rows();
+        for tag in [2, 1, 4] {
+            assert_eq!(b.queue(0), [1, 0]);
+            b.gone(tag, 0);
+        }
+        assert_eq!((b.queue(0), b.left(0)), (&[1][..], (2, 5)));
+        assert_eq!(b.state.lines[0].queue[1..], [NONE; 7]);
+        // A new place, and a new limit.
+        assert_eq!(b.q(4, 0), waits(0, 7));
+        assert_eq!(b.q(1, 0), waits(1, 10 + 2 * 7));
+    }
+
+    #[test]
+    fn a_task_that_gives_up_and_asks_again_is_last() {
+        let mut b = two_rows();
+        b.gone(1, 0);
+        assert_eq!(b.q(1, 0), waits(2, 3 + 10 + 3 * 7));
+        assert_eq!((b.tasks(0, 0), b.queue(0)), (vec![1, 3, 0], &[1, 0][..]));
+        // It may ask for another resource too.
+        b.gone(11, 0);
+        assert_eq!(b.q(11, 1), waits(0, 10));
+        b.gone(11, 1);
+        assert_eq!((b.queue(1), b.left(1)), (&[0][..], (8, 8)));
+    }
+
+    #[test]
+    fn a_processor_leaves_from_each_place_behind_the_head() {
+        let order = [3, 0, 7, 1, 6, 2, 5, 4];
+        let tasks: Vec<TaskRow> = (0..8).map(|k| (k, 50 + u16::from(k), 1)).collect();
+        let sections: Vec<SectionRow> = (0..8).map(|k| (k, 0, 2)).collect();
+        for place in 1..8 {
+            let mut b = Bench::new(file(8, 1, &tasks, &sections));
+            order.iter().for_each(|&k| {
+                b.q(50 + u16::from(k), 0);
+            });
+            b.quiet(1);
+            b.gone(50 + u16::from(order[place]), 0);
+            let rest: Vec<u8> = order.into_iter().filter(|&k| k != order[place]).collect();
+            assert_eq!((b.queue(0), b.left(0)), (&rest[..], (1, 1)));
+            // It joins again at the tail.
+            assert_eq!(b.q(50 + u16::from(order[place]), 0), waits(0, 14));
+            assert_eq!(b.queue(0), [&rest[..], &order[place..place + 1]].concat());
+        }
+    }
+
+    #[test]
+    fn a_give_up_brings_a_fellow_on_early() {
+        let mut b = Bench::new(three());
+        assert_eq!(b.q(3, 0), Granted);
+        assert_eq!(b.q(1, 0), waits(0, 2));
+        assert_eq!(b.q(2, 0), waits(1, 3 + 2 * 2));
+        b.gone(1, 0);
+        b.quiet(1);
+        // Granted at the second tick, of seven that it was told.
+        assert_eq!(b.t(), ticked(1, 1));
+        assert_eq!((b.tasks(0, 0), b.left(0)), (vec![1], (3, 3)));
     }
 
     #[test]
@@ -1137,6 +1325,36 @@ mod tests {
     }
 
     #[test]
+    fn refusals_of_a_give_up() {
+        let mut b = Bench::new(figure2());
+        for tag in [6, 255, 256 + 1] {
+            assert_eq!(b.w(tag, 3), Refused(11));
+        }
+        for resource in [3, 16, 255] {
+            assert_eq!(b.w(1, resource), Refused(12));
+        }
+        // Nobody is in line: not declared, and local, as well.
+        for (tag, resource) in [(1, 0), (2, 1), (1, 2), (5, 2)] {
+            assert_eq!(b.w(tag, resource), Refused(23));
+        }
+        assert_eq!(b.q(11, 0), Granted);
+        assert_eq!(b.q(12, 0), waits(1, 3 + 2 * 10));
+        assert_eq!(b.q(1, 0), waits(0, 7));
+        assert_eq!(b.q(3, 1), Granted);
+        // The holder, who waits for another one, who is idle, and a local one and one that is not declared.
+        for (tag, resource) in [(11, 0), (3, 1), (12, 1), (11, 1), (13, 0), (1, 2), (1, 1)] {
+            assert_eq!(b.w(tag, resource), Refused(23));
+        }
+        // 11 and 12 come before it.
+        assert_eq!(b.w(6, 0), Refused(11));
+        assert_eq!(b.w(11, 3), Refused(12));
+        b.gone(12, 0);
+        assert_eq!(b.w(12, 0), Refused(23));
+        b.gone(1, 0);
+        assert_eq!(b.r(11, 0), Free);
+    }
+
+    #[test]
     fn refusals_of_the_file_come_first_and_then_19() {
         let mut unsound = State::FRESH;
         unsound.lines[15].hold_left = 1;
@@ -1146,12 +1364,14 @@ mod tests {
                 let expected = (Refused(number), state);
                 assert_eq!(request(&file, &state, 999, 99), expected);
                 assert_eq!(release(&file, &state, 999, 99), expected);
+                assert_eq!(give_up(&file, &state, 999, 99), expected);
                 assert_eq!(tick(&file, &state), expected);
             }
         }
         let expected = (Refused(19), unsound);
         assert_eq!(request(&figure2(), &unsound, 999, 99), expected);
         assert_eq!(release(&figure2(), &unsound, 999, 99), expected);
+        assert_eq!(give_up(&figure2(), &unsound, 999, 99), expected);
         assert_eq!(tick(&figure2(), &unsound), expected);
     }
 
@@ -1245,6 +1465,7 @@ mod tests {
             let expected = (Refused(19), state);
             assert_eq!(request(&b.file, &state, 999, 99), expected, "{what}");
             assert_eq!(release(&b.file, &state, 999, 99), expected, "{what}");
+            assert_eq!(give_up(&b.file, &state, 999, 99), expected, "{what}");
             assert_eq!(tick(&b.file, &state), expected, "{what}");
         }
         let sound_ones: [Change; 5] = [
@@ -1314,8 +1535,9 @@ mod tests {
         tasks: Vec<Vec<Vec<usize>>>,
         hold_left: Vec<u32>,
         budget_left: Vec<u32>,
-        /// How often a processor was sent back.
+        /// How often a processor was sent back, and how often one left by a give-up.
         sent_back: u32,
+        gave_up: u32,
     }
 
     impl Model<'_> {
@@ -1329,6 +1551,7 @@ mod tests {
                 hold_left: vec![0; resources],
                 budget_left: vec![0; resources],
                 sent_back: 0,
+                gave_up: 0,
             }
         }
 
@@ -1470,6 +1693,28 @@ mod tests {
             next.map_or(Free, |task| Next(self.figures.plan.tasks[task].tag))
         }
 
+        /// A waiting task leaves its task queue, and a processor left with no task leaves the processor queue.
+        fn give_up(&mut self, tag: u16, resource: u8) -> Answer {
+            let Some(task) = self.row(tag) else {
+                return Refused(11);
+            };
+            let q = usize::from(resource);
+            if q >= self.queues.len() {
+                return Refused(12);
+            }
+            let k = self.figures.processor(task);
+            let waits = self.tasks[k][q].contains(&task) && self.holder(q) != Some(task);
+            if !waits {
+                return Refused(23);
+            }
+            self.tasks[k][q].retain(|&t| t != task);
+            if self.tasks[k][q].is_empty() {
+                self.queues[q].retain(|&p| p != k);
+                self.gave_up += 1;
+            }
+            Left
+        }
+
         fn tick(&mut self) -> Answer {
             let (mut cuts, mut grants) = (0, 0);
             let held: Vec<usize> = (0..self.queues.len())
@@ -1514,6 +1759,7 @@ mod tests {
     enum Call {
         Request(u16, u8),
         Release(u16, u8),
+        GiveUp(u16, u8),
         Tick,
     }
 
@@ -1522,6 +1768,7 @@ mod tests {
             match self {
                 Call::Request(tag, resource) => request(file, state, tag, resource),
                 Call::Release(tag, resource) => release(file, state, tag, resource),
+                Call::GiveUp(tag, resource) => give_up(file, state, tag, resource),
                 Call::Tick => tick(file, state),
             }
         }
@@ -1531,6 +1778,7 @@ mod tests {
             match self {
                 Call::Request(tag, resource) => once.request(state, tag, resource),
                 Call::Release(tag, resource) => once.release(state, tag, resource),
+                Call::GiveUp(tag, resource) => once.give_up(state, tag, resource),
                 Call::Tick => once.tick(state),
             }
         }
@@ -1539,6 +1787,7 @@ mod tests {
             match self {
                 Call::Request(tag, resource) => model.request(tag, resource),
                 Call::Release(tag, resource) => model.release(tag, resource),
+                Call::GiveUp(tag, resource) => model.give_up(tag, resource),
                 Call::Tick => model.tick(),
             }
         }
@@ -1547,32 +1796,56 @@ mod tests {
         fn made(n: &mut Numbers, model: &Model) -> Call {
             let any = (n.below(256) as u16, n.below(20) as u8);
             let plan = &model.figures.plan;
-            match n.below(20) {
+            let tag = |task: usize| plan.tasks[task].tag;
+            match n.below(26) {
                 0 => Call::Request(any.0, any.1),
                 1 => Call::Release(any.0, any.1),
-                2..10 => {
+                2 => Call::GiveUp(any.0, any.1),
+                3..12 => {
                     let section = n.one_of(sections(plan));
-                    let of = |s: Section| (plan.tasks[usize::from(s.task)].tag, s.resource);
+                    let of = |s: Section| (tag(s.task.into()), s.resource);
                     let (tag, resource) = section.map_or(any, of);
                     Call::Request(tag, resource)
                 }
-                10..13 => {
+                12..15 => {
                     let q = n.below(model.queues.len());
-                    let tag = |task: usize| plan.tasks[task].tag;
                     Call::Release(model.holder(q).map_or(any.0, tag), q as u8)
+                }
+                15..17 => {
+                    let (task, q) = Call::waiting(n, model).unwrap_or((0, 0));
+                    Call::GiveUp(tag(task), q as u8)
                 }
                 _ => Call::Tick,
             }
         }
+
+        /// Who gives up, and which resource; now and then the holder, or who waits for another one.
+        fn waiting(n: &mut Numbers, model: &Model) -> Option<(usize, usize)> {
+            let mut found = Vec::new();
+            for queues in &model.tasks {
+                for (q, queue) in queues.iter().enumerate() {
+                    found.extend(queue.iter().map(|&task| (task, q)));
+                }
+            }
+            if !n.one_in(10) {
+                found.retain(|&(task, q)| model.holder(q) != Some(task));
+            }
+            let (task, q) = n.one_of(&found)?;
+            let other = n.below(model.queues.len());
+            Some((task, if n.one_in(10) { other } else { q }))
+        }
     }
 
-    /// Of each task in line that was told a limit, this and the ticks since; checked after each call.
+    /// Of each task that was told a limit, and neither was granted nor gave up, this and the ticks since; checked after each call.
     struct Limits(Vec<Option<(u32, u32)>>);
 
     impl Limits {
         fn check(&mut self, call: Call, answer: Answer, model: &Model) {
             if let (Call::Request(tag, _), Waits { limit, .. }) = (call, answer) {
                 self.0[model.row(tag).unwrap()] = Some((limit, 0));
+            }
+            if let (Call::GiveUp(tag, _), Left) = (call, answer) {
+                assert!(self.0[model.row(tag).unwrap()].take().is_some());
             }
             let holders: Vec<_> = (0..model.queues.len()).map(|q| model.holder(q)).collect();
             for (task, told) in self.0.iter_mut().enumerate() {
@@ -1598,6 +1871,8 @@ mod tests {
         cuts: u32,
         many_cuts: u32,
         sent_back: u32,
+        left: u32,
+        processors_left: u32,
     }
 
     impl Met {
@@ -1610,6 +1885,7 @@ mod tests {
                     self.cuts += u32::from(cuts != 0);
                     self.many_cuts += u32::from(cuts.count_ones() > 1);
                 }
+                Left => self.left += 1,
                 _ => (),
             }
         }
@@ -1641,6 +1917,7 @@ mod tests {
             state = next;
         }
         met.sent_back += model.sent_back;
+        met.processors_left += model.gave_up;
     }
 
     #[test]
@@ -1666,6 +1943,8 @@ mod tests {
             met.cuts,
             met.many_cuts,
             met.sent_back,
+            met.left,
+            met.processors_left,
         ];
         assert!(each.iter().all(|&count| count > 500), "{each:?}");
     }
@@ -1757,7 +2036,8 @@ mod tests {
         assert_eq!(sound(&figures.plan, state), is_sound, "{state:?}");
         let mut once = Once::new(&figures.plan);
         if !is_sound {
-            for call in [Call::Request(999, 99), Call::Release(999, 99), Call::Tick] {
+            let refused = [Call::Request, Call::Release, Call::GiveUp].map(|call| call(999, 99));
+            for call in refused.into_iter().chain([Call::Tick]) {
                 assert_eq!(call.on(file, state), (Refused(19), *state));
                 assert_eq!(call.once(&mut once, state), (Refused(19), *state));
             }

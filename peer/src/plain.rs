@@ -1,5 +1,5 @@
-//! The machine of document 01 once more: start, request, release and tick on a state given by value, written plainly, with no
-//! thought of speed beyond leaving out work that serves nothing. It has the states and answers of `machine`.
+//! The machine of document 01 once more: start, request, release, tick and document 02's give-up on a state given by value,
+//! written plainly, with no thought of speed beyond leaving out work that serves nothing. It has the states and answers of `machine`.
 //!
 //! Each call reads and checks the plan file and the state anew. A refusal gives the state back as it was.
 
@@ -11,6 +11,7 @@ use crate::{read, Plan, MAX_PROCESSORS, MAX_RESOURCES, MAX_TASKS};
 const ALREADY_IN_LINE: u8 = 15;
 const NOT_HOLDING: u8 = 16;
 const NOT_SOUND: u8 = 19;
+const NOT_WAITING: u8 = 23;
 
 impl Line {
     fn is_free(&self) -> bool {
@@ -26,12 +27,16 @@ impl Line {
         self.queued += 1;
     }
 
-    fn drop_front(&mut self) {
-        let queued = usize::from(self.queued);
-        for at in 1..queued {
-            self.queue[at - 1] = self.queue[at];
+    /// Takes a processor out of the queue, wherever it stands.
+    fn remove(&mut self, processor: usize) {
+        let mut to = 0;
+        for at in 0..usize::from(self.queued) {
+            if usize::from(self.queue[at]) != processor {
+                self.queue[to] = self.queue[at];
+                to += 1;
+            }
         }
-        self.queue[queued - 1] = NONE;
+        self.queue[to] = NONE;
         self.queued -= 1;
     }
 }
@@ -232,7 +237,7 @@ fn end_hold(tables: &Tables, queues: &Queues, state: &mut State, resource: usize
             return Some(row);
         }
     }
-    line.drop_front();
+    line.remove(processor);
     if own_next.is_some() {
         line.append(processor);
     }
@@ -301,6 +306,29 @@ fn try_release(file: &[u8], state: &mut State, tag: u16, resource: u8) -> Result
     })
 }
 
+fn try_give_up(file: &[u8], state: &mut State, tag: u16, resource: u8) -> Result<Answer, u8> {
+    let answer = read(file);
+    let tables = Tables::of(checked(&answer)?);
+    let queues = check_state(&tables, state)?;
+    let row = tables.find(tag, resource)?;
+    let q = usize::from(resource);
+    let standing = state.tasks[row];
+    let k = tables.processor(row);
+    let line = &mut state.lines[q];
+    if standing.resource != resource || standing.place == 0 && line.front() == k {
+        return Err(NOT_WAITING);
+    }
+    let queue = queues.queue(q, k);
+    if queue.len() == 1 {
+        line.remove(k);
+    }
+    state.tasks[row] = Standing::NONE;
+    for &behind in &queue[usize::from(standing.place) + 1..] {
+        state.tasks[usize::from(behind)].place -= 1;
+    }
+    Ok(Answer::Left)
+}
+
 fn try_tick(file: &[u8], state: &mut State) -> Result<Answer, u8> {
     let answer = read(file);
     let tables = Tables::of(checked(&answer)?);
@@ -344,6 +372,10 @@ pub fn release(file: &[u8], state: &State, tag: u16, resource: u8) -> (Answer, S
     call(state, |next| try_release(file, next, tag, resource))
 }
 
+pub fn give_up(file: &[u8], state: &State, tag: u16, resource: u8) -> (Answer, State) {
+    call(state, |next| try_give_up(file, next, tag, resource))
+}
+
 pub fn tick(file: &[u8], state: &State) -> (Answer, State) {
     call(state, |next| try_tick(file, next))
 }
@@ -357,6 +389,7 @@ pub fn run(file: &[u8], calls: &[u8]) -> State {
         state = match (triple[0], tag, resource) {
             (b'Q', _, _) => request(file, &state, tag, resource).1,
             (b'R', _, _) => release(file, &state, tag, resource).1,
+            (b'W', _, _) => give_up(file, &state, tag, resource).1,
             (b'T', 0, 0) => tick(file, &state).1,
             _ => state,
         };

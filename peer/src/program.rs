@@ -1,4 +1,4 @@
-//! The printing program of document 01: a plan and then calls, and a line for each.
+//! The printing program of documents 01 and 02: a plan and then calls, and a line for each.
 
 use crate::calls::{Call, Mode, OnFile, Operations};
 use crate::machine::{Answer, Once, State};
@@ -172,6 +172,7 @@ impl Lines {
                 self.number(cuts.into());
                 self.number(grants.into());
             }
+            Answer::Left => self.said(b"left", call, name),
             Answer::Refused(number) => return self.refused(number),
         }
         self.text(b"\n");

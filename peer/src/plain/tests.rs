@@ -59,17 +59,75 @@ fn refusals_in_order() {
     for (tag, resource) in [(10, 1), (20, 1), (20, 0)] {
         assert_eq!(released(tag, resource), (Answer::Refused(16), state));
     }
+    let waiting = request(&file, &state, 20, 0).1;
+    let left = |tag, resource| give_up(&file, &waiting, tag, resource);
+    assert_eq!(left(11, 2), (Answer::Refused(11), waiting));
+    assert_eq!(left(20, 2), (Answer::Refused(12), waiting));
+    // The holder, a local resource, and one that is not declared.
+    for (tag, resource) in [(10, 0), (10, 1), (20, 1)] {
+        assert_eq!(left(tag, resource), (Answer::Refused(23), waiting));
+    }
+    assert_eq!(left(20, 0), (Answer::Left, state));
+    assert_eq!(give_up(&file, &state, 20, 0), (Answer::Refused(23), state));
     let mut odd = state;
     odd.lines[15].hold_left = 1;
     let refused = |number| (Answer::Refused(number), odd);
     assert_eq!(request(&file, &odd, 11, 9), refused(19));
     assert_eq!(release(&file, &odd, 11, 9), refused(19));
+    assert_eq!(give_up(&file, &odd, 11, 9), refused(19));
     assert_eq!(tick(&file, &odd), refused(19));
     file[0] = 2;
     assert_eq!(request(&file, &odd, 11, 9), refused(2));
     assert_eq!(release(&file, &odd, 11, 9), refused(2));
+    assert_eq!(give_up(&file, &odd, 11, 9), refused(2));
     assert_eq!(tick(&file, &odd), refused(2));
     assert_eq!(start(&file), (2, State::FRESH));
+}
+
+/// Two tasks on each of three processors, all in line for one resource; tags 1 and 2 are those of processor 0, and so on.
+fn six_in_line() -> (Vec<u8>, State) {
+    let tasks: Vec<_> = (0..6)
+        .map(|i| (i / 2, u16::from(i) + 1, 2 - i % 2, 100, 50))
+        .collect();
+    let sections: Vec<_> = (0..6).map(|i| (i, 0, 2)).collect();
+    let file = file(3, 1, &tasks, &sections);
+    let state = run(&file, b"Q\x01\0Q\x03\0Q\x05\0Q\x02\0Q\x04\0Q\x06\0T\0\0");
+    (file, state)
+}
+
+#[test]
+fn who_stands_where_after_a_give_up() {
+    let (file, state) = six_in_line();
+    let standing = |place| Standing { resource: 0, place };
+    for (tag, row, moved) in [(2, 1, None), (3, 2, Some(3)), (4, 3, None), (5, 4, Some(5))] {
+        let (answer, next) = give_up(&file, &state, tag, 0);
+        let mut expected = state;
+        expected.tasks[row] = Standing::NONE;
+        if let Some(row) = moved {
+            expected.tasks[row] = standing(0);
+        }
+        assert_eq!((answer, next), (Answer::Left, expected));
+    }
+}
+
+#[test]
+fn a_processor_left_with_no_task_leaves() {
+    let (file, state) = six_in_line();
+    for (calls, queue) in [([3, 4], [0, 2]), ([6, 5], [0, 1])] {
+        let mut next = state;
+        for tag in calls {
+            assert_eq!(next.lines[0].queue[..3], [0, 1, 2]);
+            let (answer, after) = give_up(&file, &next, tag, 0);
+            assert_eq!(answer, Answer::Left);
+            next = after;
+        }
+        assert_eq!(next.lines[0].queued, 2);
+        assert_eq!(next.lines[0].queue[..3], [queue[0], queue[1], NONE]);
+        assert_eq!((next.lines[0].hold_left, next.lines[0].budget_left), (1, 1));
+        let (answer, again) = request(&file, &next, calls[1], 0);
+        assert_eq!(answer, Answer::Waits { ahead: 0, limit: 4 });
+        assert_eq!(again.lines[0].queue[2], (calls[1] as u8 - 1) / 2);
+    }
 }
 
 #[test]
@@ -133,6 +191,8 @@ struct Model<'a> {
     sent_back: usize,
     /// Of these, the processors that were alone.
     lone: usize,
+    /// How often a processor left by a give-up.
+    left_queue: usize,
 }
 
 impl<'a> Model<'a> {
@@ -145,6 +205,7 @@ impl<'a> Model<'a> {
             left: vec![(0, 0); 16],
             sent_back: 0,
             lone: 0,
+            left_queue: 0,
         }
     }
 
@@ -242,6 +303,36 @@ impl<'a> Model<'a> {
         }
     }
 
+    fn give_up(&mut self, tag: u16, resource: u8) -> Answer {
+        let Some(row) = self.row(tag) else {
+            return Answer::Refused(11);
+        };
+        if resource >= self.plan.counts.resources {
+            return Answer::Refused(12);
+        }
+        let (q, k) = (usize::from(resource), self.plan.tasks[row].processor);
+        let holds = self.holder(q) == Some(row);
+        let queue = &mut self.tasks[q][usize::from(k)];
+        match queue.iter().position(|&t| t == row) {
+            Some(place) if !holds => queue.remove(place),
+            _ => return Answer::Refused(23),
+        };
+        if queue.is_empty() {
+            self.processors[q].retain(|&p| p != k);
+            self.left_queue += 1;
+        }
+        Answer::Left
+    }
+
+    /// The tags of those who wait for a resource.
+    fn waiting(&self, q: usize) -> Vec<u16> {
+        let holder = self.holder(q);
+        let rows = self.tasks[q].iter().flatten();
+        rows.filter(|&&row| Some(row) != holder)
+            .map(|&row| self.plan.tasks[row].tag)
+            .collect()
+    }
+
     fn tick(&mut self) -> Answer {
         let (mut cuts, mut grants) = (0, 0);
         for q in 0..16 {
@@ -284,6 +375,7 @@ fn random_lists_agree_with_the_model() {
     let mut n = Numbers(7);
     let (mut sent_back, mut lone) = (0, 0);
     let (mut cuts, mut waits, mut nexts) = (0, 0, 0);
+    let (mut left, mut left_queue) = (0, 0);
     for round in 0..300 {
         let most = if round % 10 == 0 {
             [8, 64, 16, 255]
@@ -304,7 +396,11 @@ fn random_lists_agree_with_the_model() {
                 1 => resource = n.below(256) as u8,
                 _ => (),
             }
-            let letter = b"QQQRRT"[n.below(6)];
+            let letter = b"QQQQRRWT"[n.below(8)];
+            if letter == b'W' && n.below(4) > 0 {
+                let waiting = model.waiting(usize::from(resource) % 16);
+                tag = n.one_of(&waiting).unwrap_or(tag);
+            }
             if letter == b'R' && n.below(3) > 0 {
                 if let Some(holder) = model.holder(usize::from(resource) % 16) {
                     tag = plan.tasks[holder].tag;
@@ -319,6 +415,10 @@ fn random_lists_agree_with_the_model() {
                     model.release(tag, resource),
                     release(&file, &state, tag, resource),
                 ),
+                b'W' => (
+                    model.give_up(tag, resource),
+                    give_up(&file, &state, tag, resource),
+                ),
                 _ => (model.tick(), tick(&file, &state)),
             };
             assert_eq!(answer, expected);
@@ -327,6 +427,7 @@ fn random_lists_agree_with_the_model() {
                 Answer::Ticked { cuts: c, .. } => cuts += c.count_ones(),
                 Answer::Waits { .. } => waits += 1,
                 Answer::Next(_) => nexts += 1,
+                Answer::Left => left += 1,
                 _ => (),
             }
             state = next;
@@ -339,10 +440,15 @@ fn random_lists_agree_with_the_model() {
         assert_eq!(run(&file, &calls), state);
         sent_back += model.sent_back;
         lone += model.lone;
+        left_queue += model.left_queue;
     }
     assert!(lone > 20 && sent_back - lone > 50, "{sent_back} {lone}");
     assert!(
         cuts > 500 && waits > 500 && nexts > 500,
         "{cuts} {waits} {nexts}"
+    );
+    assert!(
+        left_queue > 500 && left - left_queue > 500,
+        "{left} {left_queue}"
     );
 }

@@ -52,6 +52,15 @@ fn a_release_to_another() {
 }
 
 #[test]
+fn a_give_up() {
+    let lines = after(&bus(), b"Q\x14\0Q\x0a\0W\x0a\0Q\x0a\0R\x14\0W\x14\0");
+    assert_eq!(
+        lines,
+        "granted 20 bus\nwaits 10 bus 0 3\nleft 10 bus\nwaits 10 bus 0 3\nreleased 20 bus to 10\nrefused 23\n"
+    );
+}
+
+#[test]
 fn each_refusal_of_a_plan_is_one_line() {
     assert_eq!(printed(b""), "refused 1\n");
     assert_eq!(changed(|f| f.truncate(15)), "refused 1\n");
@@ -94,14 +103,21 @@ fn each_refusal_of_a_call() {
     assert_eq!(after(&plan, b"R\x0b\0"), "refused 11\n");
     assert_eq!(after(&plan, b"R\x0a\x02"), "refused 12\n");
     assert_eq!(after(&plan, b"R\x0a\x01"), "refused 16\n");
+    assert_eq!(after(&plan, b"W\x0b\x02"), "refused 11\n");
+    assert_eq!(after(&plan, b"W\x0a\x02"), "refused 12\n");
+    assert_eq!(after(&plan, b"W\x0a\x01"), "refused 23\n");
+    assert_eq!(
+        after(&plan, b"Q\x0a\0W\x0a\0"),
+        "granted 10 A\nrefused 23\n"
+    );
 }
 
 #[test]
 fn bytes_that_are_no_call() {
-    let lines = after(&bus(), b"q\x0a\0T\0\x01T\x01\0\0\0\0Q\x0a\0T\0\0");
+    let lines = after(&bus(), b"q\x0a\0w\x0a\0T\0\x01T\x01\0\0\0\0Q\x0a\0T\0\0");
     assert_eq!(
         lines,
-        "refused 21\nrefused 21\nrefused 21\nrefused 21\ngranted 10 bus\ntick 0 0\n"
+        "refused 21\nrefused 21\nrefused 21\nrefused 21\nrefused 21\ngranted 10 bus\ntick 0 0\n"
     );
 }
 

@@ -19,6 +19,7 @@ const CALLS: usize = 1_000_000;
 const MIX: Habits = Habits {
     requests: 6,
     releases: 3,
+    give_ups: 1,
     ticks: 2,
     wrong: 1,
     odd: 0,
