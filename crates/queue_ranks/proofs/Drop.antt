@@ -4,7 +4,7 @@ use Rattle.queue_ranks.proofs.Ground.{arith, eq-eqb, ne-eqb, maxBelow, 
 use Rattle.queue_ranks.proofs.Ground.{taskRanked, turnOf, queueFrom, on-eq, on-le, find-same}
 use Rattle.queue_rules.specs.Rules.{allBut, turnWith, turnsBut, withdrawn}
 use Rattle.folds.proofs.Searches.{same-eqb}
-use Rattle.queue_ranks.proofs.Lists.{each-stays, one-goes}
+use Rattle.queue_ranks.proofs.Lists.{list-first, each-stays, one-goes}
 use Rattle.queue_ranks.proofs.Ranked.{Ranked, Queued, task-rank, owner, ranked-at, sole, full}
 use Rattle.queue_ranks.proofs.Same.{other-max, other-task}
 use Rattle.queue_ranks.proofs.Reading.{all-tasks}
@@ -122,33 +122,37 @@ module _ {n : ℕ} {t : Terms} {R S : ℕ → ℕ → ℕ} {k i : ℕ} (x : Drop
       (ap (allBut i) (all-tasks n (R l) a) ∙ tasks-but l ∙ ap (λ (m : ℕ). listFrom m 1 (taskRanked n (S l))) z)
 
   -- ── the line, which another task holds ──
-  module _ {m : ℕ} {c : ℕ} {g : ℕ → ℕ} (w : Queued n m R (suc c) g) (d : taskRanked n (R (g 0)) 1 ≢ i) (h b : ℕ) where
-    held-but : withdrawn i (line h b (queueFrom n R (suc c) g)) ≡ line h b (turnsBut i (queueFrom n R (suc c) g))
-    unfolding listFrom
-    held-but = rw (ne-eqb (taskRanked n (R (g 0)) 1) i d)
+  module _ {m : ℕ} {c : ℕ} {g : ℕ → ℕ} (w : Queued n m R c g) (held : 1 ≤ c) (d : taskRanked n (R (g 0)) 1 ≢ i) (h b : ℕ) where
+    held-but : {q : List Turn} → turnsBut i (queueFrom n R c g) ≡ q → withdrawn i (line h b (queueFrom n R c g)) ≡ line h b q
+    held-but e = but ∙ ap (λ (y : List Turn). line h b y) e
+      where
+        but : withdrawn i (line h b (queueFrom n R c g)) ≡ line h b (turnsBut i (queueFrom n R c g))
+        but = rw (list-first c 0 (λ j. turnOf n R (g j)) held, ne-eqb (taskRanked n (R (g 0)) 1) i d)
 
     after-max : (l : ℕ) → l ≢ k → 1 ≤ maxBelow n (R l) → 1 ≤ maxBelow n (S l)
     after-max l ne a = omega (arith, other-max (drop-other x) l ne)
 
     -- its processor has another task
-    pub withdrawn-stays : 2 ≤ maxBelow n (R k) → withdrawn i (line h b (queueFrom n R (suc c) g)) ≡ line h b (queueFrom n S (suc c) g)
+    pub withdrawn-stays : 2 ≤ maxBelow n (R k) → withdrawn i (line h b (queueFrom n R c g)) ≡ line h b (queueFrom n S c g)
     withdrawn-stays a =
-        held-but ∙ ap (λ (q : List Turn). line h b q)
-        (each-stays (turnsBut i) turnKept refl turns-more (suc c) 0 (λ j. turnOf n R (g j)) (λ j. turnOf n S (g j))
+        held-but
+        (each-stays (turnsBut i) turnKept refl turns-more c 0 (λ j. turnOf n R (g j)) (λ j. turnOf n S (g j))
         (λ j _ l. let some = w .served j (omega arith) in
         turn-stays (g j) some (on-eq (1 ≤ maxBelow n (S (g j))) (g j) k (λ e. rw e (omega (arith, drop-max))) (λ ne. after-max (g j) ne some))))
 
     -- it has none, and goes from slot a
-    pub withdrawn-goes : (a : ℕ) (f : ℕ → ℕ) → maxBelow n (R k) ≤ 1 → a < suc c → g a ≡ k → ((j : ℕ) → j < a → f j ≡ g j)
-        → ((j : ℕ) → a ≤ j → j < c → f j ≡ g (suc j)) → withdrawn i (line h b (queueFrom n R (suc c) g)) ≡ line h b (queueFrom n S c f)
+    pub withdrawn-goes : (a : ℕ) (f : ℕ → ℕ) → maxBelow n (R k) ≤ 1 → a < c → g a ≡ k → ((j : ℕ) → j < a → f j ≡ g j)
+        → ((j : ℕ) → a ≤ j → j < c - 1 → f j ≡ g (suc j)) → withdrawn i (line h b (queueFrom n R c g)) ≡ line h b (queueFrom n S (c - 1) f)
     withdrawn-goes a f one la at before after =
-        held-but ∙ ap (λ (q : List Turn). line h b q)
-        (one-goes (turnsBut i) turnKept refl turns-more c 0 a (λ j. turnOf n R (g j)) (λ j. turnOf n S (f j)) (omega arith) (omega arith)
+        let count : c ≡ suc (c - 1) = omega arith in
+        held-but
+        (ap (λ (y : ℕ). turnsBut i (queueFrom n R y g)) count
+        ∙ one-goes (turnsBut i) turnKept refl turns-more (c - 1) 0 a (λ j. turnOf n R (g j)) (λ j. turnOf n S (f j)) (omega arith) (omega arith)
         (turn-goes (g a) (w .served a la) (rw at (omega (arith, drop-max))))
         (λ j _ l. other j (f j) (omega arith) (λ e. omega arith) (before j l))
         (λ j p l. other (suc j) (f j) (omega arith) (λ e. omega arith) (after j p (omega arith))))
       where
-        other : (j l : ℕ) → j < suc c → j ≢ a → l ≡ g j → turnKept (turnOf n R (g j)) ≡ turnOf n S l ∷ []
+        other : (j l : ℕ) → j < c → j ≢ a → l ≡ g j → turnKept (turnOf n R (g j)) ≡ turnOf n S l ∷ []
         other j l b ne e =
             let some = w .served j b in
             rw e (turn-stays (g j) some (after-max (g j) (λ z. ne (w .once j a b la (z ∙ sym at))) some))

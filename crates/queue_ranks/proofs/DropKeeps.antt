@@ -34,9 +34,11 @@ module _ {n : ℕ} {t : Terms} {R S : ℕ → ℕ → ℕ} {k i : ℕ} (x : Drop
   stays-queued w a = slots-stay (other-max (drop-other x)) w (omega arith) (omega (arith, drop-max x r))
 
   -- it has none, and goes from slot a
-  pub goes-queued : {m c : ℕ} {g : ℕ → ℕ} (a : ℕ) (f : ℕ → ℕ) → Queued n m R (suc c) g → maxBelow n (R k) ≤ 1 → a < suc c → g a ≡ k
-      → ((j : ℕ) → j < a → f j ≡ g j) → ((j : ℕ) → a ≤ j → j < c → f j ≡ g (suc j)) → Queued n m S c f
-  goes-queued a f w one la at before after = slots-gone (other-max (drop-other x)) a f w la at (omega (arith, drop-max x r)) before after
+  pub goes-queued : {m c : ℕ} {g : ℕ → ℕ} (a : ℕ) (f : ℕ → ℕ) → Queued n m R c g → maxBelow n (R k) ≤ 1 → a < c → g a ≡ k
+      → ((j : ℕ) → j < a → f j ≡ g j) → ((j : ℕ) → a ≤ j → j < c - 1 → f j ≡ g (suc j)) → Queued n m S (c - 1) f
+  goes-queued {c = c} a f w one la at before after =
+      let count : c ≡ suc (c - 1) = omega arith in
+      slots-gone (other-max (drop-other x)) a f (rw count at w) (omega arith) at (omega (arith, drop-max x r)) before after
 
   -- ── the hold and the budget left: who holds stays ──
   pub drop-timed : {c d : ℕ} {g f : ℕ → ℕ} {h b : ℕ} → Timed n t R c g h b → 1 ≤ c → 1 ≤ d → f 0 ≡ g 0 → taskRanked n (R (g 0)) 1 ≢ i
