@@ -2,7 +2,7 @@
 use Rattle.queue_ranks.proofs.Ground.{ℕ, _+_, _-_, _<_, _≤_, _≡_, sym, ap, _∙_, add-one, arith, maxBelow, max-at, Terms, taskRanked}
 use Rattle.queue_ranks.proofs.Ground.{on-eq}
 use Rattle.queue_ranks.proofs.Ranked.{Ranked, Queued, Timed, held-timed, owner, ranked-at, sole, full}
-use Rattle.queue_ranks.proofs.Same.{other-ranked, other-max, other-task}
+use Rattle.queue_ranks.proofs.Same.{other-ranked, other-max, other-task, first-timed}
 use Rattle.queue_ranks.proofs.Slots.{slots-stay, slots-last}
 use Rattle.queue_ranks.proofs.Join.{Joins, join-other, join-max, join-task, join-last}
 
@@ -38,10 +38,7 @@ module _ {n : ℕ} {t : Terms} {R S : ℕ → ℕ → ℕ} {i : ℕ} (x : Joins 
   -- a held line goes on as it was
   pub join-timed : {m c : ℕ} {g : ℕ → ℕ} {h b : ℕ} (d : ℕ) (f : ℕ → ℕ) → Queued n m R c g → Timed n t R c g h b → 1 ≤ c → 1 ≤ d → f 0 ≡ g 0
       → Timed n t S d f h b
-  join-timed {m} {c} {g} {h} {b} d f w k a a2 e = record {
-    idle = λ z. omega arith;
-    runs = λ _. rw (e, task-stays (g 0) 1 (omega arith) (w .served 0 a)) (k .runs a);
-  }
+  join-timed {g = g} d f w k a b e = first-timed k a b e (task-stays (g 0) 1 (omega arith) (w .served 0 a))
 
   -- a free one begins
   pub join-timed-new : (f : ℕ → ℕ) → maxBelow n (R (t .processor i)) ≡ 0 → f 0 ≡ t .processor i → 1 ≤ t .hold i

@@ -8,3 +8,5 @@ pub mod Join
 pub mod JoinKeeps
 pub mod Leave
 pub mod LeaveKeeps
+pub mod Drop
+pub mod DropKeeps

@@ -1,5 +1,5 @@
 -- Ranks and slots that agree: they show one queue, and are sound together.
-use Rattle.queue_ranks.proofs.Ground.{ℕ, _-_, _<_, _≡_, sym, ap, ap₂, _∙_, _≢_, List, eqb, maxBelow, Terms, turn, taskRanked}
+use Rattle.queue_ranks.proofs.Ground.{ℕ, _-_, _<_, _≤_, _≡_, sym, ap, ap₂, _∙_, _≢_, List, eqb, arith, maxBelow, Terms, turn, taskRanked}
 use Rattle.queue_ranks.proofs.Ground.{othersOf, turnOf, queueFrom, on-eq, find-same}
 use Rattle.folds.proofs.Figures.{max-same}
 use Rattle.queue_ranks.proofs.Lists.{list-same}
@@ -61,3 +61,8 @@ module _ {n : ℕ} {R S : ℕ → ℕ → ℕ} {k : ℕ} (same : (l u : ℕ) →
 
   pub other-turn : (l : ℕ) → l ≢ k → turnOf n R l ≡ turnOf n S l
   other-turn l d = same-turn n R S l (λ u a. same l u d a)
+
+-- the hold and the budget left go on where the head and its first task stay
+pub first-timed : {n : ℕ} {t : Terms} {R S : ℕ → ℕ → ℕ} {c d : ℕ} {g f : ℕ → ℕ} {h b : ℕ} → Timed n t R c g h b → 1 ≤ c → 1 ≤ d → f 0 ≡ g 0
+    → taskRanked n (S (g 0)) 1 ≡ taskRanked n (R (g 0)) 1 → Timed n t S d f h b
+first-timed k a b e same = record { idle = λ z. omega arith; runs = λ _. rw (e, same) (k .runs a) }

@@ -1,6 +1,6 @@
--- The queue of processors when a move changes the tasks of one processor k: k stays where it is, comes to the tail, or goes from the front.
-use Rattle.queue_ranks.proofs.Ground.{ℕ, zero, suc, _<_, _≤_, cond, _≡_, refl, sym, ap, _∙_, _≢_, eqb, arith, eq-eqb, ne-eqb}
-use Rattle.queue_ranks.proofs.Ground.{maxBelow, max-bound, on-eq}
+-- The queue of processors when a move changes the tasks of one processor k: k stays where it is, comes to the tail, or goes.
+use Rattle.queue_ranks.proofs.Ground.{ℕ, suc, _-_, _<_, _≤_, cond, _≡_, refl, sym, ap, _∙_, _≢_, eqb, arith, eq-eqb, ne-eqb}
+use Rattle.queue_ranks.proofs.Ground.{maxBelow, max-bound, on-eq, on-le}
 use Rattle.queue_ranks.proofs.Ranked.{At, Queued}
 
 module _ {n m : ℕ} {R S : ℕ → ℕ → ℕ} {k : ℕ} (others : (l : ℕ) → l ≢ k → maxBelow n (R l) ≡ maxBelow n (S l)) where
@@ -32,23 +32,40 @@ module _ {n m : ℕ} {R S : ℕ → ℕ → ℕ} {k : ℕ} (others : (l : ℕ) �
       apart : (j : ℕ) → j < c → f j ≢ k
       apart j l e = let y : 1 ≤ maxBelow n (R k) = rw (sym (same j l) ∙ e) at (w .served j l) in omega arith
 
-  -- it is first, and has none after
-  pub slots-first : {c : ℕ} {g : ℕ → ℕ} (f : ℕ → ℕ) → Queued n m R (suc c) g → g 0 ≡ k → maxBelow n (S k) ≡ 0
-      → ((j : ℕ) → j < c → f j ≡ g (suc j)) → Queued n m S c f
-  slots-first {c} {g} f w first z same = record {
-    placed = λ i l. rw (same i l) (w .placed (suc i) (omega arith));
-    served = λ i l. rw (same i l) (omega (arith, w .served (suc i) (omega arith), others (g (suc i)) (behind i l)));
-    once = λ i j p q e. omega (arith, w .once (suc i) (suc j) (omega arith) (omega arith) (sym (same i p) ∙ e ∙ same j q));
+  -- it is in slot a, and has none after: those behind it move up
+  pub slots-gone : {c : ℕ} {g : ℕ → ℕ} (a : ℕ) (f : ℕ → ℕ) → Queued n m R (suc c) g → a < suc c → g a ≡ k → maxBelow n (S k) ≡ 0
+      → ((j : ℕ) → j < a → f j ≡ g j) → ((j : ℕ) → a ≤ j → j < c → f j ≡ g (suc j)) → Queued n m S c f
+  slots-gone {c} {g} a f w la at z before after = record {
+    placed = λ j l. from j l (f j < m) (λ i b e d. rw e (w .placed i b));
+    served = λ j l. from j l (1 ≤ maxBelow n (S (f j))) (λ i b e d. rw e (omega (arith, w .served i b, others (g i) d)));
+    once = λ i j p q e. on-le (i ≡ j) a i
+        (λ x. on-le (i ≡ j) a j (λ y. omega (arith, w .once (suc i) (suc j) (omega arith) (omega arith) (sym (after i x p) ∙ e ∙ after j y q)))
+        (λ y. omega (arith, w .once (suc i) j (omega arith) (omega arith) (sym (after i x p) ∙ e ∙ before j y))))
+        (λ x. on-le (i ≡ j) a j (λ y. omega (arith, w .once i (suc j) (omega arith) (omega arith) (sym (before i x) ∙ e ∙ after j y q)))
+        (λ y. w .once i j (omega arith) (omega arith) (sym (before i x) ∙ e ∙ before j y)));
     stands = λ l b. let d : l ≢ k = λ e. let y : 1 ≤ maxBelow n (S k) = rw e at b in omega arith in
         let y : At (suc c) g l = w .stands l (omega (arith, others l d)) in find l d (y .index) (y .within) (y .is);
   }
     where
-      behind : (i : ℕ) → i < c → g (suc i) ≢ k
-      behind i l e = omega (arith, w .once (suc i) 0 (omega arith) (omega arith) (e ∙ sym first))
+      -- where what stands in slot j came from
+      from : (j : ℕ) → j < c → (C : Type 0) → ((i : ℕ) → i < suc c → f j ≡ g i → g i ≢ k → C) → C
+      from j l C h =
+          on-le C a j
+          (λ x. h (suc j) (omega arith) (after j x l) (λ e. omega (arith, w .once (suc j) a (omega arith) la (e ∙ sym at))))
+          (λ x. h j (omega arith) (before j x) (λ e. omega (arith, w .once j a (omega arith) la (e ∙ sym at))))
 
       find : (l : ℕ) → l ≢ k → (i : ℕ) → i < suc c → g i ≡ l → At c f l
-      find l d zero p e = absurd (d (sym e ∙ first))
-      find l d (suc i) p e = record { index = i; within = omega arith; is = same i (omega arith) ∙ e }
+      find l d i p e =
+          on-le (At c f l) a i
+          (λ x. let b : i ≢ a = λ y. d (sym e ∙ ap g y ∙ at) in
+          let s : suc (i - 1) ≡ i = omega arith in
+          record { index = i - 1; within = omega arith; is = after (i - 1) (omega arith) (omega arith) ∙ ap g s ∙ e })
+          (λ x. record { index = i; within = omega arith; is = before i x ∙ e })
+
+  -- it is first, and has none after
+  pub slots-first : {c : ℕ} {g : ℕ → ℕ} (f : ℕ → ℕ) → Queued n m R (suc c) g → g 0 ≡ k → maxBelow n (S k) ≡ 0
+      → ((j : ℕ) → j < c → f j ≡ g (suc j)) → Queued n m S c f
+  slots-first f w first z same = slots-gone 0 f w (omega arith) first z (λ j l. omega arith) (λ j _ l. same j l)
 
 -- it goes from the front to the tail: it leaves, and comes
 pub slots-back : {n m : ℕ} {R S : ℕ → ℕ → ℕ} {c : ℕ} {g : ℕ → ℕ} (f : ℕ → ℕ) → ((l : ℕ) → l ≢ g 0 → maxBelow n (R l) ≡ maxBelow n (S l))
