@@ -1,11 +1,11 @@
 -- A release and a give-up: the numbers by which they are refused; and what a release does that is not.
-use Rattle.machine_replies.proofs.Ground.{ℕ, _+_, _*_, _-_, _<_, _≤_, true, cond, _≡_, sym, _∙_, _≢_, List, eqb, getD, arith, ne-eqb}
+use Rattle.machine_replies.proofs.Ground.{ℕ, _+_, _*_, _-_, _<_, _≤_, true, cond, _≡_, sym, ap, _∙_, _≢_, List, eqb, getD, arith, ne-eqb}
 use Rattle.machine_replies.proofs.Ground.{boolByte, Bool, false, refl, eq-eqb, mostProcessors, mostTasks, mostResources, notHeld, TaskRow, Plan, Valid}
 use Rattle.machine_replies.proofs.Ground.{taskNumber, Answer, Release, View, namedCode, lineCode, State, standing, lineAt, slot, shows, Seats, Whole, sound-of}
 use Rattle.machine_replies.proofs.Ground.{Tabled, sized, Acted, NewHead, grantedAnswer}
-use Rattle.folds.proofs.Ground.{true≢false, _&&_, not}
+use Rattle.folds.proofs.Ground.{true≢false, _&&_, not, lt-ltb, le-ltb}
 use Rattle.folds.proofs.Arrays.{by-eq}
-use Rattle.refusals.specs.Numbers.{notWaiting}
+use Rattle.refusals.specs.Numbers.{unknownTag, unknownResource, notWaiting}
 use Rattle.queue_rules.specs.Rules as Rules
 use Rattle.queue_rules.specs.Rules.{holds, waiting}
 use Rattle.machine_rules.specs.Machine.{releaseCode, giveUpCode}
@@ -21,7 +21,19 @@ use Rattle.machine_steps.proofs.Ready.{ready}
 use Rattle.machine_steps.proofs.Leaving.{head-low, holder-none, holder-seat, left-whole, left-shows, next-seat, next-told}
 use Rattle.machine_replies.specs.Inner.{HeadOf, holderSeat, headSeat}
 
--- who holds, on a sound state
+-- ── who holds ──
+-- read off the seats, by a copy w of the head's number
+module _ (seats : List ℕ) (q : ℕ) (l : LineRow) where
+  pub free-holder : l .queued ≡ 0 → 0 ≡ holderSeat seats q l
+  unfolding holderSeat
+  free-holder e = rw (eq-eqb (l .queued) 0 e)
+
+  pub held-holder : {w x : ℕ} → l .queued ≢ 0 → w ≡ slot l 0 → x ≡ getD seats ((q * mostProcessors + w) * mostTasks) 0 → x ≡ holderSeat seats q l
+  unfolding holderSeat
+  held-holder {w} n ew ex =
+      let at : (q * mostProcessors + w) * mostTasks ≡ seat q (slot l 0) 0 = omega arith in rw (ne-eqb (l .queued) 0 n) (ex ∙ ap (λ (y : ℕ). getD seats y 0) at)
+
+-- on a sound state
 module _ {p : Plan} (v : Valid p) {s : State} (w : Whole p s) {seats : List ℕ} (t : Seats p (s .tasks) seats) (q : ℕ) (low : q < mostResources) where
   pub head-of : HeadOf seats q (lineAt s q)
   head-of = record { table = record { long = t .long; resource = low }; placed = λ n. head-low p v s w q low (omega arith) }
@@ -34,6 +46,20 @@ module _ {p : Plan} (v : Valid p) {s : State} (w : Whole p s) {seats : List ℕ}
       (λ n. holder-seat p v s w q low (omega arith) t i)
 
 -- ── the number, test by test ──
+module _ (p : Plan) (tag q : ℕ) where
+  -- by copies of the numbers of tasks and of the task
+  pub named-unknown : {n i : ℕ} → n ≡ p .tasks → i ≡ taskNumber p tag → n ≤ i → unknownTag ≡ namedCode p tag q
+  unfolding namedCode
+  named-unknown en ei l = rw (le-ltb (taskNumber p tag) (p .tasks) (rw (en, ei) at l))
+
+  pub named-past : taskNumber p tag < p .tasks → p .resources ≤ q → unknownResource ≡ namedCode p tag q
+  unfolding namedCode
+  named-past t r = rw (lt-ltb _ _ t, le-ltb _ _ r)
+
+  pub named-there : taskNumber p tag < p .tasks → q < p .resources → 0 ≡ namedCode p tag q
+  unfolding namedCode
+  named-there t r = rw (lt-ltb _ _ t, lt-ltb _ _ r)
+
 module _ (p : Plan) (test : ℕ → Rules.Line → Bool) (number : ℕ) (m : View) (tag q : ℕ) where
   -- by a copy of the first
   pub line-refused : {code : ℕ} → code ≡ namedCode p tag q → code ≢ 0 → code ≡ lineCode p test number m tag q
@@ -58,29 +84,36 @@ module _ {p : Plan} {s : State} {tag q : ℕ} {seats : List ℕ} (a : Passed p s
   pub low : q < mostResources
   low = omega (arith, a .valid .resources, named-resource p tag q (a .named))
 
-  -- who holds, by copies of the numbers: x of the seat, i of the task
-  holds-copy : {x i : ℕ} → x ≡ holderSeat seats q (lineAt s q) → i ≡ taskNumber p tag → holds (taskNumber p tag) (shows p s .lines q) ≡ eqb x (i + 1)
-  holds-copy ex ei = holds-by (a .valid) (a .whole) (a .seated) q low (taskNumber p tag) ∙ rw (ex, ei)
+  -- the head, and who holds, by copies of the numbers: r of the resource, x of the seat, i of the task
+  pub head-copy : {r : ℕ} → r ≡ q → HeadOf seats r (lineAt s r)
+  head-copy er = rw er (head-of (a .valid) (a .whole) (a .seated) q low)
 
-  pub release-by : {x i code : ℕ} → x ≡ holderSeat seats q (lineAt s q) → i ≡ taskNumber p tag → code ≡ cond (eqb x (i + 1)) 0 notHeld
+  holds-copy : {r x i : ℕ} → r ≡ q → x ≡ holderSeat seats r (lineAt s r) → i ≡ taskNumber p tag
+      → holds (taskNumber p tag) (shows p s .lines q) ≡ eqb x (i + 1)
+  holds-copy er ex ei = holds-by (a .valid) (a .whole) (a .seated) q low (taskNumber p tag) ∙ rw (ex, er, ei)
+
+  pub release-by : {r x i code : ℕ} → r ≡ q → x ≡ holderSeat seats r (lineAt s r) → i ≡ taskNumber p tag → code ≡ cond (eqb x (i + 1)) 0 notHeld
       → code ≡ releaseCode p (shows p s) tag q
-  release-by ex ei e = e ∙ sym (line-tested p holds notHeld (shows p s) tag q (a .named) ∙ rw (holds-copy ex ei))
+  release-by er ex ei e = e ∙ sym (line-tested p holds notHeld (shows p s) tag q (a .named) ∙ rw (holds-copy er ex ei))
 
-  -- a give-up: by the resource r in the task's row
-  abbrev rowResource : ℕ
-  rowResource = standing (s .tasks) (taskNumber p tag) .resource
+  -- a give-up: by the resource in the row of the task
+  abbrev rowResource : ℕ → ℕ
+  rowResource i = standing (s .tasks) i .resource
 
-  waiting-by : waiting (taskNumber p tag) (shows p s .lines q) ≡ (eqb rowResource q && not (holds (taskNumber p tag) (shows p s .lines q)))
+  waiting-by : waiting (taskNumber p tag) (shows p s .lines q)
+      ≡ (eqb (rowResource (taskNumber p tag)) q && not (holds (taskNumber p tag) (shows p s .lines q)))
   waiting-by =
       rw (stands-is p (a .valid) s (a .whole) (taskNumber p tag) (named-task p tag q (a .named)) q (named-resource p tag q (a .named)))
 
-  pub give-up-away : rowResource ≢ q → notWaiting ≡ giveUpCode p (shows p s) tag q
-  give-up-away n = sym (line-tested p waiting notWaiting (shows p s) tag q (a .named) ∙ rw (waiting-by, ne-eqb rowResource q n))
+  pub give-up-away : {i : ℕ} → i ≡ taskNumber p tag → rowResource i ≢ q → notWaiting ≡ giveUpCode p (shows p s) tag q
+  give-up-away ei n =
+      sym (line-tested p waiting notWaiting (shows p s) tag q (a .named) ∙ rw (waiting-by, ne-eqb (rowResource (taskNumber p tag)) q (rw ei at n)))
 
-  pub give-up-by : rowResource ≡ q → {x i code : ℕ} → x ≡ holderSeat seats q (lineAt s q) → i ≡ taskNumber p tag
+  pub give-up-by : {r x i code : ℕ} → i ≡ taskNumber p tag → rowResource i ≡ q → r ≡ q → x ≡ holderSeat seats r (lineAt s r)
       → code ≡ cond (eqb x (i + 1)) notWaiting 0 → code ≡ giveUpCode p (shows p s) tag q
-  give-up-by own {x} {i} ex ei e =
-      e ∙ sym (line-tested p waiting notWaiting (shows p s) tag q (a .named) ∙ rw (waiting-by, eq-eqb rowResource q own, holds-copy ex ei) (turned (eqb x (i + 1))))
+  give-up-by {r} {x} {i} ei own er ex e =
+      e ∙ sym (line-tested p waiting notWaiting (shows p s) tag q (a .named)
+      ∙ rw (waiting-by, eq-eqb (rowResource (taskNumber p tag)) q (rw ei at own), holds-copy er ex ei) (turned (eqb x (i + 1))))
     where
       turned : (b : Bool) → cond (not b) 0 notWaiting ≡ cond b notWaiting 0
       turned true = refl

@@ -1,4 +1,5 @@
 pub mod Ground
 pub mod Asked
 pub mod Freed
+pub mod Quit
 pub mod Beaten

@@ -58,9 +58,10 @@ pub record Frees (f : List ℕ) (s : State) (figures keys seats : List ℕ) (q :
   pub resource : q < mostResources
   pub held : 1 ≤ lineAt s q .queued
 
--- a give-up that is not refused
+-- a give-up that is not refused; it needs no figures itself, only that the plan has some
 pub record Quits (f : List ℕ) (s : State) (keys seats : List ℕ) (tag q : ℕ) : Type 0 where
-  pub on : OnSeats f s seats
+  pub figures : List ℕ
+  pub on : OnSound f s figures seats
   pub keyed : Keys (planOf f) (s .tasks) keys
   pub code : giveUpCode (planOf f) (shows (planOf f) s) tag q ≡ 0
 

@@ -43,7 +43,7 @@ fn request_code(file: &[u8], figures: &[u16], state: State, tag: u16, q: u8) -> 
 }
 
 // The task with this tag, and 11 or 12 where it or the resource is not there, 0 where both are.
-fn named(file: &[u8], tag: u16, q: u8) -> Named
+fn task_named(file: &[u8], tag: u16, q: u8) -> Named
     requires { ⌜ Checked (now file) ⌝ }
     ensures { λ r. ⌜ NamedBy (planOf (now (file .entry))) tag q r ⌝ }
 {
@@ -81,13 +81,14 @@ fn release_code(file: &[u8], seats: &[u8], state: State, tag: u16, q: u8) -> u8
     requires { ⌜ OnSeats (now file) state (now seats) ⌝ }
     ensures { λ r. ⌜ r ≡ releaseCode (planOf (now (file .entry))) (shows (planOf (now (file .entry))) state) tag q ⌝ }
 {
-    let named = named(file, tag, q);
+    let named = task_named(file, tag, q);
     if named.code != 0 {
         return named.code;
     }
+    let i = named.task;
     let r = folds::wide(q);
     let line = state.lines[r];
-    if folds::wide(holder(line, seats, r)) == named.task + 1 {
+    if folds::wide(holder(line, seats, r)) == i + 1 {
         return 0;
     }
     refusals::NOT_HELD
@@ -98,17 +99,18 @@ fn give_up_code(file: &[u8], seats: &[u8], state: State, tag: u16, q: u8) -> u8
     requires { ⌜ OnSeats (now file) state (now seats) ⌝ }
     ensures { λ r. ⌜ r ≡ giveUpCode (planOf (now (file .entry))) (shows (planOf (now (file .entry))) state) tag q ⌝ }
 {
-    let named = named(file, tag, q);
+    let named = task_named(file, tag, q);
     if named.code != 0 {
         return named.code;
     }
-    let row = state.tasks[named.task];
+    let i = named.task;
+    let row = state.tasks[i];
     if row.resource != q {
         return refusals::NOT_WAITING;
     }
     let r = folds::wide(q);
     let line = state.lines[r];
-    if folds::wide(holder(line, seats, r)) == named.task + 1 {
+    if folds::wide(holder(line, seats, r)) == i + 1 {
         return refusals::NOT_WAITING;
     }
     0
