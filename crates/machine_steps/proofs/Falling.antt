@@ -58,6 +58,23 @@ ended-by s E n f v m a = record {
   none = stamped-at n 129 f v (λ y. mark (ltb y 128)) 128 (omega arith) m ∙ no-mark (anyBelow n (λ i. eqb (f i) 128));
 }
 
+-- the key of a row: it tells the queue in which it stands, or that it stands in none
+module _ (p : Plan) (v : Valid p) (s : State) (w : Whole p s) {figures keys seats : List ℕ} (t : Tabled p s figures keys seats) where
+  pub key-queue : (u : ℕ) → u < p .tasks → let q = standing (s .tasks) u .resource in q < 16 → getD keys u 0 / 64 ≡ queueAt (processorOf p u) q
+  unfolding keyOf
+  key-queue u l lq =
+      let q : ℕ = standing (s .tasks) u .resource in
+      let k : ℕ = processorOf p u in
+      let j : ℕ = standing (s .tasks) u .place in
+      let few : j < 64 =
+      omega (arith, v .tasks, rank-own p (s .tasks) u, max-at (p .tasks) u (rank p (s .tasks) q k) l, ranks-few (w .lines q lq .ranked) k) in
+      let c : getD keys u 0 ≡ seat q k j = t .keys-at .at u l ∙ rw (lt-ltb q 16 lq, lt-ltb j 64 few) in
+      omega arith
+
+  pub key-none : (u : ℕ) → u < 64 → standing (s .tasks) u ≡ noneInLine → getD keys u 0 ≡ noSeat
+  unfolding keyOf
+  key-none u l e = on-le (getD keys u 0 ≡ noSeat) (p .tasks) u (λ a. t .keys-at .rest u l a) (λ a. t .keys-at .at u a ∙ rw e)
+
 module _ (p : Plan) (v : Valid p) (s : State) (w : Whole p s) {figures keys seats : List ℕ} (t : Tabled p s figures keys seats)
     {E : ℕ → Bool} {ended : List ℕ} (x : Ended s E ended) where
   -- the first of u's queue leaves
@@ -70,27 +87,17 @@ module _ (p : Plan) (v : Valid p) (s : State) (w : Whole p s) {figures keys seat
 
   falls-own : (u : ℕ) → u < p .tasks → let q = standing (s .tasks) u .resource in
       q < 16 → falls u ≡ (E q && eqb (slot (lineAt s q) 0) (processorOf p u))
-  unfolding keyOf
   falls-own u l lq =
       let q : ℕ = standing (s .tasks) u .resource in
       let k : ℕ = processorOf p u in
-      let j : ℕ = standing (s .tasks) u .place in
-      let few : j < 64 =
-      omega (arith, v .tasks, rank-own p (s .tasks) u, max-at (p .tasks) u (rank p (s .tasks) q k) l, ranks-few (w .lines q lq .ranked) k) in
-      let c : getD keys u 0 ≡ seat q k j = t .keys-at .at u l ∙ rw (lt-ltb q 16 lq, lt-ltb j 64 few) in
-      let d : getD keys u 0 / 64 ≡ queueAt k q = omega arith in
-      rw (d, x .at k q (low-processor p v u l) lq) (one (E q && eqb (slot (lineAt s q) 0) k))
+      rw (key-queue p v s w t u l lq, x .at k q (low-processor p v u l) lq) (one (E q && eqb (slot (lineAt s q) 0) k))
     where
       one : (b : Bool) → eqb (cond b 1 0) 1 ≡ b
       one true = refl
       one false = refl
 
   falls-none : (u : ℕ) → u < 64 → standing (s .tasks) u ≡ noneInLine → falls u ≡ false
-  unfolding keyOf
-  falls-none u l e =
-      let c : getD keys u 0 ≡ noSeat =
-      on-le (getD keys u 0 ≡ noSeat) (p .tasks) u (λ a. t .keys-at .rest u l a) (λ a. t .keys-at .at u a ∙ rw e) in
-      rw (c, x .none)
+  falls-none u l e = rw (key-none p v s w t u l e, x .none)
 
   -- the rank of each task
   rank-after : (q : ℕ) → q < 16 → (k u : ℕ) → u < p .tasks

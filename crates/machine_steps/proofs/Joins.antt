@@ -16,7 +16,7 @@ use Rattle.machine_steps.specs.Inner.{joined}
 use Rattle.machine_steps.proofs.Shown.{Shown, Changes, changed-whole, changed-shows}
 
 -- a task has no rank for another resource than its row names
-rank-away : (p : Plan) (ts : List Standing) (q k u : ℕ) → standing ts u .resource ≢ q → rank p ts q k u ≡ 0
+pub rank-away : (p : Plan) (ts : List Standing) (q k u : ℕ) → standing ts u .resource ≢ q → rank p ts q k u ≡ 0
 unfolding rank
 rank-away p ts q k u n = rw (ne-eqb (standing ts u .resource) q n, and-false)
 

@@ -9,4 +9,5 @@ pub mod Shown
 pub mod Falling
 pub mod Passed
 pub mod Leaving
+pub mod Withdrawing
 pub mod Ticks

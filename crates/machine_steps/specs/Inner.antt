@@ -1,5 +1,5 @@
--- What joining, leaving and a tick make of the rows of a state, by the tables. None of this is a rule of document 01: the rules are
--- those of a line.
+-- What joining, leaving, giving up and a tick make of the rows of a state, by the tables. None of this is a rule of documents 01 and
+-- 02: the rules are those of a line.
 use Prim.Native.Nat.{ℕ, _+_, _-_, _*_, _/_, _≤_, _<_}
 use mathlib.Core.Bool.{Bool, cond, _&&_}
 use mathlib.Core.List.{List, [], _∷_}
@@ -8,7 +8,8 @@ use mathlib.Core.Path.{_≡_}
 use lib.Dec.{eqb, leb, ltb}
 use lib.ListN.{length, getD, set, replicate}
 use Rattle.sizes.specs.Sizes.{mostProcessors, mostTasks, mostResources, absent}
-use Rattle.folds.specs.Below.{findBelow, sumBelow}
+use Rattle.folds.specs.Below.{anyBelow, findBelow, sumBelow}
+use Rattle.folds.specs.Bytes.{placedBelow}
 use Rattle.folds.specs.Each.{eachBelow}
 use Rattle.folds.specs.Words.{wordBelow}
 use Rattle.folds.proofs.Arrays.{stampedBelow}
@@ -16,7 +17,7 @@ use Rattle.analysis_figures.specs.Figures.{figureCount, holdCell, budgetCell}
 use Rattle.machine_state.specs.declared.Standing.{Standing}
 use Rattle.machine_state.specs.declared.LineRow.{LineRow}
 use Rattle.machine_state.specs.declared.State.{State}
-use Rattle.machine_state.specs.Shows.{noStanding, noLine, noneInLine, inLineAt, movedUp, lineAt, slot}
+use Rattle.machine_state.specs.Shows.{noStanding, noLine, noneInLine, inLineAt, movedUp, standing, lineAt, slot}
 use Rattle.machine_state.specs.Inner.{queueAt, seat, seatCount, SeatSized, Sized}
 use Rattle.machine_steps.specs.declared.Ahead.{Ahead}
 use Rattle.machine_steps.specs.declared.Stepped.{Stepped}
@@ -98,6 +99,15 @@ pub record Leaving (figures keys seats : List ℕ) (q : ℕ) (l : LineRow) : Typ
   pub tables : Sized figures keys seats
   pub resource : q < mostResources
   pub ready : HeadReady seats q l
+
+-- task i of processor k, which leaves its queue for q: somebody is queued
+pub record Withdrawing (keys seats : List ℕ) (q i k : ℕ) (s : State) : Type 0 where
+  pub keys-long : length keys ≡ mostTasks
+  pub seats-long : length seats ≡ seatCount
+  pub resource : q < mostResources
+  pub task : i < mostTasks
+  pub core : k < mostProcessors
+  pub some : 1 ≤ lineAt s q .queued
 
 -- all held lines of a state go on
 abbrev pub AllRunning : List ℕ → List LineRow → Type 0
@@ -209,6 +219,50 @@ leftBy figures keys seats q s =
     record {
       lines = set (s .lines) q (passed figures seats q (lineAt s q));
       tasks = lowered keys (set noMarks (queueAt (slot (lineAt s q) 0) q) 1) (s .tasks);
+    }
+
+-- ── giving up ──
+
+-- a row once the task in this place of its queue left, where `on` says that one did
+unfoldable pub closed : Bool → ℕ → Standing → Standing
+closed on place s = cond on (cond (eqb (s .place) place) noneInLine (cond (ltb place (s .place)) (movedUp s) s)) s
+
+-- the rows of the tasks once that in this place of one queue left
+unfoldable pub closedUp : (keys : List ℕ) → (queue place : ℕ) → List Standing → List Standing
+closedUp keys queue place ts = eachBelow noStanding (λ u s. closed (eqb (getD keys u 0 / mostTasks) queue) place s) mostTasks ts
+
+-- the last slot of a queue of processors
+abbrev pub lastSlot : ℕ
+lastSlot = mostProcessors - 1
+
+-- processor k stands in slot j of a queue, or in one before it
+abbrev pub passedBy : List ℕ → ℕ → ℕ → Bool
+passedBy l k j = anyBelow (j + 1) (λ i. eqb (getD l i 0) k)
+
+-- what stands in slot j without k
+abbrev pub besides : List ℕ → ℕ → ℕ → ℕ
+besides l k j = cond (passedBy l k j) (getD l (j + 1) 0) (getD l j 0)
+
+-- the line without processor k, those behind it moved up
+unfoldable pub dropped : LineRow → ℕ → LineRow
+dropped l k =
+    record {
+      queued = l .queued - 1;
+      queue = placedBelow lastSlot (besides (l .queue) k) (replicate mostProcessors absent);
+      «hold_left» = l .«hold_left»;
+      «budget_left» = l .«budget_left»;
+    }
+
+-- the lines once a task of processor k left its queue for q: where no second sat there, k goes
+unfoldable pub withdrawnLines : (seats : List ℕ) → (q k : ℕ) → State → List LineRow
+withdrawnLines seats q k s = cond (eqb (getD seats (seat q k 1) 0) 0) (set (s .lines) q (dropped (lineAt s q) k)) (s .lines)
+
+-- the state once task i of processor k left its queue for q
+abbrev pub withdrawnBy : (keys seats : List ℕ) → (q i k : ℕ) → State → State
+withdrawnBy keys seats q i k s =
+    record {
+      lines = withdrawnLines seats q k s;
+      tasks = closedUp keys (queueAt k q) (standing (s .tasks) i .place) (s .tasks);
     }
 
 -- ── a tick ──

@@ -1,11 +1,11 @@
-// What a request, a release and a tick make of a sound state, by the tables of its plan. Every function here is for the machine:
-// each says in its `requires` what it relies on.
+// What a request, a release, a give-up and a tick make of a sound state, by the tables of its plan. Every function here is for the
+// machine: each says in its `requires` what it relies on.
 use machine_state::LineRow;
 use machine_state::Standing;
 use machine_state::State;
 ghost use mathlib.Core.Path.{_≡_};
 ghost use mathlib.Core.Bool.{_&&_};
-ghost use Prim.Native.Nat.{_<_};
+ghost use Prim.Native.Nat.{_<_, _≤_};
 ghost use lib.Dec.{eqb, ltb};
 ghost use lib.ListN.{length};
 ghost use Rattle.folds.specs.Words.{bitOf};
@@ -13,14 +13,17 @@ ghost use Rattle.machine_state.specs.Shows.{lineAt};
 ghost use Rattle.machine_state.specs.Inner.{SeatSized, Sized};
 ghost use Rattle.machine_steps.specs.Inner.{pushed, joinedBy, fallen, lowered, holdOf, begun, passed, stepped, leftBy};
 ghost use Rattle.machine_steps.specs.Inner.{QueueOf, PlaceTaken, Joining, Lowering, Beginning, Passing, Stepping, Leaving, AllRunning};
-ghost use Rattle.machine_steps.specs.Inner.{AheadOf, SteppedOf, TickedOf};
-ghost use Rattle.sizes.specs.Sizes.{mostProcessors, mostResources};
+ghost use Rattle.machine_steps.specs.Inner.{AheadOf, SteppedOf, TickedOf, closed, closedUp, dropped, withdrawnBy, Withdrawing};
+ghost use Rattle.sizes.specs.Sizes.{mostProcessors, mostTasks, mostResources};
 
 // The queues of all processors for all resources.
 const QUEUES: usize = sizes::RESOURCES * sizes::PROCESSORS;
 
 // A mark for each, and one more for none.
 const MARKS: usize = QUEUES + 1;
+
+// The last slot of a queue of processors.
+const LAST: usize = sizes::PROCESSORS - 1;
 
 // The tasks ahead in a queue: how many, and the sum of their hold times.
 pub struct Ahead {
@@ -219,6 +222,83 @@ pub fn leave(mut state: State, figures: &[u16], keys: &[u16], seats: &[u8], q: u
     let after = pass(line, figures, seats, q);
     state.lines[q] = after;
     state.tasks = tasks;
+    state
+}
+
+// A row once the task in this place of its queue left, where one did.
+fn close(s: Standing, on: bool, place: u8) -> Standing
+    ensures { λ r. ⌜ r ≡ closed on place s ⌝ }
+{
+    if on {
+        if s.place == place {
+            return machine_state::idle();
+        }
+        if place < s.place {
+            return machine_state::moved_up(s);
+        }
+    }
+    s
+}
+
+// The rows of the tasks once that in this place of one queue left.
+fn close_up(
+    tasks: [Standing; sizes::TASKS],
+    keys: &[u16],
+    queue: u16,
+    place: u8,
+) -> [Standing; sizes::TASKS]
+    requires { ⌜ length (now keys) ≡ mostTasks ⌝ }
+    ensures { λ r. ⌜ r ≡ closedUp (now (keys .entry)) queue place tasks ⌝ }
+{
+    let mut next = tasks;
+    let mut u = 0;
+    while u < sizes::TASKS {
+        let s = next[u];
+        let on = keys[u] / sizes::TASKS as u16 == queue;
+        let after = close(s, on, place);
+        next[u] = after;
+        u += 1;
+    }
+    next
+}
+
+// The line without processor k, which is queued: those behind it move up.
+fn drop_core(line: LineRow, k: u8) -> LineRow
+    requires { ⌜ 1 ≤ line .queued ⌝ }
+    ensures { λ r. ⌜ r ≡ dropped line k ⌝ }
+{
+    let l = line.queue;
+    let mut queue = [sizes::ABSENT; sizes::PROCESSORS];
+    let mut past = false;
+    let mut j = 0;
+    while j < LAST {
+        past = past | (l[j] == k);
+        queue[j] = l[j + past as usize];
+        j += 1;
+    }
+    LineRow {
+        queued: line.queued - 1,
+        queue,
+        hold_left: line.hold_left,
+        budget_left: line.budget_left,
+    }
+}
+
+// Task i of processor k, which waits for q, leaves its queue.
+pub fn withdraw(mut state: State, keys: &[u16], seats: &[u8], q: usize, i: usize, k: u8) -> State
+    requires { ⌜ Withdrawing (now keys) (now seats) q i k state ⌝ }
+    ensures { λ r. ⌜ r ≡ withdrawnBy (now (keys .entry)) (now (seats .entry)) q i k state ⌝ }
+{
+    let own = state.tasks[i];
+    let queue = q * sizes::PROCESSORS + folds::wide(k);
+    let rows = state.tasks;
+    let tasks = close_up(rows, keys, queue as u16, own.place);
+    state.tasks = tasks;
+    if seats[queue * sizes::TASKS + 1] == 0 {
+        let line = state.lines[q];
+        let after = drop_core(line, k);
+        state.lines[q] = after;
+    }
     state
 }
 
