@@ -99,6 +99,7 @@ module _ (p : Plan) (v : Valid p) (s : State) (w : Whole p s) {figures keys seat
   abbrev l : LineRow
   l = lineAt s q
 
+  -- the line as it was; i has a rank in it, and another holds
   was : Good p (s .tasks) q l
   was = w .lines q lq
 
@@ -112,6 +113,7 @@ module _ (p : Plan) (v : Valid p) (s : State) (w : Whole p s) {figures keys seat
   own : Stands (standing (s .tasks) i) k q k (R k i - 1)
   own = rank-of p (s .tasks) q k i (x .stood)
 
+  -- what the code relies on
   pub withdraw-ready : Withdrawing keys seats q i (processorOf p i) s
   withdraw-ready = record {
     keys-long = t .keys-at .long;
@@ -123,6 +125,7 @@ module _ (p : Plan) (v : Valid p) (s : State) (w : Whole p s) {figures keys seat
   }
 
   -- ── the rows ──
+  -- the key of row u names the queue that i leaves
   abbrev closing : ℕ → Bool
   closing u = eqb (getD keys u 0 / 64) (queueAt k q)
 
@@ -130,7 +133,7 @@ module _ (p : Plan) (v : Valid p) (s : State) (w : Whole p s) {figures keys seat
   unfolding closedUp
   row u b = each-at noStanding (λ u r. closed (closing u) place r) 64 u (s .tasks) b (omega (arith, t .tasks-long))
 
-  -- those of the queue that it leaves
+  -- u stands in it
   record Inside (u : ℕ) : Type 0 where
     core : processorOf p u ≡ k
     resource : standing (s .tasks) u .resource ≡ q
@@ -152,7 +155,7 @@ module _ (p : Plan) (v : Valid p) (s : State) (w : Whole p s) {figures keys seat
       record { core = omega (arith, low); resource = omega (arith, low) })
       (w .rows u b)
 
-  -- all others stay
+  -- a row that stays, or is closed up
   by-row : (C : Type 0) (u : ℕ) → u < 64 → (standing after u ≡ standing (s .tasks) u → C)
       → (Inside u → standing after u ≡ closed true place (standing (s .tasks) u) → C) → C
   unfolding closed
@@ -253,15 +256,15 @@ module _ (p : Plan) (v : Valid p) (s : State) (w : Whole p s) {figures keys seat
   abbrev L : State
   L = withdrawnBy keys seats q i k s
 
-  line-stays : 2 ≤ maxBelow (p .tasks) (R k) → lineAt L q ≡ l
-  unfolding withdrawnLines
-  line-stays a = simp (ne-eqb (getD seats (seat q k 1) 0) 0 (λ e. omega (arith, seat-taken p v s w (t .seats-at) q k lq low 1 a)))
-
   line-goes : maxBelow (p .tasks) (R k) ≤ 1 → lineAt L q ≡ dropped l k
   unfolding withdrawnLines
   line-goes a =
       rw (seat-empty p v s w (t .seats-at) q k lq low 1 a (omega arith))
       (getD-set-same (s .lines) q (dropped l k) noLine (omega (arith, t .lines-long)))
+
+  line-stays : 2 ≤ maxBelow (p .tasks) (R k) → lineAt L q ≡ l
+  unfolding withdrawnLines
+  line-stays a = simp (ne-eqb (getD seats (seat q k 1) 0) 0 (λ e. omega (arith, seat-taken p v s w (t .seats-at) q k lq low 1 a)))
 
   line-after : Shown p after q (lineAt L q) ruled
   line-after =

@@ -1,5 +1,5 @@
--- What joining, leaving, giving up and a tick make of the rows of a state, by the tables. None of this is a rule of document 01: the rules are
--- those of a line.
+-- What joining, leaving, giving up and a tick make of the rows of a state, by the tables. None of this is a rule of documents 01 and
+-- 02: the rules are those of a line.
 use Prim.Native.Nat.{ℕ, _+_, _-_, _*_, _/_, _≤_, _<_}
 use mathlib.Core.Bool.{Bool, cond, _&&_}
 use mathlib.Core.List.{List, [], _∷_}
@@ -253,7 +253,7 @@ dropped l k =
       «budget_left» = l .«budget_left»;
     }
 
--- the lines once one of processor k left its queue for q: where no second sat there, k goes
+-- the lines once a task of processor k left its queue for q: where no second sat there, k goes
 unfoldable pub withdrawnLines : (seats : List ℕ) → (q k : ℕ) → State → List LineRow
 withdrawnLines seats q k s = cond (eqb (getD seats (seat q k 1) 0) 0) (set (s .lines) q (dropped (lineAt s q) k)) (s .lines)
 

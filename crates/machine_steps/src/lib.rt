@@ -1,5 +1,5 @@
-// What a request, a release, a give-up and a tick make of a sound state, by the tables of its plan. Every function here is for the machine:
-// each says in its `requires` what it relies on.
+// What a request, a release, a give-up and a tick make of a sound state, by the tables of its plan. Every function here is for the
+// machine: each says in its `requires` what it relies on.
 use machine_state::LineRow;
 use machine_state::Standing;
 use machine_state::State;
