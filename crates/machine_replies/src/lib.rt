@@ -110,7 +110,8 @@ fn give_up_code(file: &[u8], seats: &[u8], state: State, tag: u16, q: u8) -> u8
     }
     let r = folds::wide(q);
     let line = state.lines[r];
-    if folds::wide(holder(line, seats, r)) == i + 1 {
+    let first = folds::wide(holder(line, seats, r));
+    if first == i + 1 {
         return refusals::NOT_WAITING;
     }
     0

@@ -46,11 +46,14 @@ module _ (f : List ℕ) (bytes : (k : ℕ) → k < length f → getD f k 0 < 256
   bytes-name : (letter tag q : ℕ) → each-names q (callOf letter tag q)
   unfolding callOf each-names requestCode
   bytes-name letter tag q =
-      when (eqb letter 81) asks (when (eqb letter 82) frees (when (eqb letter 87) quits (when (eqb letter 84 && (eqb tag 0 && eqb q 0)) ticks tt)))
+      when (eqb letter 81) (Request tag q ∷ []) _ asks
+      (when (eqb letter 82) (Release tag q ∷ []) _ frees
+      (when (eqb letter 87) (GiveUp tag q ∷ []) _ quits
+      (when (eqb letter 84 && (eqb tag 0 && eqb q 0)) (Tick ∷ []) [] ticks tt)))
     where
-      when : (b : Bool) {x y : List Call} → each-names q x → each-names q y → each-names q (cond b x y)
-      when true h g = h
-      when false h g = g
+      when : (b : Bool) (x y : List Call) → each-names q x → each-names q y → each-names q (cond b x y)
+      when true x y h g = h
+      when false x y h g = g
 
       asks : Names f q (reply f s (Request tag q))
       asks =

@@ -10,7 +10,7 @@ answer-number-spec =
     (λ c. search needs) (λ c. search needs) (λ c κs. search needs) (λ c. search needs) (λ c. search needs) (λ c. search needs)
     (λ c. search needs) (λ c. search needs) (λ c. search needs) (λ c κs. search needs) (λ c. search needs) (λ c. search needs)
     (λ c. search needs) (λ c. search needs) (λ c κs. search needs) (λ c. search needs) (λ c. search needs) (λ c κs. search needs)
-    (λ c. search needs) (λ c. search needs) (λ c. search needs) (λ c κs. search needs) (λ c. search needs)
+    (λ c. search needs) (λ c. search needs) (λ c. search needs) (λ c. search needs) (λ c κs. search needs) (λ c. search needs)
     (λ c. rw (c .byte .ensures .same) (sym (ap answerNumber (c .before .before .answer .given .1))))
     (λ c. rw (c .word .ensures .same) (sym (ap answerNumber (c .before .before .answer2 .given .1)))) (λ c. search needs)
     (λ c. let h = c .before in
