@@ -1,7 +1,7 @@
 -- The names that the proofs of this crate share, by one module: a definition that moves is named anew here alone.
 pub use Rattle.folds.proofs.Ground.{Bool, List, _*_, _+_, _-_, _<_, _∙_, _≡_, _≢_, _≤_, ap, arith, cond, eq-eqb, eqb, false}
 pub use Rattle.folds.proofs.Ground.{getD, length, ne-eqb, needs, not-false, refl, sym, true, ℕ}
-pub use Rattle.folds.proofs.Tests.{code-zero, first-zero, then-zero}
+pub use Rattle.folds.proofs.Tests.{first-zero, then-zero}
 pub use Rattle.plan_reading.specs.Plan.{Plan, Valid}
 unfoldable pub use Rattle.plan_reading.specs.Plan.{planOf}
 unfoldable pub use Rattle.analysis_equations.specs.Questions.{taskNumber, useCode}

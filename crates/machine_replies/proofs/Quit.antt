@@ -1,5 +1,5 @@
 -- What a give-up does that is not refused.
-use Rattle.machine_replies.proofs.Ground.{ℕ, _<_, _≡_, refl, true, arith, List, Plan, Valid, taskNumber, GiveUp, State, lineCode, shows, Whole}
+use Rattle.machine_replies.proofs.Ground.{ℕ, _<_, _≡_, refl, true, arith, List, Plan, Valid, taskNumber, GiveUp, State, shows, Whole}
 use Rattle.machine_replies.proofs.Ground.{sound-of, Tabled, Acted, mostResources}
 use Rattle.analysis_equations.specs.Sharing.{processorOf}
 use Rattle.queue_rules.specs.Rules.{waiting}

@@ -1,9 +1,9 @@
 -- From all orderly lines: whoever waits has what it waits for, or gives up, within its bound.
 use Rattle.machine_rules.proofs.Ground.{ℕ, _+_, _-_, _≤_, _<_, Bool, true, false, not, and-false, or-true, true≢false, _≡_, refl}
-use Rattle.machine_rules.proofs.Ground.{sym, ap, _∙_, _⊎_, inl, inr, List, [], _∷_, _++_, arith, by-eq, not-true, and-parts, is-not-true, Plan}
+use Rattle.machine_rules.proofs.Ground.{sym, ap, _∙_, _⊎_, inl, inr, List, [], _∷_, _++_, arith, by-eq, not-true, and-parts, Plan}
 use Rattle.machine_rules.proofs.Ground.{Valid, processorOf, taskNumber, Line, among, inLine, holds, queued, isHead, waiting, without, aheadIn}
 use Rattle.machine_rules.proofs.Ground.{queueOf, tasksOf, allBut, limit, by-bool, Call, Request, Release, GiveUp, Tick, View, terms, callCode, step}
-use Rattle.machine_rules.proofs.Ground.{after, isTick, ticks, Event, grants, givesUp, ends, occurs, Within, Bounded, Waiter, taskFor, coreFor}
+use Rattle.machine_rules.proofs.Ground.{after, isTick, ticks, Event, grants, givesUp, occurs, Within, Bounded, Waiter, taskFor, coreFor}
 use Rattle.machine_rules.proofs.Ground.{ended, Kept, TaskKept, ServedFrom}
 use Rattle.folds.proofs.Ground.{eqb, eq-eqb, eqb-false, not-false}
 use Rattle.folds.proofs.Tests.{or-out}
@@ -15,7 +15,7 @@ use Rattle.queue_rules.proofs.Own.{own-stands}
 use Rattle.queue_rules.proofs.Waiting.{Tasks, task-kept, wait-bound}
 use Rattle.queue_rules.proofs.Heads.{Some, isSome, core-kept, head-bound, queued-some}
 use Rattle.queue_rules.proofs.Withdrawn.{but-other}
-use Rattle.machine_rules.specs.Waiting.{heads, empties, CoreKept}
+use Rattle.machine_rules.specs.Waiting.{empties, CoreKept}
 use Rattle.machine_rules.proofs.Moves.{Move, stays, enters, leaves, gives-up, moved}
 use Rattle.machine_rules.proofs.Moves as Moves
 use Rattle.machine_rules.proofs.SoundLines.{known, fits}

@@ -1,14 +1,14 @@
 -- What a give-up does that is not refused: its task waited, and waits no more; by it its core may leave the queue.
-use Rattle.machine_rules.proofs.Ground.{ℕ, Bool, true, false, cond, _&&_, not, true≢false, not-true, _≡_, refl, sym, _∙_, List, eqb, eq-eqb}
-use Rattle.machine_rules.proofs.Ground.{and-parts, and-false, is-not-true, by-eq, Plan, processorOf, taskNumber, Line, among, inLine, holds, queued}
+use Rattle.machine_rules.proofs.Ground.{ℕ, Bool, true, false, _&&_, not, true≢false, not-true, _≡_, refl, sym, _∙_, List, eqb, eq-eqb}
+use Rattle.machine_rules.proofs.Ground.{and-parts, is-not-true, Plan, processorOf, taskNumber, inLine, holds, queued}
 use Rattle.machine_rules.proofs.Ground.{isHead, waiting, without, queueOf, tasksOf, allBut, withdrawn, Call, Request, Release, GiveUp, Tick}
-use Rattle.machine_rules.proofs.Ground.{View, terms, callCode, step, Event, givesUp}
+use Rattle.machine_rules.proofs.Ground.{View, terms, callCode, step, givesUp}
 use Rattle.folds.proofs.Ground.{eqb-true}
 use Rattle.queue_rules.proofs.Sound.{sound-queue}
 use Rattle.queue_rules.proofs.Own.{own-stands}
 use Rattle.queue_rules.proofs.Once.{tasks-own}
 use Rattle.queue_rules.proofs.Heads.{queued-some, among-some, head-queued}
-use Rattle.queue_rules.proofs.Withdrawn.{but-other, but-none, tasks-withdrawn, withdrawn-head, withdrawn-own}
+use Rattle.queue_rules.proofs.Withdrawn.{but-none, tasks-withdrawn, withdrawn-head, withdrawn-own}
 use Rattle.machine_rules.specs.Waiting.{withdraws, empties}
 use Rattle.machine_rules.proofs.SoundLines.{known, SoundAt}
 use Rattle.machine_rules.proofs.LineCodes.{line-passes}

@@ -1,5 +1,5 @@
 -- What the numbers of a release and of a give-up tell.
-use Rattle.machine_rules.proofs.Ground.{ℕ, _<_, Bool, true, cond, _≡_, Plan, taskNumber, Line, View, lineCode, first-zero}
+use Rattle.machine_rules.proofs.Ground.{ℕ, _<_, Bool, true, _≡_, Plan, taskNumber, Line, View, lineCode, first-zero}
 use Rattle.folds.proofs.Ground.{suc, ltb, ltb-true}
 use Rattle.folds.proofs.Tests.{code-zero, code-next, then-zero}
 use Rattle.machine_rules.specs.Machine.{namedCode}

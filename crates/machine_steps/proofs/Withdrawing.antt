@@ -1,8 +1,8 @@
 -- A waiting task leaves its queue: the state after it shows what the rule makes of what it showed, and is sound.
-use Rattle.machine_steps.proofs.Ground.{ℕ, suc, _+_, _-_, _/_, _<_, _≤_, Bool, true, false, cond, _&&_, not, _≡_, refl, sym, ap, ap₂}
+use Rattle.machine_steps.proofs.Ground.{ℕ, suc, _+_, _-_, _/_, _<_, _≤_, Bool, true, false, cond, _≡_, refl, sym, ap, ap₂}
 use Rattle.machine_steps.proofs.Ground.{_∙_, _≢_, _⊎_, inl, inr, ⊎-elim, List, eqb, getD, set, getD-set-same, getD-set-other, arith}
-use Rattle.machine_steps.proofs.Ground.{eq-eqb, eqb-true, ne-eqb, lt-ltb, le-leb, lt-leb, maxBelow, max-at, any-at, by-eq, on-eq, on-le}
-use Rattle.machine_steps.proofs.Ground.{same-eqb, each-at, Plan, Valid, processorOf, holdAt, terms, change, LineRow, Standing}
+use Rattle.machine_steps.proofs.Ground.{eq-eqb, eqb-true, ne-eqb, lt-ltb, maxBelow, max-at, any-at, by-eq, on-eq, on-le}
+use Rattle.machine_steps.proofs.Ground.{each-at, Plan, Valid, processorOf, holdAt, terms, change, LineRow, Standing}
 use Rattle.machine_steps.proofs.Ground.{State, noLine, noStanding, noneInLine, movedUp, standing, lineAt, slot, rank, shows, shownLine}
 use Rattle.machine_steps.proofs.Ground.{queueAt, seat, Good, Whole, hold-resource, low-processor, replicate}
 use Rattle.machine_steps.proofs.Ground.{besides, closed, closedUp, dropped, withdrawnLines}
@@ -11,35 +11,16 @@ use Rattle.folds.proofs.Tests.{any-none}
 use Rattle.folds.proofs.Arrays.{placed-at, placed-later}
 use Rattle.queue_rules.specs.Rules as Rules
 use Rattle.queue_ranks.proofs.Ranked.{At}
-use Rattle.queue_ranks.proofs.Reading.{Waiting, waits, holds-own, in-line}
+use Rattle.queue_ranks.proofs.Reading.{Waiting, waits}
 use Rattle.queue_ranks.proofs.Drop.{Drops, withdrawn-stays, withdrawn-goes}
 use Rattle.queue_ranks.proofs.DropKeeps.{drop-ranked, stays-queued, goes-queued, drop-timed, goes-behind}
 use Rattle.machine_state.proofs.Tables.{Stands, rank-in}
-use Rattle.machine_state.proofs.Wholes.{rank-of, rank-none, rank-own, hold-task}
+use Rattle.machine_state.proofs.Wholes.{rank-of, rank-none, hold-task}
 use Rattle.machine_steps.specs.Inner.{Withdrawing, withdrawnBy}
 use Rattle.machine_steps.proofs.Ready.{Tabled, seat-taken, seat-empty}
 use Rattle.machine_steps.proofs.Falling.{key-queue, key-none}
 use Rattle.machine_steps.proofs.Joins.{rank-away}
 use Rattle.machine_steps.proofs.Shown.{Shown, Changes, changed-whole, changed-shows}
-
--- ── who waits ──
--- a task whose row names q, but for the first of the head
-pub waiting-row : (p : Plan) (s : State) → Whole p s → (q i : ℕ) → q < 16 → i < p .tasks
-    → Rules.waiting i (shows p s .lines q)
-    ≡ (eqb (standing (s .tasks) i .resource) q && not (eqb (standing (s .tasks) i .place) 0 && eqb (slot (lineAt s q) 0) (processorOf p i)))
-unfolding shows
-waiting-row p s w q i lq lt =
-    let k : ℕ = processorOf p i in
-    let r : Standing = standing (s .tasks) i in
-    let l : LineRow = lineAt s q in
-    let g = w .lines q lq in
-    let stands = in-line (g .ranked) (g .queued) i lt in
-    by-eq (λ (b : Bool). Rules.waiting i (shownLine p (s .tasks) q l) ≡ (b && not (eqb (r .place) 0 && eqb (slot l 0) k))) (r .resource) q
-    (λ e. let own : rank p (s .tasks) q k i ≡ r .place + 1 = rw e at (rank-own p (s .tasks) i) in
-    ap₂ (λ (a b : Bool). a && not b) (stands ∙ le-leb 1 (rank p (s .tasks) q k i) (omega arith))
-    (holds-own (g .ranked) (g .queued) i lt (l .«hold_left») (l .«budget_left») (omega arith)
-    ∙ ap (λ (b : Bool). b && eqb (slot l 0) k) (same-eqb (rank p (s .tasks) q k i) 1 (r .place) 0 (λ z. omega arith) (λ z. omega arith))))
-    (λ n. rw (stands ∙ lt-leb 1 (rank p (s .tasks) q k i) (omega (arith, rank-away p (s .tasks) q k i n))))
 
 -- ── a row of the queue that a task in this place leaves: it is that task's, is behind it, or is ahead of it ──
 module _ (j : ℕ) (r : Standing) where

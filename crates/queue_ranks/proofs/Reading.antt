@@ -2,14 +2,14 @@
 use Rattle.queue_ranks.proofs.Ground.{ℕ, zero, suc, _+_, _<_, _≤_, Bool, cond, _≡_, refl, sym, ap, _∙_, _≢_, List, _∷_, eqb, arith}
 use Rattle.queue_ranks.proofs.Ground.{eqb-true, eq-eqb, ne-eqb, le-leb, lt-leb, maxBelow, max-at, by-eq, Terms, line, listFrom}
 use Rattle.queue_ranks.proofs.Ground.{taskRanked, othersOf, turnOf, queueFrom, on-eq, on-le}
-use Rattle.folds.proofs.Ground.{true, false, _&&_, _||_, not, or-true, true≢false, leb, leb-true, eqb-false, not-true}
-use Rattle.folds.proofs.Tests.{and-parts, or-out, is-not-true, same-test}
+use Rattle.folds.proofs.Ground.{true, false, _||_, not, or-true, true≢false, leb, leb-true, eqb-false, not-true}
+use Rattle.folds.proofs.Tests.{and-parts, or-out, is-not-true}
 use Rattle.queue_rules.specs.Rules.{among, standsIn, hasTurn, tasksOf, holds, waiting}
 use Rattle.queue_rules.proofs.Sound.{Owns, Proper, nobody, stands}
 use Rattle.queue_rules.proofs.FirstCome.{no-tasks}
 use Rattle.queue_rules.proofs.Own.{own-stands}
 use Rattle.queue_ranks.proofs.Lists.{list-first}
-use Rattle.queue_ranks.proofs.Ranked.{At, Ranked, Queued, task-rank, owner, ranked-at, sole, full}
+use Rattle.queue_ranks.proofs.Ranked.{At, Ranked, Queued, task-rank, ranked-at, full}
 
 -- the tasks of a turn, first and others
 abbrev tasks : ℕ → (ℕ → ℕ) → List ℕ
@@ -129,18 +129,3 @@ module _ {n m : ℕ} {t : Terms} {R : ℕ → ℕ → ℕ} {c : ℕ} {g : ℕ �
         held = held;
         behind = eqb-false _ i (sym (holds-first n R i c g h b held) ∙ not-true _ z);
       }
-
-  -- who is in line holds where it is the first of the head's queue
-  pub holds-own : 1 ≤ R (t .processor i) i
-      → holds i (line h b (queueFrom n R c g)) ≡ (eqb (R (t .processor i) i) 1 && eqb (g 0) (t .processor i))
-  holds-own a =
-      let k = t .processor i in
-      let at : At c g k = w .stands k (omega (arith, max-at n i (R k) l)) in
-      holds-first n R i c g h b (omega (arith, at .within))
-      ∙ same-test (eqb (taskRanked n (R (g 0)) 1) i) (eqb (R k i) 1 && eqb (g 0) k)
-      (λ e. let f = eqb-true _ i e in
-      let one : R (g 0) i ≡ 1 = rw f at (task-rank n 1 (R (g 0)) (rw f l)) in
-      let own : g 0 ≡ k = owner r (g 0) i l (omega arith) in
-      rw (eq-eqb (R k i) 1 (rw own at one), eq-eqb (g 0) k own))
-      (λ e. let (one, own) = and-parts (eqb (R k i) 1) (eqb (g 0) k) e in
-      eq-eqb _ i (rw (eqb-true (g 0) k own, ← eqb-true (R k i) 1 one) (sole r k i l a)))

@@ -1,6 +1,6 @@
 -- A task gives up: it is out of line, and everybody else stands as before.
-use Rattle.queue_rules.proofs.Ground.{ℕ, _<_, Bool, true, false, cond, _&&_, _||_, not, or-false, or-true, or-assoc, true≢false, _≡_, refl, sym}
-use Rattle.queue_rules.proofs.Ground.{ap, _∙_, List, [], _∷_, _++_, eqb, eqb-true, eqb-false, eq-eqb, ne-eqb, by-eq, is-not-true, Terms, Turn, turn}
+use Rattle.queue_rules.proofs.Ground.{ℕ, _<_, Bool, true, false, cond, _&&_, _||_, not, or-true, true≢false, _≡_, refl, sym}
+use Rattle.queue_rules.proofs.Ground.{_∙_, List, [], _∷_, _++_, eqb, eqb-true, eq-eqb, ne-eqb, by-eq, is-not-true, Terms, Turn, turn}
 use Rattle.queue_rules.proofs.Ground.{Line, line, queueOf, among, standsIn, holds, hasTurn, tasksOf, allBut, turnWith, turnsBut, withdrawn}
 use Rattle.queue_rules.specs.Rules.{waiting, isHead}
 use Rattle.queue_rules.proofs.Cases.{by-test, or-no}

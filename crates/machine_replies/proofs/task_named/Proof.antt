@@ -1,5 +1,5 @@
 -- The two tests in their order.
-use Rattle.machine_replies.proofs.Ground.{_<_, _≡_, _∙_, arith, needs, planOf, taskNumber}
+use Rattle.machine_replies.proofs.Ground.{_<_, _∙_, arith, needs, planOf, taskNumber}
 use Rattle.machine_replies.proofs.Freed.{named-unknown, named-past, named-there}
 use Rattle.machine_replies.proofs.task_named.Statement.{statement}
 use Rattle.machine_replies.proofs.task_named.Tie as tie
