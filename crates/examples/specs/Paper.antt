@@ -8,7 +8,7 @@ use Rattle.plan_rules.specs.declared.TaskRow.{TaskRow}
 use Rattle.plan_rules.specs.declared.SectionRow.{SectionRow}
 use Rattle.plan_reading.specs.Plan.{Plan}
 use Rattle.machine_rules.specs.declared.Call.{Call}
-use Rattle.machine_rules.specs.declared.Call.the-variants.{Request, Release, Tick}
+use Rattle.machine_rules.specs.declared.Call.the-variants.{Request, Release, GiveUp, Tick}
 
 -- a task of a processor, with its tag, priority, T and C
 abbrev pub taskRow : ℕ → ℕ → ℕ → ℕ → ℕ → TaskRow
@@ -86,6 +86,10 @@ equal =
 -- asks, the second asks behind it; when the first is granted, the other processor asks again. Up to the tick before the last
 abbrev pub toLast : List Call
 toLast = Request 3 0 ∷ Request 1 0 ∷ Request 2 0 ∷ Tick ∷ Tick ∷ Request 3 0 ∷ Tick ∷ Tick ∷ Tick ∷ Tick ∷ []
+
+-- and calls that begin in the same way, of which the first task then gives up, to the tick at which the second is granted
+abbrev pub toSecond : List Call
+toSecond = Request 3 0 ∷ Request 1 0 ∷ Request 2 0 ∷ Tick ∷ GiveUp 1 0 ∷ Tick ∷ []
 
 -- the listing's plan: "2 processors, tasks of tag 10 (processor 0) and 20 (processor 1), resource "bus", sections of 2 and 3 ticks"
 abbrev pub bus : Plan

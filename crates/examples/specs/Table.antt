@@ -1,5 +1,5 @@
--- The table of examples that document 01 wants proved of the definitions: C1 to C6 and the listing's seven calls; and that the
--- longest wait is reached.
+-- The table of examples that document 01 wants proved of the definitions: C1 to C6 and the listing's seven calls; that the longest
+-- wait is reached; and what give-ups do.
 use Prim.Native.Nat.{ℕ, _*_}
 use mathlib.Core.Bool.{Bool, true, false, _&&_, cond}
 use mathlib.Core.List.{List, [], _∷_, _++_}
@@ -11,13 +11,13 @@ use Rattle.analysis_equations.specs.Requirement.{tolerance, slack, met}
 use Rattle.queue_rules.specs.Rules.{queued, isHead}
 use Rattle.queue_rules.specs.Rules as Rules
 use Rattle.machine_rules.specs.declared.Call.{Call}
-use Rattle.machine_rules.specs.declared.Call.the-variants.{Request, Release, Tick}
+use Rattle.machine_rules.specs.declared.Call.the-variants.{Request, Release, GiveUp, Tick}
 use Rattle.machine_rules.specs.declared.Answer.{Answer}
-use Rattle.machine_rules.specs.declared.Answer.the-variants.{Granted, Waits, Next, Free, Ticked, Refused}
+use Rattle.machine_rules.specs.declared.Answer.the-variants.{Granted, Waits, Next, Free, Left, Ticked, Refused}
 use Rattle.machine_rules.specs.Machine.{View, fresh, step, answer, answerOutcome, run}
 use Rattle.machine_rules.specs.Longest.{longestWait}
 use Rattle.plan_reading.specs.Plan.{Plan}
-use Rattle.examples.specs.Paper.{paper, toThree, toEleven, equal, toLast, bus, seven}
+use Rattle.examples.specs.Paper.{paper, toThree, toEleven, equal, toLast, toSecond, bus, seven}
 
 -- a row: what the definitions give, and what document 01 says, both as integers
 pub record Row : Type 0 where
@@ -156,6 +156,19 @@ longest rest =
     ∷ isTest (Rules.holds 1 (run equal (toLast ++ (Tick ∷ [])) .lines 0)) true
     ∷ rest
 
+-- Giving up (document 02 §1), in the plan of C5. The second task waits behind the first, which gives up: it is granted at the second tick,
+-- where it was told seven. The first asks again, and has a new limit; the holder cannot give up; the third is the only task in line of its
+-- core, which leaves the queue
+unfoldable pub giveUps : List Row → List Row
+giveUps rest =
+    areAnswers (answersFrom equal fresh toSecond) (Granted ∷ Waits 0 2 ∷ Waits 1 7 ∷ Ticked 0 0 ∷ Left ∷ Ticked 1 1 ∷ [])
+    ∷ isTest (Rules.holds 1 (run equal toSecond .lines 0)) true
+    ∷ areAnswers (answersFrom equal (run equal toSecond) (Request 1 0 ∷ Request 3 0 ∷ GiveUp 2 0 ∷ GiveUp 3 0 ∷ Tick ∷ Tick ∷ Tick ∷ []))
+    (Waits 1 7 ∷ Waits 0 3 ∷ Refused 23 ∷ Left ∷ Ticked 0 0 ∷ Ticked 0 0 ∷ Ticked 1 1 ∷ [])
+    ∷ isTest (queued 1 (run equal (toSecond ++ (Request 3 0 ∷ [])) .lines 0)) true
+    ∷ isTest (queued 1 (run equal (toSecond ++ (Request 3 0 ∷ GiveUp 3 0 ∷ [])) .lines 0)) false
+    ∷ rest
+
 -- the listing: "granted 20 bus", "waits 10 bus 0 3", "tick 0 0" twice, "tick 1 1", "refused 16", "released 10 bus free"
 unfoldable pub listing : List Row → List Row
 listing rest =
@@ -165,4 +178,4 @@ listing rest =
 
 -- the whole table
 abbrev pub table : List Row
-table = c1 (c2 (c3 (c4 (c5 (c6 (longest (listing [])))))))
+table = c1 (c2 (c3 (c4 (c5 (c6 (longest (giveUps (listing []))))))))
