@@ -1,8 +1,8 @@
 -- What a call is answered, refused or not: its number, and the cuts of a tick.
 use Rattle.machine.proofs.Ground.{ℕ, Bool, true, cond, _≡_, refl, sym, ap, _∙_, List, [], _∷_, ne-eqb, code-zero, first-zero}
-use Rattle.machine.proofs.Ground.{then-zero, by-eq, refusal, Plan, planOf, taskNumber, Call, Request, Release, GiveUp, Tick, Answer, View}
-use Rattle.machine.proofs.Ground.{requestAnswer, answerOutcome, State, shows, sound, stateRefusal, callRefusal, reply}
-use Rattle.machine.proofs.Ground.{Replied, cutsIn}
+use Rattle.machine.proofs.Ground.{then-zero, by-eq, refusal, Plan, planOf, taskNumber, Call, Request, Release, GiveUp, Tick, Answer}
+use Rattle.machine.proofs.Ground.{View, requestAnswer, answerOutcome, State, shows, sound, stateRefusal, callRefusal, reply, Replied}
+use Rattle.machine.proofs.Ground.{cutsIn}
 use Rattle.folds.specs.Below.{countBelow}
 use Rattle.folds.proofs.WordLaws.{word-ones}
 use Rattle.queue_rules.specs.Rules as Rules

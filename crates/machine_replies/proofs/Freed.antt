@@ -1,9 +1,10 @@
 -- A release and a give-up: the numbers by which they are refused; and what a release does that is not.
-use Rattle.machine_replies.proofs.Ground.{ℕ, _+_, _*_, _-_, _<_, _≤_, true, cond, _≡_, sym, ap, _∙_, _≢_, List, eqb, getD, arith, ne-eqb}
-use Rattle.machine_replies.proofs.Ground.{boolByte, Bool, false, refl, eq-eqb, mostProcessors, mostTasks, mostResources, notHeld, TaskRow, Plan, Valid}
-use Rattle.machine_replies.proofs.Ground.{taskNumber, Answer, Release, View, namedCode, lineCode, State, standing, lineAt, slot, shows, Seats, Whole, sound-of}
-use Rattle.machine_replies.proofs.Ground.{Tabled, sized, Acted, NewHead, grantedAnswer}
-use Rattle.folds.proofs.Ground.{true≢false, _&&_, not, lt-ltb, le-ltb}
+use Rattle.machine_replies.proofs.Ground.{ℕ, _+_, _*_, _-_, _<_, _≤_, true, cond, _≡_, sym, ap, _∙_, _≢_, List, eqb, getD, arith}
+use Rattle.machine_replies.proofs.Ground.{ne-eqb, boolByte, Bool, false, refl, eq-eqb, mostProcessors, mostTasks, mostResources}
+use Rattle.machine_replies.proofs.Ground.{notHeld, TaskRow, Plan, Valid, taskNumber, Answer, Release, View, namedCode, lineCode}
+use Rattle.machine_replies.proofs.Ground.{State, standing, lineAt, slot, shows, Seats, Whole, sound-of, Tabled, sized, Acted}
+use Rattle.machine_replies.proofs.Ground.{NewHead, grantedAnswer}
+use Rattle.folds.proofs.Ground.{suc, true≢false, _&&_, not, lt-ltb, le-ltb}
 use Rattle.folds.proofs.Arrays.{by-eq}
 use Rattle.refusals.specs.Numbers.{unknownTag, unknownResource, notWaiting}
 use Rattle.queue_rules.specs.Rules as Rules
@@ -31,7 +32,8 @@ module _ (seats : List ℕ) (q : ℕ) (l : LineRow) where
   pub held-holder : {w x : ℕ} → l .queued ≢ 0 → w ≡ slot l 0 → x ≡ getD seats ((q * mostProcessors + w) * mostTasks) 0 → x ≡ holderSeat seats q l
   unfolding holderSeat
   held-holder {w} n ew ex =
-      let at : (q * mostProcessors + w) * mostTasks ≡ seat q (slot l 0) 0 = omega arith in rw (ne-eqb (l .queued) 0 n) (ex ∙ ap (λ (y : ℕ). getD seats y 0) at)
+      let at : (q * mostProcessors + w) * mostTasks ≡ seat q (slot l 0) 0 = omega arith in
+      rw (ne-eqb (l .queued) 0 n) (ex ∙ ap (λ (y : ℕ). getD seats y 0) at)
 
 -- on a sound state
 module _ {p : Plan} (v : Valid p) {s : State} (w : Whole p s) {seats : List ℕ} (t : Seats p (s .tasks) seats) (q : ℕ) (low : q < mostResources) where
@@ -41,7 +43,8 @@ module _ {p : Plan} (v : Valid p) {s : State} (w : Whole p s) {seats : List ℕ}
   pub holds-by : (i : ℕ) → holds i (shows p s .lines q) ≡ eqb (holderSeat seats q (lineAt s q)) (i + 1)
   unfolding holderSeat
   holds-by i =
-      by-eq (λ (d : Bool). holds i (shows p s .lines q) ≡ eqb (cond d 0 (getD seats (seat q (slot (lineAt s q) 0) 0) 0)) (i + 1)) (lineAt s q .queued) 0
+      let first : ℕ = getD seats (seat q (slot (lineAt s q) 0) 0) 0 in
+      by-eq (λ (d : Bool). holds i (shows p s .lines q) ≡ eqb (cond d 0 first) (i + 1)) (lineAt s q .queued) 0
       (λ e. holder-none p s q i e ∙ sym (ne-eqb 0 (i + 1) (λ z. omega arith)))
       (λ n. holder-seat p v s w q low (omega arith) t i)
 
@@ -60,6 +63,10 @@ module _ (p : Plan) (tag q : ℕ) where
   unfolding namedCode
   named-there t r = rw (lt-ltb _ _ t, lt-ltb _ _ r)
 
+-- a number that is not 0 says nothing of who holds
+pub refused-holds : {m n : ℕ} {C : Type 0} → suc m ≡ n → n ≡ 0 → C
+refused-holds e z = let bad : ⊥ = omega arith in absurd bad
+
 module _ (p : Plan) (test : ℕ → Rules.Line → Bool) (number : ℕ) (m : View) (tag q : ℕ) where
   -- by a copy of the first
   pub line-refused : {code : ℕ} → code ≡ namedCode p tag q → code ≢ 0 → code ≡ lineCode p test number m tag q
@@ -70,14 +77,13 @@ module _ (p : Plan) (test : ℕ → Rules.Line → Bool) (number : ℕ) (m : Vie
   unfolding lineCode
   line-tested z = rw z
 
--- a task and a resource that are there, and the seats of a sound state
-pub record Passed (p : Plan) (s : State) (tag q : ℕ) (seats : List ℕ) : Type 0 where
+-- a task and a resource that are there, in a sound state
+pub record Passed (p : Plan) (s : State) (tag q : ℕ) : Type 0 where
   pub valid : Valid p
   pub whole : Whole p s
-  pub seated : Seats p (s .tasks) seats
   pub named : namedCode p tag q ≡ 0
 
-module _ {p : Plan} {s : State} {tag q : ℕ} {seats : List ℕ} (a : Passed p s tag q seats) where
+module _ {p : Plan} {s : State} {tag q : ℕ} (a : Passed p s tag q) where
   pub task-low : taskNumber p tag < mostTasks
   task-low = omega (arith, a .valid .tasks, named-task p tag q (a .named))
 
@@ -85,18 +91,20 @@ module _ {p : Plan} {s : State} {tag q : ℕ} {seats : List ℕ} (a : Passed p s
   low = omega (arith, a .valid .resources, named-resource p tag q (a .named))
 
   -- the head, and who holds, by copies of the numbers: r of the resource, x of the seat, i of the task
-  pub head-copy : {r : ℕ} → r ≡ q → HeadOf seats r (lineAt s r)
-  head-copy er = rw er (head-of (a .valid) (a .whole) (a .seated) q low)
+  module _ {seats : List ℕ} (t : Seats p (s .tasks) seats) {r : ℕ} (er : r ≡ q) where
+    pub head-copy : HeadOf seats r (lineAt s r)
+    head-copy = rw er (head-of (a .valid) (a .whole) t q low)
 
-  holds-copy : {r x i : ℕ} → r ≡ q → x ≡ holderSeat seats r (lineAt s r) → i ≡ taskNumber p tag
-      → holds (taskNumber p tag) (shows p s .lines q) ≡ eqb x (i + 1)
-  holds-copy er ex ei = holds-by (a .valid) (a .whole) (a .seated) q low (taskNumber p tag) ∙ rw (ex, er, ei)
+    pub holds-copy : {x i : ℕ} → x ≡ holderSeat seats r (lineAt s r) → i ≡ taskNumber p tag
+        → eqb x (i + 1) ≡ holds (taskNumber p tag) (shows p s .lines q)
+    holds-copy ex ei = sym (holds-by (a .valid) (a .whole) t q low (taskNumber p tag) ∙ rw (ex, er, ei))
 
-  pub release-by : {r x i code : ℕ} → r ≡ q → x ≡ holderSeat seats r (lineAt s r) → i ≡ taskNumber p tag → code ≡ cond (eqb x (i + 1)) 0 notHeld
+  -- a release, by whether its task holds
+  pub release-by : {b : Bool} {code : ℕ} → b ≡ holds (taskNumber p tag) (shows p s .lines q) → code ≡ cond b 0 notHeld
       → code ≡ releaseCode p (shows p s) tag q
-  release-by er ex ei e = e ∙ sym (line-tested p holds notHeld (shows p s) tag q (a .named) ∙ rw (holds-copy er ex ei))
+  release-by eb e = e ∙ sym (line-tested p holds notHeld (shows p s) tag q (a .named) ∙ rw (← eb))
 
-  -- a give-up: by the resource in the row of the task
+  -- a give-up, by the resource in the row of its task, and by that
   abbrev rowResource : ℕ → ℕ
   rowResource i = standing (s .tasks) i .resource
 
@@ -109,11 +117,11 @@ module _ {p : Plan} {s : State} {tag q : ℕ} {seats : List ℕ} (a : Passed p s
   give-up-away ei n =
       sym (line-tested p waiting notWaiting (shows p s) tag q (a .named) ∙ rw (waiting-by, ne-eqb (rowResource (taskNumber p tag)) q (rw ei at n)))
 
-  pub give-up-by : {r x i code : ℕ} → i ≡ taskNumber p tag → rowResource i ≡ q → r ≡ q → x ≡ holderSeat seats r (lineAt s r)
-      → code ≡ cond (eqb x (i + 1)) notWaiting 0 → code ≡ giveUpCode p (shows p s) tag q
-  give-up-by {r} {x} {i} ei own er ex e =
+  pub give-up-by : {i : ℕ} {b : Bool} {code : ℕ} → i ≡ taskNumber p tag → rowResource i ≡ q → b ≡ holds (taskNumber p tag) (shows p s .lines q)
+      → code ≡ cond b notWaiting 0 → code ≡ giveUpCode p (shows p s) tag q
+  give-up-by {b = b} ei own eb e =
       e ∙ sym (line-tested p waiting notWaiting (shows p s) tag q (a .named)
-      ∙ rw (waiting-by, eq-eqb (rowResource (taskNumber p tag)) q (rw ei at own), holds-copy er ex ei) (turned (eqb x (i + 1))))
+      ∙ rw (waiting-by, eq-eqb (rowResource (taskNumber p tag)) q (rw ei at own), ← eb) (turned b))
     where
       turned : (b : Bool) → cond (not b) 0 notWaiting ≡ cond b notWaiting 0
       turned true = refl

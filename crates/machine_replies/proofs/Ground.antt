@@ -1,6 +1,6 @@
 -- The names that the proofs of this crate share, by one module: a definition that moves is named anew here alone.
 pub use Rattle.folds.proofs.Ground.{Bool, List, _*_, _+_, _-_, _<_, _∙_, _≡_, _≢_, _≤_, ap, arith, cond, eq-eqb, eqb, false}
-pub use Rattle.folds.proofs.Ground.{getD, length, ne-eqb, needs, not-false, refl, sym, true, ℕ}
+pub use Rattle.folds.proofs.Ground.{getD, length, ne-eqb, needs, not-false, not-true, refl, sym, true, ℕ}
 pub use Rattle.folds.proofs.Tests.{first-zero, then-zero}
 pub use Rattle.plan_reading.specs.Plan.{Plan, Valid}
 unfoldable pub use Rattle.plan_reading.specs.Plan.{planOf}

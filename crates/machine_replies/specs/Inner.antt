@@ -10,6 +10,7 @@ use Rattle.sizes.specs.Sizes.{mostProcessors, mostResources}
 use Rattle.plan_reading.specs.Plan.{Plan, planOf, Checked}
 use Rattle.analysis_equations.specs.Questions.{taskNumber}
 use Rattle.analysis_figures.specs.Figures.{Known}
+use Rattle.queue_rules.specs.Rules.{holds}
 use Rattle.machine_rules.specs.declared.Call.{Call}
 use Rattle.machine_rules.specs.declared.Answer.{Answer}
 use Rattle.machine_rules.specs.declared.Answer.the-variants.{Next, Free}
@@ -73,10 +74,11 @@ pub record Makes (f : List ℕ) (s : State) (figures keys seats : List ℕ) (c :
 
 -- ── what they give ──
 
--- the task with a tag, and 11 or 12
-pub record NamedBy (p : Plan) (tag q : ℕ) (r : Named) : Type 0 where
+-- the task with a tag; 11 or 12; where neither, whether it holds the resource
+pub record NamedBy (p : Plan) (s : State) (tag q : ℕ) (r : Named) : Type 0 where
   pub task : r .task ≡ taskNumber p tag
   pub code : r .code ≡ namedCode p tag q
+  pub holds : namedCode p tag q ≡ 0 → r .holds ≡ holds (taskNumber p tag) (shows p s .lines q)
 
 -- the first task of the head, as its number plus 1; 0 where the line is free
 unfoldable pub holderSeat : List ℕ → ℕ → LineRow → ℕ

@@ -6,7 +6,7 @@ use machine_state::LineRow;
 use machine_state::State;
 ghost use mathlib.Core.Path.{_≡_};
 ghost use Prim.Native.Nat.{ℕ};
-ghost use Rattle.plan_reading.specs.Plan.{planOf, Checked};
+ghost use Rattle.plan_reading.specs.Plan.{planOf};
 ghost use Rattle.machine_rules.specs.declared.Call.the-variants.{Request, Release, GiveUp, Tick};
 ghost use Rattle.machine_rules.specs.Machine.{requestCode, releaseCode, giveUpCode, callCode};
 ghost use Rattle.machine_state.specs.Shows.{shows};
@@ -19,10 +19,11 @@ pub struct Reply {
     pub state: State,
 }
 
-// A task, and why it or a resource is refused.
+// A task, why it or a resource is refused, and whether it holds that.
 struct Named {
     code: u8,
     task: usize,
+    holds: bool,
 }
 
 // 11 to 15, 0 where none, of a request on a sound state.
@@ -42,28 +43,6 @@ fn request_code(file: &[u8], figures: &[u16], state: State, tag: u16, q: u8) -> 
     0
 }
 
-// The task with this tag, and 11 or 12 where it or the resource is not there, 0 where both are.
-fn task_named(file: &[u8], tag: u16, q: u8) -> Named
-    requires { ⌜ Checked (now file) ⌝ }
-    ensures { λ r. ⌜ NamedBy (planOf (now (file .entry))) tag q r ⌝ }
-{
-    let counts = plan_reading::checked::counts(file);
-    let task = analysis_figures::task_number(file, tag);
-    if folds::wide(counts.tasks) <= task {
-        return Named {
-            code: refusals::UNKNOWN_TAG,
-            task,
-        };
-    }
-    if counts.resources <= q {
-        return Named {
-            code: refusals::UNKNOWN_RESOURCE,
-            task,
-        };
-    }
-    Named { code: 0, task }
-}
-
 // Who holds q, as a task's number plus 1; 0 where it is free.
 fn holder(line: LineRow, seats: &[u8], q: usize) -> u8
     requires { ⌜ HeadOf (now seats) q line ⌝ }
@@ -76,22 +55,50 @@ fn holder(line: LineRow, seats: &[u8], q: usize) -> u8
     seats[(q * sizes::PROCESSORS + folds::wide(queue[0])) * sizes::TASKS]
 }
 
+// The task with this tag; 11 or 12 where it or the resource is not there, 0 where both are, and then whether it holds the resource.
+fn task_named(file: &[u8], seats: &[u8], state: State, tag: u16, q: u8) -> Named
+    requires { ⌜ OnSeats (now file) state (now seats) ⌝ }
+    ensures { λ r. ⌜ NamedBy (planOf (now (file .entry))) state tag q r ⌝ }
+{
+    let counts = plan_reading::checked::counts(file);
+    let task = analysis_figures::task_number(file, tag);
+    if folds::wide(counts.tasks) <= task {
+        return Named {
+            code: refusals::UNKNOWN_TAG,
+            task,
+            holds: false,
+        };
+    }
+    if counts.resources <= q {
+        return Named {
+            code: refusals::UNKNOWN_RESOURCE,
+            task,
+            holds: false,
+        };
+    }
+    let r = folds::wide(q);
+    let line = state.lines[r];
+    let first = folds::wide(holder(line, seats, r));
+    Named {
+        code: 0,
+        task,
+        holds: first == task + 1,
+    }
+}
+
 // 11, 12 and 16, 0 where none, of a release on a sound state.
 fn release_code(file: &[u8], seats: &[u8], state: State, tag: u16, q: u8) -> u8
     requires { ⌜ OnSeats (now file) state (now seats) ⌝ }
     ensures { λ r. ⌜ r ≡ releaseCode (planOf (now (file .entry))) (shows (planOf (now (file .entry))) state) tag q ⌝ }
 {
-    let named = task_named(file, tag, q);
+    let named = task_named(file, seats, state, tag, q);
     if named.code != 0 {
         return named.code;
     }
-    let i = named.task;
-    let r = folds::wide(q);
-    let line = state.lines[r];
-    if folds::wide(holder(line, seats, r)) == i + 1 {
-        return 0;
+    if !named.holds {
+        return refusals::NOT_HELD;
     }
-    refusals::NOT_HELD
+    0
 }
 
 // 11, 12 and 23, 0 where none, of a give-up on a sound state: it waits where its row names the resource and it does not hold it.
@@ -99,7 +106,7 @@ fn give_up_code(file: &[u8], seats: &[u8], state: State, tag: u16, q: u8) -> u8
     requires { ⌜ OnSeats (now file) state (now seats) ⌝ }
     ensures { λ r. ⌜ r ≡ giveUpCode (planOf (now (file .entry))) (shows (planOf (now (file .entry))) state) tag q ⌝ }
 {
-    let named = task_named(file, tag, q);
+    let named = task_named(file, seats, state, tag, q);
     if named.code != 0 {
         return named.code;
     }
@@ -108,10 +115,7 @@ fn give_up_code(file: &[u8], seats: &[u8], state: State, tag: u16, q: u8) -> u8
     if row.resource != q {
         return refusals::NOT_WAITING;
     }
-    let r = folds::wide(q);
-    let line = state.lines[r];
-    let first = folds::wide(holder(line, seats, r));
-    if first == i + 1 {
+    if named.holds {
         return refusals::NOT_WAITING;
     }
     0

@@ -1,10 +1,10 @@
 -- From all orderly lines: whoever waits has what it waits for, or gives up, within its bound.
 use Rattle.machine_rules.proofs.Ground.{ℕ, _+_, _-_, _≤_, _<_, Bool, true, false, not, and-false, or-true, true≢false, _≡_, refl}
 use Rattle.machine_rules.proofs.Ground.{sym, ap, _∙_, _⊎_, inl, inr, List, [], _∷_, _++_, arith, by-eq, not-true, and-parts, Plan}
-use Rattle.machine_rules.proofs.Ground.{Valid, processorOf, taskNumber, Line, among, inLine, holds, queued, isHead, waiting, without, aheadIn}
-use Rattle.machine_rules.proofs.Ground.{queueOf, tasksOf, allBut, limit, by-bool, Call, Request, Release, GiveUp, Tick, View, terms, callCode, step}
-use Rattle.machine_rules.proofs.Ground.{after, isTick, ticks, Event, grants, givesUp, occurs, Within, Bounded, Waiter, taskFor, coreFor}
-use Rattle.machine_rules.proofs.Ground.{ended, Kept, TaskKept, ServedFrom}
+use Rattle.machine_rules.proofs.Ground.{Valid, processorOf, taskNumber, Line, among, inLine, holds, queued, isHead, waiting, without}
+use Rattle.machine_rules.proofs.Ground.{aheadIn, queueOf, tasksOf, allBut, limit, by-bool, Call, Request, Release, GiveUp, Tick}
+use Rattle.machine_rules.proofs.Ground.{View, terms, callCode, step, after, isTick, ticks, Event, grants, givesUp, occurs, Within}
+use Rattle.machine_rules.proofs.Ground.{Bounded, Waiter, taskFor, coreFor, ended, Kept, TaskKept, ServedFrom}
 use Rattle.folds.proofs.Ground.{eqb, eq-eqb, eqb-false, not-false}
 use Rattle.folds.proofs.Tests.{or-out}
 use Rattle.queue_rules.proofs.Cases.{or-no}
@@ -126,7 +126,8 @@ module _ (p : Plan) (v : Valid p) (q k : ℕ) (done : Line → Bool) (there : Li
         → Move p s q c l → Lowered n c l
     lowered o x d e (stays z) = level z x
     lowered o x d e (enters tag h) = level refl (kept-entered (terms p q) k done there Own kept (taskNumber p tag) x)
-    lowered o x d e (leaves tag) = level refl (kept-released (terms p q) k done there Own kept (known p q) (p .processors) (fits p v q) (o .sound q) x d)
+    lowered o x d e (leaves tag) =
+        level refl (kept-released (terms p q) k done there Own kept (known p q) (p .processors) (fits p v q) (o .sound q) x d)
     lowered {s} o x d e (gives-up tag h) =
         let (_, stay) = or-no (w .served s (GiveUp tag q)) (w .quits s (GiveUp tag q)) e in
         level refl (kept-withdrawn (terms p q) k done there Own kept (known p q) (p .processors) (taskNumber p tag) (o .sound q) x

@@ -1,7 +1,7 @@
 -- What a give-up does that is not refused: its task waited, and waits no more; by it its core may leave the queue.
-use Rattle.machine_rules.proofs.Ground.{ℕ, Bool, true, false, _&&_, not, true≢false, not-true, _≡_, refl, sym, _∙_, List, eqb, eq-eqb}
-use Rattle.machine_rules.proofs.Ground.{and-parts, is-not-true, Plan, processorOf, taskNumber, inLine, holds, queued}
-use Rattle.machine_rules.proofs.Ground.{isHead, waiting, without, queueOf, tasksOf, allBut, withdrawn, Call, Request, Release, GiveUp, Tick}
+use Rattle.machine_rules.proofs.Ground.{ℕ, Bool, true, false, _&&_, not, true≢false, not-true, _≡_, refl, sym, _∙_, List, eqb}
+use Rattle.machine_rules.proofs.Ground.{eq-eqb, and-parts, is-not-true, Plan, processorOf, taskNumber, inLine, holds, queued, isHead}
+use Rattle.machine_rules.proofs.Ground.{waiting, without, queueOf, tasksOf, allBut, withdrawn, Call, Request, Release, GiveUp, Tick}
 use Rattle.machine_rules.proofs.Ground.{View, terms, callCode, step, givesUp}
 use Rattle.folds.proofs.Ground.{eqb-true}
 use Rattle.queue_rules.proofs.Sound.{sound-queue}
@@ -22,7 +22,10 @@ module _ (p : Plan) (s : View) (tag q : ℕ) (e : callCode p s (GiveUp tag q) �
   gave-step = rw (e, eq-eqb q q refl)
 
   pub gave-not-holding : holds (taskNumber p tag) (s .lines q) ≡ false
-  gave-not-holding = let i = taskNumber p tag in let l = s .lines q in let (_, n) = and-parts (inLine i l) (not (holds i l)) gave-waiting in not-true (holds i l) n
+  gave-not-holding =
+      let i = taskNumber p tag in
+      let l = s .lines q in
+      let (_, n) = and-parts (inLine i l) (not (holds i l)) gave-waiting in not-true (holds i l) n
 
 module _ (p : Plan) (q : ℕ) (s : View) where
   -- a give-up by one of these tasks, taken apart
@@ -76,7 +79,7 @@ module _ (p : Plan) (q : ℕ) (s : View) where
             let own = eqb-true (processorOf p i) k y in
             let (inside, _) = and-parts (inLine i (s .lines q)) _ (gave-waiting p s tag q z) in
             let here = sym (own-stands (terms p q) (known p q) (p .processors) i (sound-queue (terms p q) (known p q) (p .processors) o)) ∙ inside in
-            let there : queued k (s .lines q) ≡ true = sym (queued-some k (queueOf (s .lines q))) ∙ among-some i (tasksOf k (queueOf (s .lines q))) (rw own at here) in
+            let there : queued k (s .lines q) ≡ true = sym (queued-some k (queueOf (s .lines q))) ∙ among-some i (queueTasks k) (rw own at here) in
             let not-head : isHead k (s .lines q) ≡ false =
             is-not-true _ (λ e. true≢false (sym (head-queued k (withdrawn i (s .lines q)) (withdrawn-head k i (s .lines q) ∙ e))
             ∙ (rw (gave-step p s tag q z) at gone))) in

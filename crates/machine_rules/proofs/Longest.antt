@@ -2,9 +2,9 @@
 -- once; so their hold times are at most those of all fellows.
 use Rattle.machine_rules.proofs.Ground.{ℕ, _+_, _≤_, _<_, true, false, true≢false, _≡_, sym, ap, _∙_, List, [], _∷_, length, arith}
 use Rattle.machine_rules.proofs.Ground.{eq-eqb, ne-eqb, listBelow, first-zero, Plan, Valid, processorOf, global, holdAt, fellow}
-use Rattle.machine_rules.proofs.Ground.{waitTime, taskNumber, useCode, Line, line, among, inLine, queueOf, tasksOf, aheadIn, limit, EachOnce}
-use Rattle.machine_rules.proofs.Ground.{Waits, Call, Request, View, terms, requestCode, requestAnswer, answer, after, Event, Bounded}
-use Rattle.machine_rules.proofs.Ground.{Asked, Kept, Waiter, fellows, longestWait}
+use Rattle.machine_rules.proofs.Ground.{waitTime, taskNumber, useCode, Line, line, among, inLine, queueOf, tasksOf, aheadIn, limit}
+use Rattle.machine_rules.proofs.Ground.{EachOnce, Waits, Call, Request, View, terms, requestCode, requestAnswer, answer, after}
+use Rattle.machine_rules.proofs.Ground.{Event, Bounded, Asked, Kept, Waiter, fellows, longestWait}
 use Rattle.folds.proofs.Ground.{_*_}
 use Rattle.folds.specs.Below.{countBelow}
 use Rattle.folds.proofs.Figures.{sum-same}

@@ -2,7 +2,8 @@
 use Rattle.machine_rules.proofs.Ground.{ℕ, Bool, true, false, _&&_, not, and-false, true≢false, _≡_, refl, sym, ap, _∙_, _⊎_, inl}
 use Rattle.machine_rules.proofs.Ground.{inr, List, [], _∷_, _++_, eq-eqb, not-true, and-parts, Plan, Valid, taskNumber, Line, line}
 use Rattle.machine_rules.proofs.Ground.{inLine, holds, queued, isHead, waiting, without, entered, Waits, Call, Request, View, fresh}
-use Rattle.machine_rules.proofs.Ground.{terms, callCode, requestAnswer, step, answer, after, Event, ended, ends, givesUp, occurs, taskFor, is-not-true}
+use Rattle.machine_rules.proofs.Ground.{terms, callCode, requestAnswer, step, answer, after, Event, ended, ends, givesUp, occurs}
+use Rattle.machine_rules.proofs.Ground.{taskFor, is-not-true}
 use Rattle.folds.proofs.Ground.{_||_, ⊎-elim}
 use Rattle.queue_rules.proofs.Stays.{entered-waiting, released-waiting, ticked-waiting}
 use Rattle.queue_rules.proofs.Withdrawn.{withdrawn-waiting}

@@ -1,7 +1,8 @@
 -- The names that the proofs of this crate share, by one module: a definition that moves is named anew here alone.
-pub use Rattle.folds.proofs.Ground.{Bool, List, List·getD-eq-default, _&&_, _||_, _*_, _+_, _-_, _/_, _<_, _∙_, _≡_, _≢_, _≤_, _⊎_, and-false, ap}
-pub use Rattle.folds.proofs.Ground.{ap₂, arith, cond, eq-eqb, eqb, eqb-true, false, getD, getD-set-other, getD-set-same, inl, inr, le-leb}
-pub use Rattle.folds.proofs.Ground.{length, lt-leb, lt-ltb, ltb, ne-eqb, needs, not, refl, replicate, set, suc, sym, true, zero, ℕ, ⊎-elim}
+pub use Rattle.folds.proofs.Ground.{Bool, List, List·getD-eq-default, _&&_, _||_, _*_, _+_, _-_, _/_, _<_, _∙_, _≡_, _≢_, _≤_, _⊎_}
+pub use Rattle.folds.proofs.Ground.{and-false, ap, ap₂, arith, cond, eq-eqb, eqb, eqb-true, false, getD, getD-set-other, getD-set-same, inl}
+pub use Rattle.folds.proofs.Ground.{inr, le-leb, length, lt-leb, lt-ltb, ltb, ne-eqb, needs, not, refl, replicate, set, suc, sym, true}
+pub use Rattle.folds.proofs.Ground.{zero, ℕ, ⊎-elim}
 unfoldable pub use Rattle.folds.specs.Below.{anyBelow, maxBelow, sumBelow}
 pub use Rattle.folds.proofs.Tests.{and-parts, any-at, any-out, find-none, same-test}
 pub use Rattle.folds.proofs.Figures.{max-at}
@@ -35,6 +36,7 @@ pub use Rattle.machine_state.specs.declared.State.{State}
 pub use Rattle.machine_state.specs.Shows.{inLineAt, lineAt, movedUp, noLine, noStanding, noneInLine, shownLine, slot, standing}
 unfoldable pub use Rattle.machine_state.specs.Shows.{rank, shows}
 pub use Rattle.machine_state.proofs.Good.{Good, Whole}
-pub use Rattle.machine_steps.specs.Inner.{HeadReady, Running, besides, cutsHolder, endedBelow, holdOf, lostQueue, noMarks, shifted, turned}
+pub use Rattle.machine_steps.specs.Inner.{HeadReady, Running, besides, cutsHolder, endedBelow, holdOf, lostQueue, noMarks, shifted}
+pub use Rattle.machine_steps.specs.Inner.{turned}
 unfoldable pub use Rattle.machine_steps.specs.Inner.{begun, closed, closedUp, cutWord, dropped, endedOf, fallen, grantWord, joinedLines}
 unfoldable pub use Rattle.machine_steps.specs.Inner.{lowered, passed, pushed, stepped, steppedLines, taken, takenHolds, withdrawnLines}

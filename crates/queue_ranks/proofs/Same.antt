@@ -1,6 +1,6 @@
 -- Ranks and slots that agree: they show one queue, and are sound together.
-use Rattle.queue_ranks.proofs.Ground.{ℕ, _-_, _<_, _≤_, _≡_, sym, ap, ap₂, _∙_, _≢_, List, eqb, arith, maxBelow, Terms, turn, taskRanked}
-use Rattle.queue_ranks.proofs.Ground.{othersOf, turnOf, queueFrom, on-eq, find-same}
+use Rattle.queue_ranks.proofs.Ground.{ℕ, _-_, _<_, _≤_, _≡_, sym, ap, ap₂, _∙_, _≢_, List, eqb, arith, maxBelow, Terms, turn}
+use Rattle.queue_ranks.proofs.Ground.{taskRanked, othersOf, turnOf, queueFrom, on-eq, find-same}
 use Rattle.folds.proofs.Figures.{max-same}
 use Rattle.queue_ranks.proofs.Lists.{list-same}
 use Rattle.queue_ranks.proofs.Ranked.{At, Ranked, RankedAt, Queued, Timed, ranked-each, ranked-at}

@@ -6,4 +6,5 @@ pub use Rattle.folds.proofs.Arrays.{by-eq}
 unfoldable pub use Rattle.folds.specs.Below.{listBelow, sumBelow}
 pub use Rattle.folds.proofs.Tests.{is-not-true, or-out}
 pub use Rattle.queue_rules.specs.Rules.{Line, Terms, Turn, aheadOf, among, begin, entered, hasTurn, holds, inLine, join, leave, limit}
-pub use Rattle.queue_rules.specs.Rules.{allBut, line, queueOf, released, sendBack, standsIn, sumOf, tasksOf, ticked, turn, turnWith, turnsBut, withdrawn}
+pub use Rattle.queue_rules.specs.Rules.{allBut, line, queueOf, released, sendBack, standsIn, sumOf, tasksOf, ticked, turn, turnWith}
+pub use Rattle.queue_rules.specs.Rules.{turnsBut, withdrawn}

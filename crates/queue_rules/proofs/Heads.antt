@@ -1,6 +1,6 @@
 -- A processor that is queued is kept until it is head: at most its wait time.
-use Rattle.queue_rules.proofs.Ground.{ℕ, Bool, true, false, cond, _||_, true≢false, _≡_, refl, sym, _∙_, List, _∷_, [], arith, eqb-false, by-eq}
-use Rattle.queue_rules.proofs.Ground.{Terms, Turn, turn, Line, line, queueOf, among, hasTurn, tasksOf, allBut}
+use Rattle.queue_rules.proofs.Ground.{ℕ, Bool, true, false, cond, _||_, true≢false, _≡_, refl, sym, _∙_, List, _∷_, [], arith}
+use Rattle.queue_rules.proofs.Ground.{eqb-false, by-eq, Terms, Turn, turn, Line, line, queueOf, among, hasTurn, tasksOf, allBut}
 use Rattle.queue_rules.specs.Rules.{isHead, queued}
 use Rattle.queue_rules.proofs.Sound.{Fits, Sound}
 use Rattle.queue_rules.proofs.Kept.{Kept, Waiting, kept-bound}

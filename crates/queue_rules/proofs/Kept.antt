@@ -1,9 +1,10 @@
 -- How long somebody of processor k is still kept from the resource: a bound that no move raises and a tick lowers. Said once, for a
 -- task (Waiting) and for a processor (Heads): who is kept is told by `there`, with which tasks of k it is in line, by `Own`, its bound
 -- in them, and by `done`.
-use Rattle.queue_rules.proofs.Ground.{ℕ, _+_, _-_, _≤_, _<_, Bool, true, false, cond, or-true, true≢false, _≡_, sym, _∙_, ap, List, []}
-use Rattle.queue_rules.proofs.Ground.{_∷_, _++_, eqb, eq-eqb, ne-eqb, arith, by-eq, Terms, Turn, turn, Line, line, queueOf, holds, hasTurn}
-use Rattle.queue_rules.proofs.Ground.{tasksOf, begin, join, entered, leave, released, ticked, allBut, turnWith, turnsBut, withdrawn}
+use Rattle.queue_rules.proofs.Ground.{ℕ, _+_, _-_, _≤_, _<_, Bool, true, false, cond, or-true, true≢false, _≡_, sym, _∙_, ap, List}
+use Rattle.queue_rules.proofs.Ground.{[], _∷_, _++_, eqb, eq-eqb, ne-eqb, arith, by-eq, Terms, Turn, turn, Line, line, queueOf}
+use Rattle.queue_rules.proofs.Ground.{holds, hasTurn, tasksOf, begin, join, entered, leave, released, ticked, allBut, turnWith}
+use Rattle.queue_rules.proofs.Ground.{turnsBut, withdrawn}
 use Rattle.queue_rules.specs.Rules.{cut}
 use Rattle.queue_rules.proofs.Cases.{by-test, by-leave}
 use Rattle.queue_rules.proofs.Sound.{Fits, load, but, load-but, Proper, stands, Sound, is-free, is-held, load-le}

@@ -1,7 +1,8 @@
 -- A task that waits is kept until it is granted: at most the limit behind the tasks ahead. And what a line shows of a task that comes to it.
 use Rattle.queue_rules.proofs.Ground.{ℕ, _+_, _*_, _≤_, Bool, true, false, cond, _||_, or-true, true≢false, _≡_, refl, sym, ap, _∙_}
-use Rattle.queue_rules.proofs.Ground.{List, [], _∷_, _++_, eqb, length, arith, eqb-false, eq-eqb, ne-eqb, by-eq, Terms, Turn, turn, Line, allBut}
-use Rattle.queue_rules.proofs.Ground.{line, queueOf, among, standsIn, inLine, holds, tasksOf, aheadOf, sumOf, entered, limit}
+use Rattle.queue_rules.proofs.Ground.{List, [], _∷_, _++_, eqb, length, arith, eqb-false, eq-eqb, ne-eqb, by-eq, Terms, Turn, turn}
+use Rattle.queue_rules.proofs.Ground.{Line, allBut, line, queueOf, among, standsIn, inLine, holds, tasksOf, aheadOf, sumOf, entered}
+use Rattle.queue_rules.proofs.Ground.{limit}
 use Rattle.queue_rules.specs.Rules.{aheadIn}
 use Rattle.queue_rules.proofs.Cases.{or-no, by-test}
 use Rattle.queue_rules.proofs.Withdrawn.{but-own}

@@ -1,7 +1,8 @@
 -- A task gives up: it is out of line, and everybody else stands as before.
-use Rattle.queue_rules.proofs.Ground.{ℕ, _<_, Bool, true, false, cond, _&&_, _||_, not, or-true, true≢false, _≡_, refl, sym}
-use Rattle.queue_rules.proofs.Ground.{_∙_, List, [], _∷_, _++_, eqb, eqb-true, eq-eqb, ne-eqb, by-eq, is-not-true, Terms, Turn, turn}
-use Rattle.queue_rules.proofs.Ground.{Line, line, queueOf, among, standsIn, holds, hasTurn, tasksOf, allBut, turnWith, turnsBut, withdrawn}
+use Rattle.queue_rules.proofs.Ground.{ℕ, _<_, Bool, true, false, cond, _&&_, _||_, not, or-true, true≢false, _≡_, refl, sym, _∙_}
+use Rattle.queue_rules.proofs.Ground.{List, [], _∷_, _++_, eqb, eqb-true, eq-eqb, ne-eqb, by-eq, is-not-true, Terms, Turn, turn}
+use Rattle.queue_rules.proofs.Ground.{Line, line, queueOf, among, standsIn, holds, hasTurn, tasksOf, allBut, turnWith, turnsBut}
+use Rattle.queue_rules.proofs.Ground.{withdrawn}
 use Rattle.queue_rules.specs.Rules.{waiting, isHead}
 use Rattle.queue_rules.proofs.Cases.{by-test, or-no}
 use Rattle.queue_rules.proofs.Sound.{Owns, Proper, nobody, stands, Sound, is-free, is-held}
@@ -93,7 +94,8 @@ module _ (t : Terms) (known : ℕ → Bool) (procs : ℕ) where
   turns-tasks k v nobody = refl
   turns-tasks k v (stands {k = j} {u = u} {us = us} {rest = q} lt a o r) =
       with-tasks k j (allBut v (u ∷ us)) (turnsBut v q) (λ e. turns-tasks k v r ∙ rw (no-tasks k q (rw (← e) a)))
-      ∙ rw (turns-tasks k v r) (by-eq (λ (d : Bool). cond d (allBut v (u ∷ us)) (allBut v (tasksOf k q)) ≡ allBut v (cond d (u ∷ us) (tasksOf k q))) j k
+      ∙ rw (turns-tasks k v r)
+      (by-eq (λ (d : Bool). cond d (allBut v (u ∷ us)) (allBut v (tasksOf k q)) ≡ allBut v (cond d (u ∷ us) (tasksOf k q))) j k
       (λ _. refl) (λ _. refl))
 
   -- ── a line ──

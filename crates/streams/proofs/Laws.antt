@@ -1,5 +1,6 @@
 -- How much of what came is the plan: all of it, by its own bytes 14-15.
-use Rattle.folds.proofs.Ground.{ℕ, _-_, _≤_, min, Bool, true, false, cond, _≡_, refl, sym, ap, ap₂, _∙_, List, _++_, ltb, length, take, drop, length-take-le, getD-take, take-at, sub-zero, zero-add, arith, le-ltb, ltb-false}
+use Rattle.folds.proofs.Ground.{ℕ, _-_, _≤_, min, Bool, true, false, cond, _≡_, refl, sym, ap, ap₂, _∙_, List, _++_, ltb, length, take}
+use Rattle.folds.proofs.Ground.{drop, length-take-le, getD-take, take-at, sub-zero, zero-add, arith, le-ltb, ltb-false}
 use Rattle.folds.specs.Bytes.{number}
 use Rattle.plan_layout.specs.Editions.{headerLength}
 use Rattle.plan_layout.specs.Layout.{lengthSaid}
