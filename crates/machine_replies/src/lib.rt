@@ -115,10 +115,10 @@ fn give_up_code(file: &[u8], seats: &[u8], state: State, tag: u16, q: u8) -> u8
     if row.resource != q {
         return refusals::NOT_WAITING;
     }
-    if named.holds {
-        return refusals::NOT_WAITING;
+    if !named.holds {
+        return 0;
     }
-    0
+    refusals::NOT_WAITING
 }
 
 // The refusal of a call on a sound state, 0 where there is none.

@@ -1,5 +1,5 @@
 -- The tests in their order.
-use Rattle.machine_replies.proofs.Ground.{ℕ, cond, _≡_, sym, _∙_, arith, needs, planOf, shows, valid-plan, whole-of}
+use Rattle.machine_replies.proofs.Ground.{ℕ, cond, _≡_, sym, _∙_, not-true, not-false, arith, needs, planOf, shows, valid-plan, whole-of}
 use Rattle.refusals.specs.Numbers.{notWaiting}
 use Rattle.machine_rules.specs.Machine.{giveUpCode}
 use Rattle.machine_replies.proofs.Freed.{line-refused, Passed, task-low, give-up-away, give-up-by}
@@ -38,4 +38,5 @@ give-up-code-spec =
     (λ c. line-refused _ _ _ _ _ _ (c .before .before .task-named .ensures .code) (c .if1 .taken))
     (λ c. omega (arith, row-in c)) row-in
     (λ c. let e = c .before .before .before in give-up-away (passed e) (found e .task-named .ensures .task) (c .if2 .taken))
-    (λ c. waits (c .before) (rw (c .if3 .taken))) (λ c. waits (c .before) (rw (c .if3 .left))))
+    (λ c. let e = c .before .before in waits e (rw (not-true (found (clear e) .task-named .result .holds) (c .if3 .taken))))
+    (λ c. let e = c .before .before in waits e (rw (not-false (found (clear e) .task-named .result .holds) (c .if3 .left)))))
