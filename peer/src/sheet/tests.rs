@@ -9,8 +9,8 @@ budget 0 bus 2 3
 budget 1 bus 3 2
 hold 10 bus 2 0 3
 hold 20 bus 3 0 2
-requirement 10 0 0 45 45 0 met
-requirement 20 0 0 45 45 0 met
+requirement 10 0 0 45 45 3 met
+requirement 20 0 0 45 45 2 met
 admitted yes
 ";
 
@@ -76,13 +76,13 @@ hold 11 B 2 1 24
 hold 12 A 4 2 40
 hold 12 B 4 1 22
 hold 13 A 7 2 37
-requirement 1 4 13 90 73 21 met
-requirement 2 4 10 80 66 21 met
-requirement 3 4 5 70 61 0 met
-requirement 4 4 0 60 56 7 met
-requirement 11 0 8 44 36 60 unmet
-requirement 12 0 4 44 40 40 met
-requirement 13 0 0 68 68 20 met
+requirement 1 4 13 90 73 41 met
+requirement 2 4 10 80 66 40 met
+requirement 3 4 5 70 61 4 met
+requirement 4 4 0 60 56 19 met
+requirement 11 0 8 44 36 95 unmet
+requirement 12 0 4 44 40 72 unmet
+requirement 13 0 0 68 68 37 met
 admitted no
 ";
     assert_eq!(printed(&figure2(61)), expected);
@@ -102,9 +102,9 @@ budget 1 A 1 4
 hold 1 A 1 1 6
 hold 2 A 4 1 3
 hold 3 A 1 0 4
-requirement 1 0 4 0 -4 2 unmet
-requirement 2 0 0 -10 -10 1 unmet
-requirement 3 0 0 90 90 0 met
+requirement 1 0 4 0 -4 7 unmet
+requirement 2 0 0 -10 -10 3 unmet
+requirement 3 0 0 90 90 4 met
 admitted no
 ";
     assert_eq!(printed(&file(3, 2, &tasks, &sections)), expected);
@@ -195,8 +195,8 @@ fn long_figures_are_told() {
     sections.extend([(0, 0, 300); 63]);
     let file = file(2, 2, &tasks, &sections);
     let sheet = printed(&file);
-    // 64 sections and one; 30 others with hold times of 2,000 to 31,000, so 32 budgets of 31,000; a wait of 33,000.
-    assert!(sheet.contains("\nrequirement 0 0 60000 0 -60000 68640000 unmet\n"));
+    // 64 sections and one; 30 others with hold times of 2,000 to 31,000, so 32 budgets of 31,000 and 33 waits of 33,000.
+    assert!(sheet.contains("\nrequirement 0 0 60000 0 -60000 102960000 unmet\n"));
     // 30 others with hold times of 1,000 to 30,000, and 31 waits.
     assert!(sheet.contains("\nhold 30 A 31000 30 1488000\n"));
     assert!(sheet.len() <= ROOM);
