@@ -96,11 +96,13 @@ class Machine:
         return sum(min(most, self.global_count(j)) * longest[j] for j in self.lower(i))
 
     def side(self, i):
+        """For each section the first wait, those that the fellows' holds can bring with them, and these holds."""
         k, found = self.processor(i), 0
         for q in self.shared():
             if self.longest(i, q):
                 holds = sum(self.hold_time(j, q) for j in self.fellows(i, q))
-                found += self.count(i, q) * ceiling(2 * holds, self.budget(k, q)) * self.wait_time(k, q)
+                factor = ceiling(2 * holds, self.budget(k, q)) + 1
+                found += self.count(i, q) * (factor * self.wait_time(k, q) + holds)
         return found
 
     def tolerance(self, i):
