@@ -5,6 +5,7 @@ The model is a second look: it has to agree with every one of them.
 """
 import model
 from analysis_cases import BARE, EIGHT, LISTING, OWN, PAPER, SILENT
+from model import agree
 from plan_cases import Plan, Section, Task, file, many_names, word
 
 # ---- plans ----
@@ -692,10 +693,6 @@ def body(content, *parts):
 
 def call_bytes(letter, tag, q):
     return letter.encode("ascii") + bytes([tag, q])
-
-
-def agree(label, result, second):
-    assert result == second, f"{label}: by hand {result!r}, by the model {second!r}"
 
 
 def told(plan, calls):

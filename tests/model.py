@@ -1,4 +1,4 @@
-"""The analysis and the machine in the words of documents 01 and 02: a second look at the results in machine_cases.py and sheet_cases.py.
+"""The analysis and the machine in the words of documents 01 and 02: a second look at results that were worked out by hand.
 
 A line is what is kept of one resource: the turns, each a processor with its tasks in line, the hold left and the budget left.
 """
@@ -11,6 +11,10 @@ class Line:
     turns: list = field(default_factory=list)
     hold: int = 0
     budget: int = 0
+
+
+def agree(label, result, second):
+    assert result == second, f"{label}: by hand {result!r}, by the model {second!r}"
 
 
 def ceiling(a, b):
@@ -114,6 +118,9 @@ class Machine:
         blocking1, blocking2, tolerance, side = self.blocking1(i), self.blocking2(i), self.tolerance(i), self.side(i)
         slack = tolerance - blocking1 - blocking2
         return blocking1, blocking2, tolerance, slack, side, side <= slack
+
+    def admitted(self):
+        return all(self.requirement(i)[-1] for i in range(len(self.plan.tasks)) if self.global_count(i))
 
     # ---- the lines ----
 

@@ -4,8 +4,8 @@ A longest wait has a plan, a tag, a resource and its figure, worked out here by 
 a sheet are the model's, and some are written here by hand too.
 """
 import model
-from analysis_cases import ASIDE, BARE, BUS, EIGHT, LINK, LISTING, NAMES, PAPER, POOL, SILENT, crowded, pressed
-from machine_cases import agree
+from analysis_cases import ASIDE, BARE, BUS, EIGHT, HEAVY, LINK, LISTING, NAMES, PAPER, POOL, SILENT, crowded, lone, pressed, twice
+from model import agree
 from plan_cases import BREAKS, GOOD, Plan, Section, Task, file, many_names, word
 
 # ---- plans ----
@@ -80,13 +80,13 @@ hold 11 r2 2 1 24
 hold 12 r1 4 2 40
 hold 12 r2 4 1 22
 hold 13 r1 7 2 37
-requirement 1 4 13 90 73 21 met
-requirement 2 4 10 80 66 21 met
-requirement 3 4 5 70 61 0 met
-requirement 4 4 0 60 56 7 met
-requirement 11 0 8 44 36 60 unmet
-requirement 12 0 4 44 40 40 met
-requirement 13 0 0 68 68 20 met
+requirement 1 4 13 90 73 41 met
+requirement 2 4 10 80 66 40 met
+requirement 3 4 5 70 61 4 met
+requirement 4 4 0 60 56 19 met
+requirement 11 0 8 44 36 95 unmet
+requirement 12 0 4 44 40 72 unmet
+requirement 13 0 0 68 68 37 met
 admitted no"""
 
 PRESSED_SHEET = """\
@@ -99,27 +99,88 @@ budget 1 bus 1 4
 hold 1 bus 1 1 6
 hold 2 bus 4 1 3
 hold 3 bus 1 0 4
-requirement 1 0 4 0 -4 2 unmet
-requirement 2 0 0 -10 -10 1 unmet
-requirement 3 0 0 900 900 0 met
+requirement 1 0 4 0 -4 7 unmet
+requirement 2 0 0 -10 -10 3 unmet
+requirement 3 0 0 900 900 4 met
 admitted no"""
+
+# on the bus tags 1 and 3 are fellows, and 5 and 6; tags 2, 6 and 7 are alone on the link
+PARTLY_SHEET = """\
+plan 3 7 3 9
+resource bus global
+resource link global
+resource pool local
+budget 0 bus 11 7
+budget 0 link 9 5
+budget 1 bus 7 11
+budget 1 link 3 11
+budget 2 link 2 12
+hold 1 bus 4 1 25
+hold 2 link 9 0 5
+hold 3 bus 11 1 18
+hold 5 bus 2 1 29
+hold 6 bus 7 1 24
+hold 6 link 3 0 11
+hold 7 link 2 0 12
+requirement 1 0 17 91 74 32 met
+requirement 2 0 12 82 70 5 met
+requirement 3 0 0 73 73 36 met
+requirement 5 0 14 91 77 40 met
+requirement 6 0 0 82 82 35 met
+requirement 7 0 0 91 91 12 met
+admitted yes"""
+
+LONE_SHEET = """\
+plan 3 3 1 5
+resource link global
+budget 0 link 4 12
+budget 1 link 5 11
+budget 2 link 7 9
+hold 1 link 4 0 12
+hold 2 link 5 0 11
+hold 3 link 7 0 9
+requirement 1 0 0 36 36 36 met
+requirement 2 0 0 90 90 11 met
+requirement 3 0 0 90 90 9 met
+admitted yes"""
+
+TWICE_SHEET = """\
+plan 2 4 1 5
+resource bus global
+budget 0 bus 6 5
+budget 1 bus 5 6
+hold 1 bus 3 2 25
+hold 2 bus 6 2 22
+hold 3 bus 4 2 24
+hold 4 bus 5 0 6
+requirement 1 0 10 80 70 70 met
+requirement 2 0 4 790 786 27 met
+requirement 3 0 0 780 780 29 met
+requirement 4 0 0 890 890 6 met
+admitted yes"""
 
 BY_HAND = [
     ("paper", PAPER, PAPER_SHEET),
     ("C7", pressed(5, BUS), PRESSED_SHEET),
+    ("some fellows", PARTLY, PARTLY_SHEET),
+    ("a lone user, side at the slack", lone([4, 1, 2], 46), LONE_SHEET),
+    ("two sections with fellows, side at the slack", twice(90, 10), TWICE_SHEET),
     ("no sections", BARE, "plan 1 1 1 0\nresource r local\nadmitted yes"),
     ("nothing global", SILENT, "plan 3 2 2 1\nresource a local\nresource b local\nadmitted yes"),
 ]
 
 BY_MODEL = [
     ("listing", LISTING),
+    ("slack 1", pressed(1, LINK, 6)),
     ("slack 0", pressed(1, LINK)),
     ("slack -1", pressed(2, LINK)),
-    ("some fellows", PARTLY),
+    ("a lone user, side one above the slack", lone([4, 1, 2], 45)),
+    ("two sections with fellows, side one above the slack", twice(89, 10)),
     ("processors without the resource", ASIDE),
     ("eight processors", EIGHT),
     ("61 tasks above of longest times", crowded(61, 65535, 65535, (65535, 1))),
     ("63 tasks on one processor", CROWD),
+    ("255 sections and 62 fellows", HEAVY),
     ("largest plan", WIDE),
 ]
 

@@ -4,7 +4,8 @@ Each case has a label, a plan, a state, a call and its result, worked out here b
 """
 import model
 from analysis_cases import BARE, EIGHT, LISTING, PAPER, SILENT
-from machine_cases import PAIR, agree, body, call_bytes, calls_of
+from machine_cases import PAIR, body, call_bytes, calls_of
+from model import agree
 from plan_cases import BREAKS, GOOD, file, put, word
 
 # ---- states ----
