@@ -1,7 +1,7 @@
 //! The case program: each line of the proved one against that of the peer.
 
 use crate::given::{case, record};
-use crate::met::Met;
+use crate::met::{Met, Sides};
 use crate::watch::{self, Watched};
 use crate::work::{program, run, share, Difference};
 use peer::calls::{PLAIN, TUNED};
@@ -35,6 +35,9 @@ const BY_PLAIN: usize = 4;
 #[derive(Default)]
 struct Found {
     met: Met,
+    sides: Sides,
+    admitted: usize,
+    not_admitted: usize,
     watched: Watched,
     differences: Vec<Difference>,
 }
@@ -58,7 +61,7 @@ fn batch((kind, what, start): (u8, &str, usize), proved: &Path) -> Found {
         let peer = peer::cases::line(&record[4..], &machine).unwrap_or_default() + "\n";
         let difference = Difference::of(what, *number, record, line, peer.as_bytes());
         found.differences.extend(difference);
-        put_answers(&mut found.met, &String::from_utf8_lossy(line));
+        found.put_answers(&String::from_utf8_lossy(line));
         if kind == b'V' {
             watch_line((*number, case), record, line, &mut found);
         }
@@ -75,11 +78,37 @@ fn by_case(output: &[u8]) -> impl Iterator<Item = &[u8]> {
     output.chunk_by(|&end, &start| !(end == b'\n' && start.is_ascii_digit()))
 }
 
-/// The answers of a line, behind its label: one, or those of a list, each with a state behind it or not.
-fn put_answers(met: &mut Met, line: &str) {
-    let answers = line.trim_end().split_once(": ");
-    let answers = answers.map_or("", |(_, answers)| answers);
-    answers.split("; ").for_each(|answer| met.put(answer));
+impl Found {
+    /// The answers of a line, behind its label: one, or those of a list, each with a state behind it or not.
+    fn put_answers(&mut self, line: &str) {
+        let answers = line.trim_end().split_once(": ");
+        let answers = answers.map_or("", |(_, answers)| answers);
+        for answer in answers.split("; ") {
+            self.met.put(answer);
+            self.sides.put(answer);
+            self.admitted += usize::from(answer == "admitted");
+            self.not_admitted += usize::from(answer == "not admitted");
+        }
+    }
+
+    /// What came up.
+    fn add(&mut self, other: &Found) {
+        self.met.add(&other.met);
+        self.sides.add(&other.sides);
+        self.admitted += other.admitted;
+        self.not_admitted += other.not_admitted;
+        self.watched.add(&other.watched);
+    }
+
+    fn tell(&self) {
+        self.met.tell();
+        self.sides.tell();
+        println!(
+            "  {} plans admitted, {} not.",
+            self.admitted, self.not_admitted
+        );
+        self.watched.tell();
+    }
 }
 
 /// The promise, on the line of the proved program alone.
@@ -110,12 +139,8 @@ pub fn compare(times: usize) -> Vec<Difference> {
     let found = share(batches.len(), |number| batch(batches[number], &proved));
     let kinds = kinds.map(|(_, what, count)| format!("{count} {what}"));
     println!("The case program: {}.", kinds.join(", "));
-    let (mut met, mut watched) = (Met::default(), Watched::default());
-    for f in &found {
-        met.add(&f.met);
-        watched.add(&f.watched);
-    }
-    met.tell();
-    watched.tell();
+    let mut all = Found::default();
+    found.iter().for_each(|f| all.add(f));
+    all.tell();
     found.into_iter().flat_map(|f| f.differences).collect()
 }

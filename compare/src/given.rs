@@ -66,16 +66,18 @@ fn smaller(random: &mut Random) -> Size {
     }
 }
 
-/// A question about a plan.
+/// A question about a plan. Every other requirement, and admission, is asked of a plan with a waiting side at the slack or near it; the
+/// requirement then of that task.
 fn asking(kind: u8, random: &mut Random) -> Vec<u8> {
-    let size = match kind {
-        b'Q' | b'A' => smaller(random),
-        _ => Size::some(random),
+    let (good, pressed) = match kind {
+        b'Q' | b'A' if random.once_in(2) => plans::pressed(smaller(random), random),
+        b'Q' | b'A' => (plans::some(smaller(random), random), None),
+        _ => (plans::some(Size::some(random), random), None),
     };
-    let good = plans::some(size, random);
     let plan = peer::read(&good).unwrap_or_default();
     let file = maybe_broken(good, 8, random);
     let (tag, resource) = who(&plan, random);
+    let tag = pressed.unwrap_or(tag);
     let processor = random.below(usize::from(plan.counts.processors) + 1) as u8;
     let [low, high] = tag.to_le_bytes();
     let question = match kind {

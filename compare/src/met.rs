@@ -83,3 +83,55 @@ impl Met {
         println!("  Refused by number: {}.", refused.join(", "));
     }
 }
+
+/// The requirements that came up, and how often the waiting side was at the slack or one off it, where met turns to unmet.
+#[derive(Default)]
+pub struct Sides {
+    all: usize,
+    pub unmet: usize,
+    /// Requirements whose slack is below zero.
+    negative: usize,
+    /// Sides one below the slack, at it, and one above it.
+    below: usize,
+    pub at: usize,
+    pub above: usize,
+}
+
+impl Sides {
+    /// A requirement of either program ends with the slack, the side and whether it is met.
+    pub fn put(&mut self, answer: &str) {
+        let words: Vec<_> = answer.split(' ').collect();
+        let ["requirement", .., slack, side, met] = words[..] else {
+            return;
+        };
+        self.all += 1;
+        self.unmet += usize::from(met == "unmet");
+        let (Ok(slack), Ok(side)) = (slack.parse::<i64>(), side.parse::<i64>()) else {
+            return;
+        };
+        self.negative += usize::from(slack < 0);
+        match side.saturating_sub(slack) {
+            -1 => self.below += 1,
+            0 => self.at += 1,
+            1 => self.above += 1,
+            _ => (),
+        }
+    }
+
+    pub fn add(&mut self, other: &Sides) {
+        self.all += other.all;
+        self.unmet += other.unmet;
+        self.negative += other.negative;
+        self.below += other.below;
+        self.at += other.at;
+        self.above += other.above;
+    }
+
+    pub fn tell(&self) {
+        println!(
+            "  {} requirements, {} of them unmet, {} with a slack below zero; \
+             {} waiting sides one below the slack, {} at it, {} one above it.",
+            self.all, self.unmet, self.negative, self.below, self.at, self.above
+        );
+    }
+}

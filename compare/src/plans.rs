@@ -254,17 +254,52 @@ pub fn some(size: Size, random: &mut Random) -> Vec<u8> {
 /// The most that a period is stretched to, so that a look at each instant of it does not take long.
 const STRETCHED: u16 = 6_000;
 
-/// The file of some plan. Every other one has longer periods, so that more requirements are met.
-pub fn unhurried(size: Size, random: &mut Random) -> Vec<u8> {
+/// Longer periods, so that more requirements are met.
+fn stretch(plan: &mut Plan, random: &mut Random) {
+    let times = random.within(2, 40) as u16;
+    for task in &mut plan.tasks[..plan.counts.tasks.into()] {
+        let longer = task.period.saturating_mul(times).min(STRETCHED);
+        task.period = task.period.max(longer);
+    }
+}
+
+/// So many tasks are tried for one whose slack is above its waiting side.
+const TRIES: usize = 8;
+
+/// The file of some plan with longer periods, in which the waiting side of one task is one below its slack, at it, or one above it; and
+/// the tag of that task. Its execution time is raised for it, by which the slack falls one by one and the side stays. No tag where
+/// no slack was found above the side.
+pub fn pressed(size: Size, random: &mut Random) -> (Vec<u8>, Option<u16>) {
     let (mut plan, names) = rows(size, random);
-    if random.once_in(2) {
-        let times = random.within(2, 40) as u16;
-        for task in &mut plan.tasks[..size.tasks] {
-            let longer = task.period.saturating_mul(times).min(STRETCHED);
-            task.period = task.period.max(longer);
+    stretch(&mut plan, random);
+    let good = file(&plan, &names);
+    for _ in 0..TRIES {
+        let task = &mut plan.tasks[random.below(size.tasks)];
+        let Ok(found) = peer::analysis::requirement(&good, task.tag) else {
+            continue;
+        };
+        let spare = found.slack - found.side as i64;
+        if spare > 0 {
+            // A slack is at most T less C, and a side at least 1, so that this is at most T.
+            task.execution += (spare + 1) as u16 - random.below(3) as u16;
+            let tag = task.tag;
+            return (file(&plan, &names), Some(tag));
         }
     }
-    file(&plan, &names)
+    (good, None)
+}
+
+/// The file of some plan. Every other one has longer periods, and half of these a waiting side at the slack or near it.
+pub fn unhurried(size: Size, random: &mut Random) -> Vec<u8> {
+    match random.below(4) {
+        0..=1 => some(size, random),
+        2 => {
+            let (mut plan, names) = rows(size, random);
+            stretch(&mut plan, random);
+            file(&plan, &names)
+        }
+        _ => pressed(size, random).0,
+    }
 }
 
 #[cfg(test)]
@@ -288,6 +323,54 @@ mod tests {
             let size = Size::some(&mut random);
             assert!(peer::read(&some(size, &mut random)).is_ok());
             assert!(peer::read(&unhurried(size, &mut random)).is_ok());
+            assert!(peer::read(&pressed(size, &mut random).0).is_ok());
         }
+    }
+
+    /// Whether a task has several sections on a global resource, which it has alone on its processor or not.
+    fn several(plan: &Plan, row: usize, alone: bool) -> bool {
+        let sections = &plan.sections[..plan.counts.sections.into()];
+        let processor = |task: usize| plan.tasks[task].processor;
+        let mut shared = (0..plan.counts.resources).filter(|&q| is_global(plan, q));
+        shared.any(|q| {
+            let near = |s: &&Section| s.resource == q && processor(s.task.into()) == processor(row);
+            let users = sections.iter().filter(near).map(|s| usize::from(s.task));
+            let (own, others): (Vec<_>, Vec<_>) = users.partition(|&task| task == row);
+            own.len() > 1 && others.is_empty() == alone
+        })
+    }
+
+    /// Of the sides one below the slack, at it and one above it: how many there are, with how many the task has several sections on a
+    /// resource alone, with how many beside fellows, and on how many the plan's admission turns.
+    #[test]
+    fn sides_are_at_the_slack_and_one_off_it() {
+        let mut met = [[0; 4]; 3];
+        for number in 0..2_000 {
+            let mut random = Random::of(b'B', number);
+            let size = Size::some(&mut random);
+            let (file, Some(tag)) = pressed(size, &mut random) else {
+                continue;
+            };
+            let plan = peer::read(&file).unwrap();
+            let tasks = &plan.tasks[..plan.counts.tasks.into()];
+            let asked = |tag| peer::analysis::requirement(&file, tag);
+            let found = asked(tag).unwrap();
+            let off = found.side as i64 - found.slack;
+            assert!((-1..=1).contains(&off) && found.met == (off < 1));
+            let row = tasks.iter().position(|t| t.tag == tag).unwrap();
+            let mut others = tasks.iter().filter(|t| t.tag != tag);
+            let turns = others.all(|t| asked(t.tag).map_or(true, |r| r.met));
+            assert!(!turns || peer::analysis::admission(&file) == Ok(found.met));
+            let came = [
+                true,
+                several(&plan, row, true),
+                several(&plan, row, false),
+                turns,
+            ];
+            for (count, came) in met[(off + 1) as usize].iter_mut().zip(came) {
+                *count += usize::from(came);
+            }
+        }
+        assert!(met.as_flattened().iter().all(|&n| n >= 40), "{met:?}");
     }
 }

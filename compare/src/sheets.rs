@@ -1,6 +1,6 @@
 //! The datasheet program: the sheet of the proved one against that of the peer.
 
-use crate::met::Met;
+use crate::met::{Met, Sides};
 use crate::programs::piece;
 use crate::work::{program, run, share, Difference};
 use compare::damage::maybe_broken;
@@ -38,29 +38,33 @@ struct Lines {
     holds: usize,
     /// Hold times of tasks that are not the only users of their processor.
     with_fellows: usize,
-    requirements: usize,
-    unmet: usize,
-    /// Requirements whose slack is below zero.
-    negative: usize,
+    sides: Sides,
     admitted: usize,
+    /// Plans that are admitted with a waiting side at the slack.
+    just_admitted: usize,
     not_admitted: usize,
+    /// Plans that would be admitted but for one waiting side, which is one above the slack.
+    just_not: usize,
 }
 
 impl Lines {
+    /// A line of one sheet, whose last one is whether the plan is admitted.
     fn put(&mut self, line: &str) {
         self.all += 1;
+        self.sides.put(line);
         match line.split(' ').collect::<Vec<_>>()[..] {
             ["hold", _, _, _, fellows, _] => {
                 self.holds += 1;
                 self.with_fellows += usize::from(fellows != "0");
             }
-            ["requirement", _, _, _, _, slack, _, met] => {
-                self.requirements += 1;
-                self.unmet += usize::from(met == "unmet");
-                self.negative += usize::from(slack.starts_with('-'));
+            ["admitted", "yes"] => {
+                self.admitted += 1;
+                self.just_admitted += usize::from(self.sides.at > 0);
             }
-            ["admitted", "yes"] => self.admitted += 1,
-            ["admitted", "no"] => self.not_admitted += 1,
+            ["admitted", "no"] => {
+                self.not_admitted += 1;
+                self.just_not += usize::from((self.sides.unmet, self.sides.above) == (1, 1));
+            }
             _ => (),
         }
     }
@@ -69,25 +73,25 @@ impl Lines {
         self.all += other.all;
         self.holds += other.holds;
         self.with_fellows += other.with_fellows;
-        self.requirements += other.requirements;
-        self.unmet += other.unmet;
-        self.negative += other.negative;
+        self.sides.add(&other.sides);
         self.admitted += other.admitted;
+        self.just_admitted += other.just_admitted;
         self.not_admitted += other.not_admitted;
+        self.just_not += other.just_not;
     }
 
     fn tell(&self) {
         println!(
-            "  {} plans admitted, {} not; {} hold times, {} of them of tasks with fellows; \
-             {} requirements, {} of them unmet, {} with a slack below zero.",
+            "  {} plans admitted, {} of them with a waiting side at the slack; {} not, {} of them by one alone that is one above it; \
+             {} hold times, {} of them of tasks with fellows.",
             self.admitted,
+            self.just_admitted,
             self.not_admitted,
+            self.just_not,
             self.holds,
-            self.with_fellows,
-            self.requirements,
-            self.unmet,
-            self.negative
+            self.with_fellows
         );
+        self.sides.tell();
     }
 }
 
