@@ -10,6 +10,6 @@ unfoldable pub use Rattle.analysis_equations.specs.Requirement.{admitted, asks,
 unfoldable pub use Rattle.analysis_equations.specs.Questions.{taskNumber}
 pub use Rattle.analysis_equations.proofs.Laws.{asks-not}
 unfoldable pub use Rattle.analysis_requirements.specs.Figures.{requirementOf}
-pub use Rattle.analysis_requirements.specs.Terms.{Prepared}
+pub use Rattle.analysis_requirements.specs.Tables.{Prepared}
 pub use Rattle.analysis.specs.Answers.{holdCount}
 unfoldable pub use Rattle.analysis.specs.Answers.{shareRefusal}

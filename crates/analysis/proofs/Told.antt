@@ -15,7 +15,7 @@ use Rattle.analysis_equations.specs.Questions.{processorCode, requirementCode}
 use Rattle.analysis_equations.proofs.Laws.{asks-some}
 use Rattle.analysis_figures.specs.Figures.{Figures}
 use Rattle.analysis_requirements.specs.declared.Requirement.{Requirement}
-use Rattle.analysis_requirements.specs.Terms.{countCell}
+use Rattle.analysis_terms.specs.Terms.{countCell}
 use Rattle.analysis.specs.declared.Figure.{Figure}
 use Rattle.analysis.specs.declared.Figure.the-variants.{Given, Refused}
 use Rattle.analysis.specs.declared.RequirementAnswer.{RequirementAnswer}
@@ -140,9 +140,9 @@ requirement-told k r e =
     (e, answer-told requirementOutcome (λ (b : Bool). record { number = k; values = cond b (requirementValues r) [] }) k e (λ q. rw q) refl)
 
 -- how many global sections a task has, by the table
-module _ {f figures t : List ℕ} (h : Prepared f figures t) {i : ℕ} (l : i < planOf f .tasks) where
+module _ {f t sides : List ℕ} (h : Prepared f t sides) {i : ℕ} (l : i < planOf f .tasks) where
   pub task-low : i < mostTasks
-  task-low = omega (arith, valid-plan f (h .known .plan) .tasks)
+  task-low = omega (arith, valid-plan f (h .plan) .tasks)
 
   pub count-told : {n : ℕ} → n ≡ getD t (countCell i) 0 → n ≡ globalCount (planOf f) i
   count-told e = e ∙ h .terms .count i task-low

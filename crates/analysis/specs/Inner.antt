@@ -3,6 +3,7 @@ use Prim.Native.Nat.{ℕ, _<_}
 use mathlib.Core.Bool.{true}
 use mathlib.Core.List.{List}
 use mathlib.Core.Path.{_≡_}
+use lib.ListN.{replicate}
 use Rattle.sizes.specs.Sizes.{mostProcessors, mostTasks, mostResources}
 use Rattle.plan_reading.specs.Plan.{Plan, planOf, Checked}
 use Rattle.analysis_equations.specs.Sharing.{uses, global}
@@ -10,7 +11,8 @@ use Rattle.analysis_equations.specs.HoldTimes.{budget, waitTime}
 use Rattle.analysis_equations.specs.Questions.{taskNumber}
 use Rattle.analysis_figures.specs.Figures.{Known}
 use Rattle.analysis_figures.specs.declared.User.{User}
-use Rattle.analysis_requirements.specs.Terms.{Prepared}
+use Rattle.analysis_terms.specs.Terms.{termCount}
+use Rattle.analysis_requirements.specs.Tables.{Prepared}
 use Rattle.analysis.specs.Answers.{holdRefusal}
 
 -- task i of a checked plan uses q, which is global; the table is that of the plan
@@ -34,9 +36,15 @@ pub record Shares (p : Plan) (k q b w : ℕ) : Type 0 where
   pub budget : b ≡ budget p k q
   pub wait : w ≡ waitTime p k q
 
+-- a checked file, and the tables of its requirements with nothing in them
+pub record Blank (f t sides : List ℕ) : Type 0 where
+  pub plan : Checked f
+  pub terms : t ≡ replicate termCount 0
+  pub zero : sides ≡ replicate mostTasks 0
+
 -- task i of a checked plan whose tables are filled in
-pub record TaskReady (f figures t : List ℕ) (i : ℕ) : Type 0 where
-  pub prepared : Prepared f figures t
+pub record TaskReady (f t sides : List ℕ) (i : ℕ) : Type 0 where
+  pub prepared : Prepared f t sides
   pub task : i < planOf f .tasks
 
 -- the refusal of a question about a task and a resource; where that is 0, who is asked about

@@ -13,8 +13,8 @@ ghost use Rattle.plan_reading.specs.Plan.{planOf, Checked};
 ghost use Rattle.analysis_equations.specs.Requirement.{asks, met, admitted};
 ghost use Rattle.analysis_equations.specs.Questions.{processorCode, requirementCode};
 ghost use Rattle.analysis_figures.specs.Figures.{figureCount};
-ghost use Rattle.analysis_requirements.specs.Terms.{Prepared};
-ghost use Rattle.analysis.specs.Inner.{Share, Shares, TaskReady, Found};
+ghost use Rattle.analysis_requirements.specs.Tables.{Prepared};
+ghost use Rattle.analysis.specs.Inner.{Share, Shares, Blank, TaskReady, Found};
 ghost use Rattle.analysis.specs.Answers.{figure, figureOutcome, holdRefusal, holdFigure, longestFigure, shareRefusal, budgetOf, waitOf};
 ghost use Rattle.analysis.specs.Answers.{requirementRefusal, requirementFigures, requirementGiven, requirementOutcome, requirementSays};
 ghost use Rattle.analysis.specs.Answers.{admissionAnswer, admissionOutcome, holdCount, holdTimes};
@@ -89,7 +89,15 @@ pub fn longest_wait(file: &[u8], tag: u16, resource: u8) -> Figure
     if user.code != 0 {
         return Figure::Refused(user.code);
     }
-    let found = analysis_waits::longest_of(file, &figures, user.task, folds::wide(resource));
+    let mut totals = [0u32; analysis_totals::TOTALS];
+    analysis_totals::fill_totals(file, &figures, &mut totals);
+    let found = analysis_waits::longest_of(
+        file,
+        &figures,
+        &totals,
+        user.task,
+        folds::wide(resource),
+    );
     Figure::Given(found.wait)
 }
 
@@ -158,6 +166,19 @@ pub fn wait_time(file: &[u8], processor: u8, resource: u8) -> Figure
     Figure::Given(shares.wait)
 }
 
+// Fills in, where all were 0, the two tables that requirements are worked out from.
+fn prepare(file: &[u8], terms: &mut [u16], sides: &mut [u64])
+    requires { ⌜ Blank (now file) (now terms) (now sides) ⌝ }
+    ensures { λ u. ⌜ Prepared (now (file .entry)) (now (terms .exit)) (now (sides .exit)) ⌝ }
+{
+    let mut figures = [0u16; analysis_figures::FIGURES];
+    analysis_hold_times::fill_figures(file, &mut figures);
+    let mut totals = [0u32; analysis_totals::TOTALS];
+    analysis_totals::fill_totals(file, &figures, &mut totals);
+    analysis_terms::fill_terms(file, &figures, terms);
+    analysis_sides::fill_sides(file, &figures, &totals, sides);
+}
+
 // 11 and 17, of a checked file, or the requirement of the task with this tag.
 fn requirement_question(file: &[u8], tag: u16) -> RequirementAnswer
     requires { ⌜ Checked (now file) ⌝ }
@@ -168,14 +189,13 @@ fn requirement_question(file: &[u8], tag: u16) -> RequirementAnswer
     if folds::wide(counts.tasks) <= i {
         return RequirementAnswer::Refused(refusals::UNKNOWN_TAG);
     }
-    let mut figures = [0u16; analysis_figures::FIGURES];
-    analysis_hold_times::fill_figures(file, &mut figures);
-    let mut terms = [0u16; analysis_requirements::TERMS];
-    analysis_requirements::fill_terms(file, &figures, &mut terms);
-    if analysis_requirements::count_at(&terms, i) == 0 {
+    let mut terms = [0u16; analysis_terms::TERMS];
+    let mut sides = [0u64; analysis_sides::SIDES];
+    prepare(file, &mut terms, &mut sides);
+    if analysis_terms::count_at(&terms, i) == 0 {
         return RequirementAnswer::Refused(refusals::NOTHING_GLOBAL);
     }
-    RequirementAnswer::Found(analysis_requirements::requirement_of(file, &figures, &terms, i))
+    RequirementAnswer::Found(analysis_requirements::requirement_of(file, &terms, &sides, i))
 }
 
 // The requirement of the task with this tag.
@@ -191,27 +211,27 @@ pub fn requirement(file: &[u8], tag: u16) -> RequirementAnswer
 }
 
 // Whether task i has no global section, or its requirement is met.
-fn passes(file: &[u8], figures: &[u16], terms: &[u16], i: usize) -> bool
-    requires { ⌜ TaskReady (now file) (now figures) (now terms) i ⌝ }
+fn passes(file: &[u8], terms: &[u16], sides: &[u64], i: usize) -> bool
+    requires { ⌜ TaskReady (now file) (now terms) (now sides) i ⌝ }
     ensures { λ r. ⌜ r ≡ (not (asks (planOf (now (file .entry))) i) || met (planOf (now (file .entry))) i) ⌝ }
 {
-    if analysis_requirements::count_at(terms, i) == 0 {
+    if analysis_terms::count_at(terms, i) == 0 {
         return true;
     }
-    let found = analysis_requirements::requirement_of(file, figures, terms, i);
+    let found = analysis_requirements::requirement_of(file, terms, sides, i);
     found.met
 }
 
 // Whether each task passes.
-fn all_pass(file: &[u8], figures: &[u16], terms: &[u16]) -> bool
-    requires { ⌜ Prepared (now file) (now figures) (now terms) ⌝ }
+fn all_pass(file: &[u8], terms: &[u16], sides: &[u64]) -> bool
+    requires { ⌜ Prepared (now file) (now terms) (now sides) ⌝ }
     ensures { λ r. ⌜ r ≡ admitted (planOf (now (file .entry))) ⌝ }
 {
     let counts = plan_reading::checked::counts(file);
     let n = folds::wide(counts.tasks);
     let mut i = 0;
     while i < n {
-        if !passes(file, figures, terms, i) {
+        if !passes(file, terms, sides, i) {
             return false;
         }
         i += 1;
@@ -224,11 +244,10 @@ fn decided(file: &[u8]) -> bool
     requires { ⌜ Checked (now file) ⌝ }
     ensures { λ r. ⌜ r ≡ admitted (planOf (now (file .entry))) ⌝ }
 {
-    let mut figures = [0u16; analysis_figures::FIGURES];
-    analysis_hold_times::fill_figures(file, &mut figures);
-    let mut terms = [0u16; analysis_requirements::TERMS];
-    analysis_requirements::fill_terms(file, &figures, &mut terms);
-    all_pass(file, &figures, &terms)
+    let mut terms = [0u16; analysis_terms::TERMS];
+    let mut sides = [0u64; analysis_sides::SIDES];
+    prepare(file, &mut terms, &mut sides);
+    all_pass(file, &terms, &sides)
 }
 
 // Whether the plan is admitted: every task with a global section has its requirement met.

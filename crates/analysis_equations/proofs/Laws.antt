@@ -1,18 +1,19 @@
 -- What the figures of the analysis are bound by, and how they hang together.
-use Rattle.folds.proofs.Ground.{ℕ, zero, suc, _+_, _*_, _-_, _<_, _≤_, min, Bool, true, false, cond, _&&_, not, true≢false, _≡_, refl, sym, _∙_, eqb, ltb, mul-le-mul, suc-mul, mul-suc, div-zero, div-lt-iff-lt-mul, le-of-suc-le-suc, le-antisymm, arith, ltb-true, lt-ltb, le-ltb, leb-true, eqb-true, eq-eqb, ne-eqb, not-false}
+use Rattle.folds.proofs.Ground.{ℕ, zero, suc, _+_, _*_, _-_, _<_, _≤_, min, Bool, true, false, cond, _&&_, not, and-false, true≢false, _≡_, refl, sym, _∙_, eqb, ltb, mul-le-mul, suc-mul, mul-suc, div-zero, div-lt-iff-lt-mul, le-of-suc-le-suc, le-antisymm, arith, ltb-true, ltb-false, lt-ltb, le-ltb, leb-true, eqb-true, eq-eqb, ne-eqb, not-false}
 use lib.Signed.{mag}
 use Rattle.folds.specs.Below.{anyBelow, sumBelow, maxBelow}
 use Rattle.folds.proofs.Tests.{cond-both, and-parts, is-not-true, same-test, any-at, any-out, code-zero, code-next}
 use Rattle.folds.proofs.Figures.{sum-bound, count-bound, sum-at, sum-same, max-same}
 use Rattle.folds.proofs.SignedLaws.{sub-mag, less-mag, greatest-mag}
-use Rattle.folds.proofs.Ranges.{cond-bound, max-where-bound, sum-where-bound, max-where-at, any-count, any-max, count-other}
+use Rattle.folds.proofs.Ranges.{cond-bound, max-where-bound, sum-where-bound, max-where-at, any-count, any-max, count-other, sum-none, sum-swap, sum-pick, count-times}
+use Rattle.folds.proofs.Arrays.{by-eq}
 use Rattle.plan_reading.specs.Plan.{Plan, TaskFits, Valid}
-use Rattle.analysis_equations.specs.Sharing.{processorOf, priorityOf, sectionOn, uses, usedOn, global, globalBy, higher, lower}
+use Rattle.analysis_equations.specs.Sharing.{processorOf, priorityOf, sectionBy, sectionOn, uses, usedOn, global, globalBy, higher, lower}
 use Rattle.analysis_equations.specs.HoldTimes.{longestOn, longestOff, interference, holdTime, holdAt, userOn, fellow, budget, waitTime}
-use Rattle.analysis_equations.specs.Blocking.{ceilDiv, globalCount, countOn, ceiling, blocks, longestLocal, blocking1, longestGlobal, blocking2, fellowHolds, waitingOn, waitingSide}
+use Rattle.analysis_equations.specs.Blocking.{ceilDiv, globalCount, countOn, ceiling, blocks, longestLocal, blocking1, longestGlobal, blocking2, fellowHolds, sectionWait, waitingOn, waitingSide}
 use Rattle.analysis_equations.specs.Requirement.{demand, left, tolerance, slack, asks}
 use Rattle.analysis_equations.specs.Questions.{taskNumber, sharingCode, useCode}
-use Rattle.analysis_equations.specs.Bounds.{mostInterference, mostHold, mostBudget, mostWait, mostFellowHolds, mostTurns, mostWaiting, mostSide, mostBlocking1, mostBlocking2, mostPeriod, mostDemandOfOne, mostDemand}
+use Rattle.analysis_equations.specs.Bounds.{mostInterference, mostHold, mostBudget, mostWait, mostFellowHolds, mostTurns, mostSectionWait, mostSide, mostBlocking1, mostBlocking2, mostPeriod, mostDemandOfOne, mostDemand}
 
 -- a quotient rounded up is at most the number divided
 pub ceil-bound : (a b : ℕ) → ceilDiv a b ≤ a
@@ -90,6 +91,14 @@ module _ (p : Plan) where
   pub uses-count : (i q : ℕ) → uses p i q ≡ ltb 0 (countOn p i q)
   unfolding uses countOn
   uses-count i q = any-count (p .sections) (sectionOn p i q)
+
+  unused-count : (i q : ℕ) → uses p i q ≡ false → countOn p i q ≡ 0
+  unused-count i q off = omega (arith, ltb-false 0 (countOn p i q) (sym (uses-count i q) ∙ off))
+
+  -- as often y as i has sections on q
+  count-on-times : (i q y : ℕ) → countOn p i q * y ≡ sumBelow (p .sections) (λ s. cond (sectionOn p i q s) y 0)
+  unfolding countOn
+  count-on-times i q y = count-times (p .sections) y (sectionOn p i q)
 
   pub uses-asks : (i q : ℕ) → uses p i q ≡ true → global p q ≡ true → asks p i ≡ true
   unfolding asks globalCount
@@ -330,16 +339,94 @@ module _ (p : Plan) (v : Valid p) where
   fellow-high i q =
       omega (arith, v .tasks, sum-where-bound (p .tasks) mostHold (λ j. userOn p (processorOf p i) q j && not (eqb j i)) (λ j. holdTime p j q) (λ j l t. hold-high j q))
 
-  pub waiting-high : (i q : ℕ) → waitingOn p i q ≤ mostWaiting
-  unfolding waitingOn
-  waiting-high i q =
-      let c : ceilDiv (2 * fellowHolds p i q) (budget p (processorOf p i) q) ≤ mostTurns = omega (arith, fellow-high i q, ceil-bound (2 * fellowHolds p i q) (budget p (processorOf p i) q)) in
-      mul-le-mul (mul-le-mul (count-on-high i q) c) (wait-high (processorOf p i) q)
+  -- the wait of one section
+  pub section-wait-high : (i q : ℕ) → sectionWait p i q ≤ mostSectionWait
+  unfolding sectionWait
+  section-wait-high i q =
+      let b : ℕ = budget p (processorOf p i) q in
+      let c : ceilDiv (2 * fellowHolds p i q) b + 1 ≤ mostTurns + 1 = omega (arith, fellow-high i q, ceil-bound (2 * fellowHolds p i q) b) in
+      let w = mul-le-mul c (wait-high (processorOf p i) q) in
+      omega (arith, w, fellow-high i q)
+
+  -- a section on a global resource waits at least a tick: there is another core on it
+  pub section-wait-low : (i q : ℕ) → global p q ≡ true → 1 ≤ sectionWait p i q
+  unfolding sectionWait
+  section-wait-low i q g =
+      let c : ℕ = ceilDiv (2 * fellowHolds p i q) (budget p (processorOf p i) q) in
+      let one : 1 * 1 ≤ (c + 1) * waitTime p (processorOf p i) q = mul-le-mul {n₁ = 1} {n₂ = c + 1} (omega arith) (wait-low (processorOf p i) q g) in
+      omega (arith, one)
+
+  -- the waiting side told by the sections: for each global section of i, its wait
+  pub side-sections : (i : ℕ) → waitingSide p i ≡ sumBelow (p .sections) (λ s. cond (globalBy p i s) (sectionWait p i (p .section s .resource)) 0)
+  unfolding waitingSide waitingOn
+  side-sections i =
+      sum-same (p .resources) _ _ (λ q l. by-resource q (global p q) refl)
+      ∙ sum-swap (p .resources) (p .sections) term
+      ∙ sum-same (p .sections) _ _ (λ s l. picked (globalBy p i s) (p .section s .resource) (v .section-fits s l .resource))
+    where
+      -- section s by resource q
+      term : ℕ → ℕ → ℕ
+      term q s = cond (globalBy p i s) (cond (eqb (p .section s .resource) q) (sectionWait p i q) 0) 0
+
+      shared-term : (q s : ℕ) → global p q ≡ true → cond (sectionOn p i q s) (sectionWait p i q) 0 ≡ term q s
+      shared-term q s g =
+          by-eq (λ (b : Bool). cond (sectionBy p i s && b) (sectionWait p i q) 0 ≡ cond (globalBy p i s) (cond b (sectionWait p i q) 0) 0)
+          (p .section s .resource) q
+          (λ e. rw (e, g))
+          (λ d. both (sectionBy p i s) (globalBy p i s))
+        where
+          both : (a b : Bool) → cond (a && false) (sectionWait p i q) 0 ≡ cond b 0 0
+          both true true = refl
+          both true false = refl
+          both false true = refl
+          both false false = refl
+
+      local-term : (q s : ℕ) → global p q ≡ false → term q s ≡ 0
+      local-term q s g =
+          by-eq (λ (b : Bool). cond (globalBy p i s) (cond b (sectionWait p i q) 0) 0 ≡ 0) (p .section s .resource) q
+          (λ e. rw (e, g, and-false))
+          (λ d. none (globalBy p i s))
+        where
+          none : (a : Bool) → _≡_ {A = ℕ} (cond a 0 0) 0
+          none true = refl
+          none false = refl
+
+      -- the sections on a global q, counted: none of them where i does not use it
+      used : (q : ℕ) (u : Bool) → uses p i q ≡ u → cond u (countOn p i q * sectionWait p i q) 0 ≡ countOn p i q * sectionWait p i q
+      used q true e = refl
+      used q false e = rw (unused-count p i q e) (omega arith)
+
+      by-resource : (q : ℕ) (g : Bool) → global p q ≡ g
+          → cond (g && uses p i q) (countOn p i q * sectionWait p i q) 0 ≡ sumBelow (p .sections) (term q)
+      by-resource q true e =
+          used q (uses p i q) refl ∙ count-on-times p i q (sectionWait p i q) ∙ sum-same (p .sections) _ _ (λ s l. shared-term q s e)
+      by-resource q false e = sym (sum-none (p .sections) (term q) (λ s l. local-term q s e))
+
+      picked : (b : Bool) (x : ℕ) → x < p .resources
+          → sumBelow (p .resources) (λ q. cond b (cond (eqb x q) (sectionWait p i q) 0) 0) ≡ cond b (sectionWait p i x) 0
+      picked true x l = sum-pick (p .resources) x (sectionWait p i) l
+      picked false x l = sum-none (p .resources) (λ q. 0) (λ q lq. refl)
 
   pub side-high : (i : ℕ) → waitingSide p i ≤ mostSide
-  unfolding waitingSide
   side-high i =
-      omega (arith, v .resources, sum-where-bound (p .resources) mostWaiting (λ q. global p q && uses p i q) (waitingOn p i) (λ q l t. waiting-high i q))
+      rw (side-sections i)
+      (let wait : ℕ → ℕ = λ s. sectionWait p i (p .section s .resource) in
+      let all = sum-where-bound (p .sections) mostSectionWait (globalBy p i) wait (λ s l t. section-wait-high i _) in
+      omega (arith, v .sections, all))
+
+  -- whoever has a requirement has a side of at least 1
+  pub side-low : (i : ℕ) → asks p i ≡ true → 1 ≤ waitingSide p i
+  unfolding asks globalCount
+  side-low i a =
+      any-out (p .sections) (globalBy p i) (1 ≤ waitingSide p i) (any-count (p .sections) (globalBy p i) ∙ a)
+      (λ s l t. let w : ℕ = sectionWait p i (p .section s .resource) in
+      let term : sumBelow s f + cond (globalBy p i s) w 0 ≤ sumBelow (p .sections) f = sum-at (p .sections) s f l in
+      let low : 1 ≤ w = section-wait-low i (p .section s .resource) (and-parts (sectionBy p i s) _ t .1) in
+      let own : cond (globalBy p i s) w 0 ≡ w = rw t in
+      omega (arith, side-sections i, term, own, low))
+    where
+      f : ℕ → ℕ
+      f s = cond (globalBy p i s) (sectionWait p i (p .section s .resource)) 0
 
   -- the ceiling told by the sections alone: for each section on q, its task's priority
   pub ceiling-section : (q : ℕ) → ceiling p q ≡ maxBelow (p .sections) (λ s. cond (eqb (p .section s .resource) q) (priorityOf p (p .section s .task)) 0)

@@ -1,4 +1,4 @@
--- Blocking: Equations 4, 5, 6 and 7, for a task i of processor k.
+-- Blocking: Equations 4, 5, 6 and 7, for a task i of processor k; Equation 6 as document 02 §2 has it.
 use Prim.Native.Nat.{ℕ, _+_, _*_, _-_, _/_, min}
 use mathlib.Core.Bool.{Bool, cond, _&&_, not}
 use lib.Dec.{leb}
@@ -51,13 +51,16 @@ module _ (p : Plan) where
   unfoldable pub fellowHolds : ℕ → ℕ → ℕ
   fellowHolds i q = sumBelow (p .tasks) (λ j. cond (fellow p i q j) (holdTime p j q) 0)
 
-  -- Equation 6 as printed: "(i's sections on q) × ceil(2 × sum of the hold times on q of k's other tasks using q, divided by k's
-  -- budget on q) × wait time of k on q"
+  -- Document 02 §2, one section of i on q: "per section, the factor before the wait time is ceil(..) + 1, and the sum of the fellow tasks'
+  -- hold times is added to the product". Equation 6 as printed has ceil(2 × that sum, divided by k's budget on q) × wait time alone: it
+  -- leaves out the first wait, and the time for which fellows hold
+  unfoldable pub sectionWait : ℕ → ℕ → ℕ
+  sectionWait i q =
+      (ceilDiv (2 * fellowHolds i q) (budget p (processorOf p i) q) + 1) * waitTime p (processorOf p i) q + fellowHolds i q
+
+  -- Equation 6 with that: i's sections on q, each with its wait
   unfoldable pub waitingOn : ℕ → ℕ → ℕ
-  waitingOn i q =
-      countOn i q
-      * ceilDiv (2 * fellowHolds i q) (budget p (processorOf p i) q)
-      * waitTime p (processorOf p i) q
+  waitingOn i q = countOn i q * sectionWait i q
 
   -- Equation 7: the waiting side, "the sum, over each global q that i uses"
   unfoldable pub waitingSide : ℕ → ℕ

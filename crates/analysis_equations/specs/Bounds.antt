@@ -1,7 +1,7 @@
 -- How great the figures of a plan can be: names for bounds, which are no rules of document 01. The greatest hold time is in fact 64,000
 -- and the greatest wait time 7 × 64,000; the bounds leave room.
 use Prim.Native.Nat.{ℕ, _+_, _*_}
-use Rattle.sizes.specs.Sizes.{mostProcessors, mostTasks, mostResources, mostSections, mostSectionTicks}
+use Rattle.sizes.specs.Sizes.{mostProcessors, mostTasks, mostSections, mostSectionTicks}
 
 -- what the tasks above a task add to its hold time: a section of each
 abbrev pub mostInterference : ℕ
@@ -27,13 +27,13 @@ mostFellowHolds = mostTasks * mostHold
 abbrev pub mostTurns : ℕ
 mostTurns = 2 * mostFellowHolds
 
--- Equation 6 for a task and a resource
-abbrev pub mostWaiting : ℕ
-mostWaiting = mostSections * mostTurns * mostWait
+-- the wait of one section: those and one more wait times, and the fellows' hold times
+abbrev pub mostSectionWait : ℕ
+mostSectionWait = (mostTurns + 1) * mostWait + mostFellowHolds
 
--- Equation 7
+-- a waiting side: that of each section
 abbrev pub mostSide : ℕ
-mostSide = mostResources * mostWaiting
+mostSide = mostSections * mostSectionWait
 
 -- Equation 4, and a term of Equation 5
 abbrev pub mostBlocking1 : ℕ

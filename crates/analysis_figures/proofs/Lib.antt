@@ -1,4 +1,3 @@
 pub mod Ground
 pub mod Cells
 pub mod Waits
-pub mod Counting

@@ -1,13 +1,11 @@
 -- All hold times and budgets of a plan, in one table: the hold times first, the budgets behind. None of this is a rule of document 01:
 -- it says where a figure stands.
 use Prim.Native.Nat.{ℕ, _+_, _*_, _<_}
-use mathlib.Core.Bool.{true}
 use mathlib.Core.List.{List}
 use mathlib.Core.Path.{_≡_}
 use lib.ListN.{length, getD}
 use Rattle.sizes.specs.Sizes.{mostProcessors, mostTasks, mostResources}
 use Rattle.plan_reading.specs.Plan.{Plan, planOf, Checked}
-use Rattle.analysis_equations.specs.Sharing.{global}
 use Rattle.analysis_equations.specs.HoldTimes.{holdAt, budget}
 
 -- how many figures there are
@@ -32,13 +30,6 @@ pub record Figures (p : Plan) (t : List ℕ) : Type 0 where
 pub record Known (f t : List ℕ) : Type 0 where
   pub plan : Checked f
   pub figures : Figures (planOf f) t
-
--- a task of the plan, and a global resource
-pub record Sharer (f t : List ℕ) (i q : ℕ) : Type 0 where
-  pub known : Known f t
-  pub task : i < planOf f .tasks
-  pub resource : q < mostResources
-  pub shared : global (planOf f) q ≡ true
 
 -- a place that is there, in a table as long as that: the row of one of n tasks or processors, and a resource
 pub record Place (t : List ℕ) (n i q : ℕ) : Type 0 where

@@ -1,31 +1,22 @@
-// All hold times and budgets of a plan in one table, and what is read off it: which resources are global, who may ask for what, wait
-// times and fellows. The functions here are for the crates above, and rely on a file that passed every check, or on the table; each says
+// All hold times and budgets of a plan in one table, and what is read off it: which resources are global, who may ask for what, and wait
+// times. The functions here are for the crates above, and rely on a file that passed every check, or on the table; each says
 // so in its `requires`. Crate `analysis_hold_times` fills the table in.
 ghost use mathlib.Core.Path.{_≡_};
-ghost use mathlib.Core.Bool.{cond};
 ghost use Prim.Native.Nat.{_≤_, _<_};
 ghost use lib.ListN.{getD};
-ghost use Rattle.folds.specs.Below.{countBelow};
 ghost use Rattle.sizes.specs.Sizes.{mostProcessors, mostTasks, mostResources};
 ghost use Rattle.plan_reading.specs.Plan.{planOf, Checked};
 ghost use Rattle.analysis_equations.specs.Sharing.{global};
-ghost use Rattle.analysis_equations.specs.HoldTimes.{longestOn, fellow, waitTime};
-ghost use Rattle.analysis_equations.specs.Blocking.{fellowHolds};
+ghost use Rattle.analysis_equations.specs.HoldTimes.{longestOn, waitTime};
 ghost use Rattle.analysis_equations.specs.Questions.{taskNumber, sharingCode, useCode};
 ghost use Rattle.analysis_equations.specs.Bounds.{mostWait};
-ghost use Rattle.analysis_figures.specs.Figures.{holdCell, budgetCell, Known, Sharer, Place};
+ghost use Rattle.analysis_figures.specs.Figures.{holdCell, budgetCell, Known, Place};
 ghost use Rattle.analysis_figures.specs.Inner.{Unheld};
 
 // A task and a resource that were asked about: why not, 0 for no refusal, and the number of the task.
 pub struct User {
     pub code: u8,
     pub task: usize,
-}
-
-// The fellows of a task on a resource: how many, and their hold times added up.
-pub struct Fellows {
-    pub count: u8,
-    pub holds: u32,
 }
 
 // The hold times in a table of figures.
@@ -157,35 +148,4 @@ pub fn is_global(file: &[u8], figures: &[u16], q: usize) -> bool
         i += 1;
     }
     false
-}
-
-// 1 for true.
-fn flag(b: bool) -> u8
-    ensures { λ r. ⌜ (r ≡ cond b 1 0) × (r ≤ 1) ⌝ }
-{
-    b as u8
-}
-
-// The fellows of task i on the global resource q: how many, and their hold times added up.
-pub fn fellows_of(file: &[u8], figures: &[u16], i: usize, q: usize) -> Fellows
-    requires { ⌜ Sharer (now file) (now figures) i q ⌝ }
-    ensures { λ r. ⌜ r .count ≡ countBelow (planOf (now (file .entry)) .tasks) (fellow (planOf (now (file .entry))) i q) ⌝ }
-    ensures { λ r. ⌜ r .holds ≡ fellowHolds (planOf (now (file .entry))) i q ⌝ }
-{
-    let counts = plan_reading::checked::counts(file);
-    let n = folds::wide(counts.tasks);
-    let own = plan_reading::checked::task(file, i);
-    let k = own.processor;
-    let mut count = 0u8;
-    let mut sum = 0u32;
-    let mut j = 0;
-    while j < n {
-        let row = plan_reading::checked::task(file, j);
-        let hold = hold_at(figures, j, q);
-        let is_fellow = (row.processor == k) & (hold != 0) & !(j == i);
-        count += flag(is_fellow);
-        sum += folds::chosen(is_fellow, hold, 0) as u32;
-        j += 1;
-    }
-    Fellows { count, holds: sum }
 }

@@ -1,17 +1,12 @@
 -- Equations 4 and 5 over the table of terms.
-use Rattle.analysis_requirements.proofs.Ground.{ℕ, _+_, _*_, _<_, _≤_, min, Bool, true, false, cond, not, _≡_, refl, _∙_, List, eqb}
-use Rattle.analysis_requirements.proofs.Ground.{length, getD, mul-le-mul, arith, maxBelow, mostTasks, mostResources, mostSections}
-use Rattle.analysis_requirements.proofs.Ground.{mostSectionTicks, Plan, planOf, Valid, valid-plan, global, lower, globalCount}
-use Rattle.analysis_requirements.proofs.Ground.{blocks, longestLocal, blocking1, longestGlobal, mostBlocking1, longestCell}
-use Rattle.analysis_requirements.proofs.Ground.{precedenceCell, countCell, sharedCell, termCount, Prepared, under, TaskTerms}
+use Rattle.analysis_requirements.proofs.Ground.{ℕ, _+_, _*_, _<_, _≤_, min, Bool, true, false, cond, _≡_, refl, _∙_, List}
+use Rattle.analysis_requirements.proofs.Ground.{length, getD, mul-le-mul, arith, mostTasks, mostSections}
+use Rattle.analysis_requirements.proofs.Ground.{mostSectionTicks, Plan, planOf, Valid, valid-plan, lower, globalCount}
+use Rattle.analysis_requirements.proofs.Ground.{blocking1, longestGlobal, mostBlocking1, longestCell}
+use Rattle.analysis_requirements.proofs.Ground.{precedenceCell, countCell, blockedCell, termCount, Prepared, under, TaskTerms}
 use Rattle.analysis_requirements.proofs.Ground.{cond-bound}
 use Rattle.analysis_equations.proofs.Laws.{count-high, global-high}
 use Rattle.analysis_requirements.proofs.Precedences.{table-under}
-use Rattle.analysis_requirements.proofs.Terms.{flag-clear}
-
--- the longest section that blocks i, of the first n
-abbrev pub localBelow : Plan → ℕ → ℕ → ℕ
-localBelow p i n = maxBelow n (λ s. cond (blocks p i s) (p .section s .length) 0)
 
 -- a term of Equation 5
 abbrev pub term : Plan → ℕ → ℕ → ℕ
@@ -22,18 +17,18 @@ pub record Term (p : Plan) (i j x : ℕ) : Type 0 where
   pub told : x ≡ term p i j
   pub high : x ≤ mostBlocking1
 
--- for task i, a loop over the n tasks or sections of the plan, which has m of them and can have `most`: what holds all along
-pub record Over (f t : List ℕ) (i n m most : ℕ) : Type 0 where
+-- for task i, a loop over the n tasks of the plan: what holds all along
+pub record Over (f t : List ℕ) (i n : ℕ) : Type 0 where
   pub asked : TaskTerms f t i
-  pub all : n ≡ m
-  pub few : n ≤ most
+  pub all : n ≡ planOf f .tasks
+  pub few : n ≤ mostTasks
   pub long : length t ≡ termCount
 
-pub task-terms : {f figures t : List ℕ} {i : ℕ} → Prepared f figures t → i < planOf f .tasks → TaskTerms f t i
+pub task-terms : {f t sides : List ℕ} {i : ℕ} → Prepared f t sides → i < planOf f .tasks → TaskTerms f t i
 task-terms {f} {i = i} h l =
-    let v = valid-plan f (h .known .plan) in
+    let v = valid-plan f (h .plan) in
     let low : i < mostTasks = omega arith in
-    record { plan = h .known .plan; terms = h .terms; task = l; low = low; few = rw (h .terms .count i low) (count-high (planOf f) v i) }
+    record { plan = h .plan; terms = h .terms; task = l; low = low; few = rw (h .terms .count i low) (count-high (planOf f) v i) }
 
 module _ {f t : List ℕ} {i : ℕ} (h : TaskTerms f t i) where
   abbrev plan : Plan
@@ -42,17 +37,13 @@ module _ {f t : List ℕ} {i : ℕ} (h : TaskTerms f t i) where
   valid : Valid plan
   valid = valid-plan f (h .plan)
 
-  pub over : {n m most : ℕ} → n ≡ m → m ≤ most → Over f t i n m most
-  over e l = record { asked = h; all = e; few = omega arith; long = h .terms .long }
-
-  -- whether a resource is local
-  pub local-read : (q : ℕ) → q < mostResources → eqb (getD t (sharedCell q) 0) 0 ≡ not (global plan q)
-  local-read q l = rw (h .terms .shared q l) (flag-clear (global plan q))
+  pub over : {n : ℕ} → n ≡ plan .tasks → Over f t i n
+  over e = record { asked = h; all = e; few = omega (arith, valid .tasks); long = h .terms .long }
 
   -- Equation 4
-  pub blocking1-read : {n x : ℕ} → n ≡ getD t (countCell i) 0 → x ≡ longestLocal plan i → (n + 1) * x ≡ blocking1 plan i
+  pub blocking1-read : (getD t (countCell i) 0 + 1) * getD t (blockedCell i) 0 ≡ blocking1 plan i
   unfolding blocking1
-  blocking1-read e g = rw (e, h .terms .count i (h .low), g)
+  blocking1-read = rw (h .terms .count i (h .low), h .terms .blocked i (h .task))
 
   module _ (j : ℕ) (lj : j < plan .tasks) {s y : ℕ} (es : s ≡ min (getD t (countCell i) 0 + 1) (getD t (countCell j) 0))
       (ey : y ≡ cond (under (getD t (precedenceCell i) 0) (getD t (precedenceCell j) 0)) (getD t (longestCell j) 0) 0) where

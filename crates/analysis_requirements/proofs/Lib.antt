@@ -1,7 +1,6 @@
 pub mod Ground
 pub mod Precedences
-pub mod Rows
-pub mod Terms
 pub mod Blocking
-pub mod Sides
+pub mod Together
+pub mod Printed
 pub mod Demand

@@ -1,9 +1,10 @@
--- What a task's precedence tells of its processor and its priority.
-use Rattle.analysis_requirements.proofs.Ground.{ℕ, _+_, _*_, _/_, _%_, _<_, Bool, _&&_, _≡_, refl, List, ltb, getD, arith, ltb-true}
+-- Who is above whom, by the precedences in the table of terms.
+use Rattle.analysis_requirements.proofs.Ground.{ℕ, _+_, _*_, _<_, Bool, _&&_, _≡_, refl, List, ltb, getD, arith, ltb-true}
 use Rattle.analysis_requirements.proofs.Ground.{lt-ltb, Plan, Valid, processorOf, priorityOf, higher, lower, precedenceCell}
 use Rattle.analysis_requirements.proofs.Ground.{precedenceOf, TermTable, above, under}
 use Rattle.folds.proofs.Tests.{same-test}
 use Rattle.folds.proofs.Arrays.{by-eq}
+use Rattle.analysis_terms.proofs.Precedences.{precedence-processor}
 
 -- two precedences of one processor are ordered as their priorities
 order : (k a b : ℕ) → ltb (k * 256 + a) (k * 256 + b) ≡ ltb a b
@@ -11,13 +12,6 @@ order k a b =
     same-test (ltb (k * 256 + a) (k * 256 + b)) (ltb a b)
     (λ t. lt-ltb a b (omega (arith, ltb-true (k * 256 + a) (k * 256 + b) t)))
     (λ t. lt-ltb (k * 256 + a) (k * 256 + b) (omega (arith, ltb-true a b t)))
-
-module _ (p : Plan) (v : Valid p) where
-  precedence-processor : (j : ℕ) → j < p .tasks → precedenceOf p j / 256 ≡ processorOf p j
-  precedence-processor j l = omega (arith, v .task-fits j l .high)
-
-  pub precedence-priority : (j : ℕ) → j < p .tasks → precedenceOf p j % 256 ≡ priorityOf p j
-  precedence-priority j l = omega (arith, v .task-fits j l .high)
 
 -- what the table of terms tells of who is above whom
 module _ (p : Plan) (v : Valid p) (t : List ℕ) (h : TermTable p t) (i j : ℕ) (li : i < p .tasks) (lj : j < p .tasks) where

@@ -1,21 +1,20 @@
-// The requirement of a task: B1, B2, the waiting side, the tolerance and the slack, from a checked file, the table of its hold times and
-// budgets, and a table of what else they are worked out from. Every function here is for the crates above, and says in its `requires` what
-// it relies on.
+// The requirement of a task: B1, B2, the waiting side, the tolerance and the slack, from a checked file and two tables that are filled in for
+// all its tasks at once: the terms of B1 and B2, and the waiting sides. Every function here is for the crates above, and says in its
+// `requires` what it relies on.
+use analysis_terms::BLOCKED;
+use analysis_terms::COUNTS;
+use analysis_terms::PRECEDENCES;
 ghost use mathlib.Core.Path.{_≡_};
 ghost use Prim.Native.Nat.{_+_, _-_, _<_};
 ghost use lib.IntN.{pos, _-ℤ_};
 ghost use lib.Signed.{mag};
-ghost use lib.ListN.{length, getD, replicate};
-ghost use Rattle.sizes.specs.Sizes.{mostTasks, mostResources};
 ghost use Rattle.folds.specs.Signed.{greatestTo};
-ghost use Rattle.plan_reading.specs.Plan.{planOf, Checked};
-ghost use Rattle.analysis_equations.specs.Blocking.{countOn, longestLocal, blocking1, blocking2, waitingOn, waitingSide};
+ghost use Rattle.plan_reading.specs.Plan.{planOf};
+ghost use Rattle.analysis_equations.specs.Blocking.{blocking1, blocking2};
 ghost use Rattle.analysis_equations.specs.Requirement.{tolerance};
-ghost use Rattle.analysis_figures.specs.Figures.{Known};
 ghost use Rattle.analysis_requirements.specs.Figures.{requirementOf};
-ghost use Rattle.analysis_requirements.specs.Terms.{countCell, termCount, TermTable, Prepared};
-ghost use Rattle.analysis_requirements.specs.Inner.{TermsBelow, Filling, TaskTerms, TaskTables, SectionCount, Waiter, WaitingTold, PerResource};
-ghost use Rattle.analysis_requirements.specs.Inner.{HigherTasks, TimedTo, Scanned, Demanded, demandOf, comparison};
+ghost use Rattle.analysis_requirements.specs.Tables.{Prepared};
+ghost use Rattle.analysis_requirements.specs.Inner.{TaskTerms, HigherTasks, TimedTo, Scanned, Demanded, demandOf, comparison};
 
 // What a task's requirement compares: met when the waiting side is at most the slack.
 pub struct Requirement {
@@ -34,139 +33,12 @@ struct Higher {
     times: [u32; sizes::TASKS],
 }
 
-// Where the parts of the table of terms begin, behind the longest global section of each task.
-const PRECEDENCES: usize = sizes::TASKS;
-
-const COUNTS: usize = PRECEDENCES + sizes::TASKS;
-
-const CEILINGS: usize = COUNTS + sizes::TASKS;
-
-const SHARED: usize = CEILINGS + sizes::RESOURCES;
-
-// The terms.
-pub const TERMS: usize = SHARED + sizes::RESOURCES;
-
-// How many global sections task i has, from the table.
-pub fn count_at(terms: &[u16], i: usize) -> u16
-    requires { ⌜ (length (now terms) ≡ termCount) × (i < mostTasks) ⌝ }
-    ensures { λ r. ⌜ r ≡ getD (now (terms .entry)) (countCell i) 0 ⌝ }
-{
-    terms[COUNTS + i]
-}
-
-// Which resources are global, in a table in which all was 0.
-fn put_shared(file: &[u8], figures: &[u16], terms: &mut [u16])
-    requires { ⌜ (Known (now file) (now figures)) × (now terms ≡ replicate termCount 0) ⌝ }
-    ensures { λ u. ⌜ TermsBelow (planOf (now (file .entry))) mostResources 0 0 (now (terms .exit)) ⌝ }
-{
-    let mut q = 0;
-    while q < sizes::RESOURCES {
-        let shared = analysis_figures::is_global(file, figures, q);
-        terms[SHARED + q] = folds::chosen(shared, 1, 0);
-        q += 1;
-    }
-}
-
-// The precedence of each task: its processor and its priority as one number.
-fn put_precedences(file: &[u8], terms: &mut [u16])
-    requires { ⌜ Filling (now file) mostResources 0 0 (now terms) ⌝ }
-    ensures { λ u. ⌜ TermsBelow (planOf (now (file .entry))) mostResources (planOf (now (file .entry)) .tasks) 0 (now (terms .exit)) ⌝ }
-{
-    let counts = plan_reading::checked::counts(file);
-    let n = folds::wide(counts.tasks);
-    let mut j = 0;
-    while j < n {
-        let row = plan_reading::checked::task(file, j);
-        terms[PRECEDENCES + j] = folds::half(row.processor) * 256 + folds::half(row.priority);
-        j += 1;
-    }
-}
-
-// Each task's longest global section and how many it has, and each resource's ceiling, in one pass over the sections.
-fn put_sections(file: &[u8], terms: &mut [u16])
-    requires { ⌜ Filling (now file) mostResources (planOf (now file) .tasks) 0 (now terms) ⌝ }
-    ensures { λ u. ⌜ TermTable (planOf (now (file .entry))) (now (terms .exit)) ⌝ }
-{
-    let counts = plan_reading::checked::counts(file);
-    let n = counts.sections as usize;
-    let mut s = 0;
-    while s < n {
-        let row = plan_reading::checked::section(file, s);
-        let j = folds::wide(row.task);
-        let q = folds::wide(row.resource);
-        let shared = terms[SHARED + q];
-        let longest = folds::longer(terms[j], folds::chosen(shared == 1, row.length, 0));
-        let count = terms[COUNTS + j] + shared;
-        let ceiling = folds::longer(terms[CEILINGS + q], terms[PRECEDENCES + j] % 256);
-        terms[j] = longest;
-        terms[COUNTS + j] = count;
-        terms[CEILINGS + q] = ceiling;
-        s += 1;
-    }
-}
-
-// Fills in the terms where all were 0.
-pub fn fill_terms(file: &[u8], figures: &[u16], terms: &mut [u16])
-    requires { ⌜ (Known (now file) (now figures)) × (now terms ≡ replicate termCount 0) ⌝ }
-    ensures { λ u. ⌜ Prepared (now (file .entry)) (now (figures .entry)) (now (terms .exit)) ⌝ }
-{
-    put_shared(file, figures, terms);
-    put_precedences(file, terms);
-    put_sections(file, terms);
-}
-
-// How many sections task i has on each resource.
-fn counts_on(file: &[u8], i: usize) -> [u16; sizes::RESOURCES]
-    requires { ⌜ Checked (now file) ⌝ }
-    ensures { λ r. ⌜ PerResource (countOn (planOf (now (file .entry))) i) r ⌝ }
-{
-    let counts = plan_reading::checked::counts(file);
-    let n = counts.sections as usize;
-    let mut table = [0u16; sizes::RESOURCES];
-    let mut s = 0;
-    while s < n {
-        let row = plan_reading::checked::section(file, s);
-        let own = folds::wide(row.task) == i;
-        table[folds::wide(row.resource)] += folds::chosen(own, 1, 0);
-        s += 1;
-    }
-    table
-}
-
-// The longest section of a task below task i on a local resource whose ceiling is at least i's priority.
-fn longest_local(file: &[u8], terms: &[u16], i: usize) -> u16
-    requires { ⌜ TaskTerms (now file) (now terms) i ⌝ }
-    ensures { λ r. ⌜ r ≡ longestLocal (planOf (now (file .entry))) i ⌝ }
-{
-    let counts = plan_reading::checked::counts(file);
-    let n = counts.sections as usize;
-    let own = plan_reading::checked::task(file, i);
-    let mut best = 0u16;
-    let mut s = 0;
-    while s < n {
-        let row = plan_reading::checked::section(file, s);
-        let task = plan_reading::checked::task(file, folds::wide(row.task));
-        let q = folds::wide(row.resource);
-        let is_local = terms[SHARED + q] == 0;
-        let reaches = folds::half(own.priority) <= terms[CEILINGS + q];
-        let is_lower = (task.processor == own.processor) & (task.priority < own.priority);
-        best = folds::longer(
-            best,
-            folds::chosen(is_lower & (is_local & reaches), row.length, 0),
-        );
-        s += 1;
-    }
-    best
-}
-
 // Equation 4: B1.
 fn blocking1_of(file: &[u8], terms: &[u16], i: usize) -> u32
     requires { ⌜ TaskTerms (now file) (now terms) i ⌝ }
     ensures { λ r. ⌜ r ≡ blocking1 (planOf (now (file .entry))) i ⌝ }
 {
-    let count = count_at(terms, i) as u32;
-    let longest = longest_local(file, terms, i) as u32;
-    (count + 1) * longest
+    (terms[COUNTS + i] as u32 + 1) * terms[BLOCKED + i] as u32
 }
 
 // Equation 5: B2.
@@ -188,51 +60,6 @@ fn blocking2_of(file: &[u8], terms: &[u16], i: usize) -> u32
         j += 1;
     }
     sum
-}
-
-// Equation 6: what task i waits for the global resource q, on which it has `count` sections.
-fn waiting_on(file: &[u8], figures: &[u16], count: u16, i: usize, q: usize) -> u64
-    requires { ⌜ Waiter (now file) (now figures) i q count ⌝ }
-    ensures { λ r. ⌜ r ≡ waitingOn (planOf (now (file .entry))) i q ⌝ }
-{
-    let task = plan_reading::checked::task(file, i);
-    let k = task.processor;
-    let budget = analysis_figures::budget_at(figures, folds::wide(k), q) as u32;
-    let wait = analysis_figures::wait_in(file, figures, k, q);
-    let fellows = analysis_figures::fellows_of(file, figures, i, q);
-    let times = (2 * fellows.holds + (budget - 1)) / budget;
-    count as u64 * times as u64 * wait as u64
-}
-
-// The same where q is global and task i uses it, else 0.
-fn waiting_at(file: &[u8], figures: &[u16], terms: &[u16], count: u16, i: usize, q: usize) -> u64
-    requires { ⌜ SectionCount (now file) (now figures) (now terms) i q count ⌝ }
-    ensures { λ r. ⌜ WaitingTold (planOf (now (file .entry))) i q r ⌝ }
-{
-    if terms[SHARED + q] == 0 {
-        return 0;
-    }
-    if count == 0 {
-        return 0;
-    }
-    waiting_on(file, figures, count, i, q)
-}
-
-// Equation 7: the waiting side of task i.
-fn waiting_side(file: &[u8], figures: &[u16], terms: &[u16], i: usize) -> u64
-    requires { ⌜ TaskTables (now file) (now figures) (now terms) i ⌝ }
-    ensures { λ r. ⌜ r ≡ waitingSide (planOf (now (file .entry))) i ⌝ }
-{
-    let counts = plan_reading::checked::counts(file);
-    let n = folds::wide(counts.resources);
-    let on = counts_on(file, i);
-    let mut side = 0u64;
-    let mut q = 0;
-    while q < n {
-        side += waiting_at(file, figures, terms, on[q], i, q);
-        q += 1;
-    }
-    side
 }
 
 // The tasks above task i.
@@ -331,13 +158,12 @@ fn compared(blocking1: u32, blocking2: u32, tolerance: i64, side: u64) -> Requir
 }
 
 // The requirement of task i.
-pub fn requirement_of(file: &[u8], figures: &[u16], terms: &[u16], i: usize) -> Requirement
-    requires { ⌜ (Prepared (now file) (now figures) (now terms)) × (i < planOf (now file) .tasks) ⌝ }
+pub fn requirement_of(file: &[u8], terms: &[u16], sides: &[u64], i: usize) -> Requirement
+    requires { ⌜ (Prepared (now file) (now terms) (now sides)) × (i < planOf (now file) .tasks) ⌝ }
     ensures { λ r. ⌜ r ≡ requirementOf (planOf (now (file .entry))) i ⌝ }
 {
     let blocking1 = blocking1_of(file, terms, i);
     let blocking2 = blocking2_of(file, terms, i);
     let tolerance = tolerance_of(file, terms, i);
-    let side = waiting_side(file, figures, terms, i);
-    compared(blocking1, blocking2, tolerance, side)
+    compared(blocking1, blocking2, tolerance, sides[i])
 }

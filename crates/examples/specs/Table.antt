@@ -1,6 +1,6 @@
 -- The table of examples that document 01 wants proved of the definitions: C1 to C6 and the listing's seven calls; that the longest
 -- wait is reached; and what give-ups do.
-use Prim.Native.Nat.{ℕ, _*_}
+use Prim.Native.Nat.{ℕ, _+_, _*_}
 use mathlib.Core.Bool.{Bool, true, false, _&&_, cond}
 use mathlib.Core.List.{List, [], _∷_, _++_}
 use lib.IntN.{ℤ, pos}
@@ -121,8 +121,10 @@ c5 rest =
     ∷ isTest (queued 0 (run equal (Request 1 0 ∷ Request 2 0 ∷ Request 3 0 ∷ Tick ∷ Release 1 0 ∷ []) .lines 0)) true
     ∷ rest
 
--- C6. "the second has B2 4, tolerance 44, slack 40, waiting side 3 × 10 + 1 × 10 = 40, met. With T 60: slack 39, not met. The first:
--- slack 36, side 60, not met."
+-- C6. "the second has B2 4, tolerance 44, slack 40", and with T 60 "slack 39"; the first: "slack 36". The sides are those of document 02
+-- §2: "the second task's side is 72, not met against 40 or 39; the first's is 95 against 36". On R1 the second has fellows of 3 + 7
+-- ticks and P2's budget is 7: (3 + 1) × 10 + 10; on R2 one fellow of 2 ticks, budget 4: (1 + 1) × 10 + 2. With T 93 its slack is 72 too,
+-- and it is met; with T 92 it is not
 unfoldable pub c6 : List Row → List Row
 c6 rest =
     isNumber (blocking2 (paper 61) 6) 4
@@ -130,15 +132,18 @@ c6 rest =
     ∷ isSigned (slack (paper 61) 6) (pos 40)
     ∷ isNumber (waitTime (paper 61) 1 0) 10
     ∷ isNumber (waitTime (paper 61) 1 1) 10
-    ∷ isNumber (waitingOn (paper 61) 6 0) (3 * 10)
-    ∷ isNumber (waitingOn (paper 61) 6 1) (1 * 10)
-    ∷ isNumber (waitingSide (paper 61) 6) 40
-    ∷ isTest (met (paper 61) 6) true
+    ∷ isNumber (waitingOn (paper 61) 6 0) (4 * 10 + 10)
+    ∷ isNumber (waitingOn (paper 61) 6 1) (2 * 10 + 2)
+    ∷ isNumber (waitingSide (paper 61) 6) 72
+    ∷ isTest (met (paper 61) 6) false
     ∷ isSigned (slack (paper 60) 6) (pos 39)
     ∷ isTest (met (paper 60) 6) false
     ∷ isSigned (slack (paper 61) 5) (pos 36)
-    ∷ isNumber (waitingSide (paper 61) 5) 60
+    ∷ isNumber (waitingSide (paper 61) 5) 95
     ∷ isTest (met (paper 61) 5) false
+    ∷ isSigned (slack (paper 93) 6) (pos 72)
+    ∷ isTest (met (paper 93) 6) true
+    ∷ isTest (met (paper 92) 6) false
     ∷ rest
 
 -- The longest wait is reached. The paper's third task of P2 has two fellows on R1, with hold times 3 and 4, and P2's wait time is 10:

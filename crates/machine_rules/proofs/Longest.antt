@@ -5,10 +5,11 @@ use Rattle.machine_rules.proofs.Ground.{eq-eqb, ne-eqb, listBelow, firs
 use Rattle.machine_rules.proofs.Ground.{waitTime, taskNumber, useCode, Line, line, among, inLine, queueOf, tasksOf, aheadIn, limit}
 use Rattle.machine_rules.proofs.Ground.{EachOnce, Waits, Call, Request, View, terms, requestCode, requestAnswer, answer, after}
 use Rattle.machine_rules.proofs.Ground.{Event, Bounded, Asked, Kept, Waiter, fellows, longestWait}
-use Rattle.folds.proofs.Ground.{_*_}
+use Rattle.folds.proofs.Ground.{_*_, mul-le-mul}
 use Rattle.folds.specs.Below.{countBelow}
 use Rattle.folds.proofs.Figures.{sum-same}
-use Rattle.analysis_equations.specs.Blocking.{fellowHolds}
+use Rattle.analysis_equations.specs.HoldTimes.{budget}
+use Rattle.analysis_equations.specs.Blocking.{ceilDiv, fellowHolds, sectionWait}
 use Rattle.analysis_equations.proofs.Laws.{fellow-hold}
 use Rattle.queue_rules.specs.Rules.{sumOf}
 use Rattle.queue_rules.proofs.Lists.{list-length, list-sum}
@@ -32,6 +33,18 @@ module _ (p : Plan) where
   longest-figures i q g =
       ap (λ (x : ℕ). x + (length (fellows p i q) + 1) * waitTime p (processorOf p i) q)
       (list-sum (λ j. holdAt p j q) (p .tasks) (fellow p i q) ∙ sum-same (p .tasks) _ _ (λ j l. fellow-hold p i q j g))
+
+  -- a section's share of the waiting side covers the longest wait where there are no more fellows than turns by the quotient; a law for
+  -- readers
+  pub longest-section : (i q : ℕ) → global p q ≡ true
+      → length (fellows p i q) ≤ ceilDiv (2 * fellowHolds p i q) (budget p (processorOf p i) q) → longestWait p i q ≤ sectionWait p i q
+  unfolding sectionWait
+  longest-section i q g few =
+      let turns : ℕ = ceilDiv (2 * fellowHolds p i q) (budget p (processorOf p i) q) in
+      let w : ℕ = waitTime p (processorOf p i) q in
+      let most : length (fellows p i q) + 1 ≤ turns + 1 = omega (arith, few) in
+      let more : (length (fellows p i q) + 1) * w ≤ (turns + 1) * w = mul-le-mul most (omega arith) in
+      omega (arith, longest-figures i q g, more)
 
 module _ (p : Plan) (v : Valid p) where
   -- a task of its processor that is in line, and another, is a fellow

@@ -10,7 +10,7 @@ pub sheet-examples : (f : List ℕ) → namePart f 0 ≡ quoted "bus" →
     (resourceLine f 0 true ≡ quoted "resource bus global\n")
     × (budgetLine f 1 0 3 2 ≡ quoted "budget 1 bus 3 2\n")
     × (holdLine f 10 0 2 0 3 ≡ quoted "hold 10 bus 2 0 3\n")
-    × (requirementLine 10 (record { blocking1 = 0; blocking2 = 4; tolerance = pos 0; slack = negsuc 3; side = 0; met = false }) ≡ quoted "requirement 10 0 4 0 -4 0 unmet\n")
+    × (requirementLine 10 (record { blocking1 = 0; blocking2 = 4; tolerance = pos 0; slack = negsuc 3; side = 7; met = false }) ≡ quoted "requirement 10 0 4 0 -4 7 unmet\n")
     × (admittedLine true ≡ quoted "admitted yes\n")
 unfolding placesTo decimals
 sheet-examples f bus = rw bus (refl, refl, refl, refl, refl)

@@ -1,6 +1,5 @@
 -- The names that the proofs of this crate share, by one module: a definition that moves is named anew here alone.
 pub use Rattle.folds.proofs.Ground.{Bool, List, _&&_, _-_, _<_, _∙_, _≡_, arith, eqb, false, needs, not, refl, sym, true, ℕ}
-unfoldable pub use Rattle.folds.specs.Below.{anyBelow}
 pub use Rattle.plan_reading.specs.Plan.{Valid}
 unfoldable pub use Rattle.plan_reading.specs.Plan.{planOf}
 pub use Rattle.print_text.proofs.TextLaws.{put-in-then, put-wider}

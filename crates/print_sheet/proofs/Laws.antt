@@ -1,10 +1,9 @@
 -- Which lines of a sheet are left out, and what the tables tell of them.
-use Rattle.print_sheet.proofs.Ground.{ℕ, Bool, true, false, _&&_, not, _≡_, refl, sym, _∙_, List, eqb, arith, anyBelow, planOf}
-use Rattle.print_sheet.proofs.Ground.{Valid, usedOn, global, holdAt, globalCount, requirementLine, requirementAt, requirementRoom}
-use Rattle.print_sheet.proofs.Ground.{passes}
-use Rattle.folds.proofs.Ground.{cond, and-false, [], eq-eqb, ne-eqb, not-true, not-false}
-use mathlib.Core.Bool.{Bool·not-not}
-use Rattle.folds.proofs.Tests.{and-parts, any-same, any-none}
+use Rattle.print_sheet.proofs.Ground.{ℕ, _<_, Bool, true, false, _&&_, not, _≡_, refl, sym, _∙_, List, eqb, arith}
+use Rattle.print_sheet.proofs.Ground.{mostProcessors, mostResources, planOf, Valid, usedOn, global, holdAt, globalCount}
+use Rattle.print_sheet.proofs.Ground.{requirementLine, requirementAt, requirementRoom, passes}
+use Rattle.folds.proofs.Ground.{cond, [], getD, eq-eqb, ne-eqb, not-true, not-false}
+use Rattle.folds.proofs.Tests.{and-parts}
 use Rattle.print_text.specs.Text.{PutIn}
 use Rattle.print_text.proofs.TextLaws.{put-none, put-in}
 use Rattle.plan_rules.specs.declared.Counts.{Counts}
@@ -12,9 +11,11 @@ use Rattle.plan_rules.specs.declared.TaskRow.{TaskRow}
 use Rattle.plan_layout.specs.Layout.{countsOf}
 use Rattle.plan_reading.specs.Plan.{Plan}
 use Rattle.plan_reading.specs.Inner.{Counted}
-use Rattle.analysis_equations.specs.Sharing.{processorOf, uses}
-use Rattle.analysis_equations.specs.HoldTimes.{holdTime}
+use Rattle.analysis_equations.specs.Sharing.{uses}
+use Rattle.analysis_equations.specs.HoldTimes.{holdTime, waitTime}
 use Rattle.analysis_equations.proofs.Laws.{asks-not, asks-some, hold-zero, hold-shared}
+use Rattle.analysis_totals.specs.Totals.{usersCell, waitCell, Totals}
+use Rattle.analysis_totals.proofs.Laws.{users-told}
 use Rattle.analysis_requirements.specs.declared.Requirement.{Requirement}
 use Rattle.analysis_requirements.specs.Figures.{requirementOf}
 use Rattle.print_lines.specs.declared.Word.{Word}
@@ -38,18 +39,22 @@ plan-counts f c h p = rw (h .processors, h .tasks, h .resources, h .sections) at
 pub line-out : (l : List ℕ) (at room : ℕ) → PutIn l l at room [] at
 line-out l at room = put-in room (put-none l at) (omega arith)
 
--- task i is one of processor k that has a hold time of q
-abbrev pub holder : Plan → ℕ → ℕ → ℕ → Bool
-holder p k q i = eqb (processorOf p i) k && not (eqb (holdAt p i q) 0)
+-- the wait time of a processor, by the totals
+pub wait-read : (p : Plan) {t : List ℕ} → Totals p t → {k q r : ℕ} → r ≡ q → k < p .processors → q < p .resources
+    → getD t (waitCell k r) 0 ≡ waitTime p k q
+wait-read p h {k} {q} e lk lq = rw e (h .wait k q lk lq)
 
 module _ (p : Plan) (v : Valid p) where
-  pub used-held : (k q : ℕ) → (global p q && usedOn p k q) ≡ anyBelow (p .tasks) (holder p k q)
-  unfolding usedOn
-  used-held k q = go (global p q) refl
-    where
-      go : (g : Bool) → global p q ≡ g → (g && anyBelow (p .tasks) (λ i. eqb (processorOf p i) k && uses p i q)) ≡ anyBelow (p .tasks) (holder p k q)
-      go true e = any-same (p .tasks) _ _ (λ i l. rw (hold-zero p v i q, e, Bool·not-not))
-      go false e = sym (any-none (p .tasks) _ (λ i l. rw (hold-zero p v i q, e, and-false)))
+  -- whether a processor uses a global resource, by the users that the totals tell
+  module _ {t : List ℕ} (h : Totals p t) {k q n : ℕ} (lk : k < mostProcessors) (lq : q < mostResources) (e : n ≡ getD t (usersCell k q) 0) where
+    told : eqb n 0 ≡ not (global p q && usedOn p k q)
+    told = rw e (users-told p v h lk lq)
+
+    pub unused : n ≡ 0 → (global p q && usedOn p k q) ≡ false
+    unused z = not-true _ (sym told ∙ eq-eqb n 0 z)
+
+    pub used : (n ≡ 0 → ⊥) → (global p q && usedOn p k q) ≡ true
+    used d = not-false _ (sym told ∙ ne-eqb n 0 d)
 
   -- a hold time that is 0, and one that is not
   module _ (i q : ℕ) {r : ℕ} (e : r ≡ holdAt p i q) where
@@ -60,11 +65,11 @@ module _ (p : Plan) (v : Valid p) where
       pub hold-some : (global p q && uses p i q) ≡ true
       hold-some = not-false _ (sym (hold-zero p v i q) ∙ ne-eqb _ 0 (λ z. n (e ∙ z)))
 
-      pub hold-global : global p q ≡ true
-      hold-global = and-parts _ (uses p i q) hold-some .0
+      pub hold-global : (global p q ≡ true) × (uses p i q ≡ true)
+      hold-global = and-parts (global p q) (uses p i q) hold-some
 
       pub hold-is : r ≡ holdTime p i q
-      hold-is = let a = and-parts (global p q) (uses p i q) hold-some in e ∙ hold-shared p i q (a .0) (a .1)
+      hold-is = e ∙ hold-shared p i q (hold-global .0) (hold-global .1)
 
 -- the requirement of task i, which has n global sections
 module _ (f : List ℕ) (i : ℕ) {n : ℕ} (c : n ≡ globalCount (planOf f) i) where

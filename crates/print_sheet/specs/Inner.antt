@@ -12,7 +12,9 @@ use Rattle.print_text.specs.Buffers.{handed, bufferWith}
 use Rattle.plan_reading.specs.Plan.{planOf}
 use Rattle.analysis_equations.specs.Requirement.{asks, met, admitted}
 use Rattle.analysis_figures.specs.Figures.{Known}
-use Rattle.analysis_requirements.specs.Terms.{Prepared}
+use Rattle.analysis_totals.specs.Totals.{Added}
+use Rattle.analysis_requirements.specs.Tables.{Prepared}
+use Rattle.print_sheet.specs.declared.Entry.{Entry}
 use Rattle.print_sheet.specs.declared.Required.{Required}
 use Rattle.print_sheet.specs.Sheet.{requirementAt, requirementLines, planSheet, mostSheet}
 
@@ -73,39 +75,39 @@ pub record Ready (f figures l : List ℕ) (at most : ℕ) : Type 0 where
   pub known : Known f figures
   pub room : at + most ≤ length l
 
--- such a plan and table, and a resource that the table has a place for
-pub record Column (f figures : List ℕ) (q : ℕ) : Type 0 where
-  pub known : Known f figures
-  pub resource : q < mostResources
-
--- the first, and one of n processors or tasks
-pub record ReadyOf (f figures l : List ℕ) (at most n i : ℕ) : Type 0 where
-  pub known : Known f figures
-  pub room : at + most ≤ length l
-  pub row : i < n
-
--- the first, and a resource of the plan
+-- and a resource of the plan
 pub record Cell (f figures l : List ℕ) (at most q : ℕ) : Type 0 where
   pub known : Known f figures
   pub room : at + most ≤ length l
   pub resource : q < planOf f .resources
 
+-- the first, with the table of totals
+pub record Summed (f figures totals l : List ℕ) (at most : ℕ) : Type 0 where
+  pub added : Added f figures totals
+  pub room : at + most ≤ length l
+
 -- that, and one of n processors or tasks
-pub record CellOf (f figures l : List ℕ) (at most n i q : ℕ) : Type 0 where
-  pub known : Known f figures
+pub record ReadyOf (f figures totals l : List ℕ) (at most n i : ℕ) : Type 0 where
+  pub added : Added f figures totals
   pub room : at + most ≤ length l
   pub row : i < n
-  pub resource : q < planOf f .resources
 
--- a checked plan with both its tables, room for a requirement, and a task of the plan
-pub record RowReady (f figures terms l : List ℕ) (at i : ℕ) : Type 0 where
-  pub prepared : Prepared f figures terms
+-- that, and a resource of the plan
+pub record EntryOf (f figures totals l : List ℕ) (at most n : ℕ) (e : Entry) : Type 0 where
+  pub added : Added f figures totals
+  pub room : at + most ≤ length l
+  pub row : e .row < n
+  pub resource : e .resource < planOf f .resources
+
+-- a checked plan with the tables of its requirements, room for one of them, and a task of the plan
+pub record RowReady (f terms sides l : List ℕ) (at i : ℕ) : Type 0 where
+  pub prepared : Prepared f terms sides
   pub room : at + requirementRoom ≤ length l
   pub task : i < planOf f .tasks
 
 -- both tables, and room for all requirements
-pub record Rows (f figures terms l : List ℕ) (at : ℕ) : Type 0 where
-  pub prepared : Prepared f figures terms
+pub record Rows (f terms sides l : List ℕ) (at : ℕ) : Type 0 where
+  pub prepared : Prepared f terms sides
   pub room : at + requirementsRoom ≤ length l
 
 -- whether a task passes: it asks for nothing, or what it asks is met

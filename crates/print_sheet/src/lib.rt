@@ -5,20 +5,18 @@ use print_lines::NONE;
 use print_lines::Word;
 use print_lines::put_line;
 use print_text::Handed;
-ghost use mathlib.Core.Bool.{_&&_};
 ghost use mathlib.Core.Path.{_≡_};
-ghost use Prim.Native.Nat.{_+_, _≤_, _<_};
+ghost use Prim.Native.Nat.{_+_, _≤_};
 ghost use lib.ListN.{length};
 ghost use Rattle.print_text.specs.Text.{PutIn};
 ghost use Rattle.plan_reading.specs.Plan.{planOf, Checked};
-ghost use Rattle.analysis_equations.specs.Sharing.{usedOn, global};
 ghost use Rattle.print_sheet.specs.Sheet.{requirementLine, admittedLine, resourceAt, budgetAt, holdLineAt};
 ghost use Rattle.print_sheet.specs.Sheet.{resourceLines, budgetLinesOf, budgetLines, holdLinesOf, holdLines, figureLines, verdictLines};
 ghost use Rattle.print_sheet.specs.Sheet.{planSheet, mostSheet, sheetLine, sheetIn};
 ghost use Rattle.print_sheet.specs.Inner.{resourceRoom, budgetRoom, holdRoom, requirementRoom, admittedRoom};
 ghost use Rattle.print_sheet.specs.Inner.{resourcesRoom, budgetsOfRoom, budgetsRoom, holdsOfRoom, holdsRoom};
 ghost use Rattle.print_sheet.specs.Inner.{figuresRoom, verdictRoom};
-ghost use Rattle.print_sheet.specs.Inner.{Ready, ReadyOf, Column, Cell, CellOf, RowReady, Rows, RowPut, RowsPut, AsideSheet};
+ghost use Rattle.print_sheet.specs.Inner.{Ready, Summed, ReadyOf, Cell, EntryOf, RowReady, Rows, RowPut, RowsPut, AsideSheet};
 
 // A buffer as long as this has room for every sheet.
 pub const SHEET: usize = 131072;
@@ -27,6 +25,12 @@ pub const SHEET: usize = 131072;
 struct Required {
     end: usize,
     all: bool,
+}
+
+// A place in the tables: a processor or a task, and a resource.
+struct Entry {
+    row: usize,
+    resource: u8,
 }
 
 // "resource NAME global" or "resource NAME local".
@@ -61,38 +65,27 @@ fn put_resources(buf: &mut [u8], at: usize, file: &[u8], figures: &[u16]) -> usi
     end
 }
 
-// Whether q is global and processor k uses it: whether one of its tasks has a hold time of q.
-fn uses(file: &[u8], figures: &[u16], k: u8, q: usize) -> bool
-    requires { ⌜ Column (now file) (now figures) q ⌝ }
-    ensures { λ r. ⌜ r ≡ (global (planOf (now (file .entry))) q && usedOn (planOf (now (file .entry))) k q) ⌝ }
+// "budget K NAME B W", where processor k uses q and q is global: where it has users of q in the totals.
+fn put_budget_at(
+    buf: &mut [u8],
+    at: usize,
+    file: &[u8],
+    figures: &[u16],
+    totals: &[u32],
+    entry: Entry,
+) -> usize
+    requires { ⌜ EntryOf (now file) (now figures) (now totals) (now buf) at budgetRoom (planOf (now file) .processors) entry ⌝ }
+    ensures { λ r. ⌜ PutIn (now (buf .entry)) (now (buf .exit)) at budgetRoom (budgetAt (now (file .entry)) (entry .row) (entry .resource)) r ⌝ }
 {
-    let counts = plan_reading::checked::counts(file);
-    let n = folds::wide(counts.tasks);
-    let mut i = 0;
-    while i < n {
-        let row = plan_reading::checked::task(file, i);
-        let hold = analysis_figures::hold_at(figures, i, q);
-        if (row.processor == k) & (hold != 0) {
-            return true;
-        }
-        i += 1;
-    }
-    false
-}
-
-// "budget K NAME B W", where processor k uses q and q is global.
-fn put_budget_at(buf: &mut [u8], at: usize, file: &[u8], figures: &[u16], k: u8, q: u8) -> usize
-    requires { ⌜ CellOf (now file) (now figures) (now buf) at budgetRoom (planOf (now file) .processors) k q ⌝ }
-    ensures { λ r. ⌜ PutIn (now (buf .entry)) (now (buf .exit)) at budgetRoom (budgetAt (now (file .entry)) k q) r ⌝ }
-{
-    let column = folds::wide(q);
-    if !uses(file, figures, k, column) {
+    let k = entry.row;
+    let q = folds::wide(entry.resource);
+    if analysis_totals::users_at(totals, k, q) == 0 {
         return at;
     }
-    let budget = analysis_figures::budget_at(figures, folds::wide(k), column);
-    let wait = analysis_figures::wait_in(file, figures, k, column);
+    let budget = analysis_figures::budget_at(figures, k, q);
+    let wait = analysis_totals::wait_at(totals, k, q);
     let core = Field::Number(k as u64);
-    let name = Field::Name(q);
+    let name = Field::Name(entry.resource);
     let most = Field::Number(budget as u64);
     let others = Field::Number(wait as u64);
     put_line(
@@ -105,49 +98,69 @@ fn put_budget_at(buf: &mut [u8], at: usize, file: &[u8], figures: &[u16], k: u8,
 }
 
 // The lines of processor k.
-fn put_budgets_of(buf: &mut [u8], at: usize, file: &[u8], figures: &[u16], k: u8) -> usize
-    requires { ⌜ ReadyOf (now file) (now figures) (now buf) at budgetsOfRoom (planOf (now file) .processors) k ⌝ }
+fn put_budgets_of(
+    buf: &mut [u8],
+    at: usize,
+    file: &[u8],
+    figures: &[u16],
+    totals: &[u32],
+    k: usize,
+) -> usize
+    requires { ⌜ ReadyOf (now file) (now figures) (now totals) (now buf) at budgetsOfRoom (planOf (now file) .processors) k ⌝ }
     ensures { λ r. ⌜ PutIn (now (buf .entry)) (now (buf .exit)) at budgetsOfRoom (budgetLinesOf (now (file .entry)) k) r ⌝ }
 {
     let counts = plan_reading::checked::counts(file);
     let mut end = at;
     let mut q = 0u8;
     while q < counts.resources {
-        end = put_budget_at(buf, end, file, figures, k, q);
+        let entry = Entry {
+            row: k,
+            resource: q,
+        };
+        end = put_budget_at(buf, end, file, figures, totals, entry);
         q += 1;
     }
     end
 }
 
 // Those of every processor.
-fn put_budgets(buf: &mut [u8], at: usize, file: &[u8], figures: &[u16]) -> usize
-    requires { ⌜ Ready (now file) (now figures) (now buf) at budgetsRoom ⌝ }
+fn put_budgets(buf: &mut [u8], at: usize, file: &[u8], figures: &[u16], totals: &[u32]) -> usize
+    requires { ⌜ Summed (now file) (now figures) (now totals) (now buf) at budgetsRoom ⌝ }
     ensures { λ r. ⌜ PutIn (now (buf .entry)) (now (buf .exit)) at budgetsRoom (budgetLines (now (file .entry))) r ⌝ }
 {
     let counts = plan_reading::checked::counts(file);
+    let n = folds::wide(counts.processors);
     let mut end = at;
-    let mut k = 0u8;
-    while k < counts.processors {
-        end = put_budgets_of(buf, end, file, figures, k);
+    let mut k = 0;
+    while k < n {
+        end = put_budgets_of(buf, end, file, figures, totals, k);
         k += 1;
     }
     end
 }
 
 // "hold TAG NAME H FELLOWS LONGEST", where task i has a section on q and q is global: where it has a hold time.
-fn put_hold_at(buf: &mut [u8], at: usize, file: &[u8], figures: &[u16], i: usize, q: u8) -> usize
-    requires { ⌜ CellOf (now file) (now figures) (now buf) at holdRoom (planOf (now file) .tasks) i q ⌝ }
-    ensures { λ r. ⌜ PutIn (now (buf .entry)) (now (buf .exit)) at holdRoom (holdLineAt (now (file .entry)) i q) r ⌝ }
+fn put_hold_at(
+    buf: &mut [u8],
+    at: usize,
+    file: &[u8],
+    figures: &[u16],
+    totals: &[u32],
+    entry: Entry,
+) -> usize
+    requires { ⌜ EntryOf (now file) (now figures) (now totals) (now buf) at holdRoom (planOf (now file) .tasks) entry ⌝ }
+    ensures { λ r. ⌜ PutIn (now (buf .entry)) (now (buf .exit)) at holdRoom (holdLineAt (now (file .entry)) (entry .row) (entry .resource)) r ⌝ }
 {
-    let column = folds::wide(q);
-    let hold = analysis_figures::hold_at(figures, i, column);
+    let i = entry.row;
+    let q = folds::wide(entry.resource);
+    let hold = analysis_figures::hold_at(figures, i, q);
     if hold == 0 {
         return at;
     }
     let task = plan_reading::checked::task(file, i);
-    let longest = analysis_waits::longest_of(file, figures, i, column);
+    let longest = analysis_waits::longest_of(file, figures, totals, i, q);
     let tag = Field::Number(task.tag as u64);
-    let name = Field::Name(q);
+    let name = Field::Name(entry.resource);
     let own = Field::Number(hold as u64);
     let fellows = Field::Number(longest.fellows as u64);
     let most = Field::Number(longest.wait as u64);
@@ -161,23 +174,34 @@ fn put_hold_at(buf: &mut [u8], at: usize, file: &[u8], figures: &[u16], i: usize
 }
 
 // The lines of task i.
-fn put_holds_of(buf: &mut [u8], at: usize, file: &[u8], figures: &[u16], i: usize) -> usize
-    requires { ⌜ ReadyOf (now file) (now figures) (now buf) at holdsOfRoom (planOf (now file) .tasks) i ⌝ }
+fn put_holds_of(
+    buf: &mut [u8],
+    at: usize,
+    file: &[u8],
+    figures: &[u16],
+    totals: &[u32],
+    i: usize,
+) -> usize
+    requires { ⌜ ReadyOf (now file) (now figures) (now totals) (now buf) at holdsOfRoom (planOf (now file) .tasks) i ⌝ }
     ensures { λ r. ⌜ PutIn (now (buf .entry)) (now (buf .exit)) at holdsOfRoom (holdLinesOf (now (file .entry)) i) r ⌝ }
 {
     let counts = plan_reading::checked::counts(file);
     let mut end = at;
     let mut q = 0u8;
     while q < counts.resources {
-        end = put_hold_at(buf, end, file, figures, i, q);
+        let entry = Entry {
+            row: i,
+            resource: q,
+        };
+        end = put_hold_at(buf, end, file, figures, totals, entry);
         q += 1;
     }
     end
 }
 
 // Those of every task.
-fn put_holds(buf: &mut [u8], at: usize, file: &[u8], figures: &[u16]) -> usize
-    requires { ⌜ Ready (now file) (now figures) (now buf) at holdsRoom ⌝ }
+fn put_holds(buf: &mut [u8], at: usize, file: &[u8], figures: &[u16], totals: &[u32]) -> usize
+    requires { ⌜ Summed (now file) (now figures) (now totals) (now buf) at holdsRoom ⌝ }
     ensures { λ r. ⌜ PutIn (now (buf .entry)) (now (buf .exit)) at holdsRoom (holdLines (now (file .entry))) r ⌝ }
 {
     let counts = plan_reading::checked::counts(file);
@@ -185,19 +209,19 @@ fn put_holds(buf: &mut [u8], at: usize, file: &[u8], figures: &[u16]) -> usize
     let mut end = at;
     let mut i = 0;
     while i < n {
-        end = put_holds_of(buf, end, file, figures, i);
+        end = put_holds_of(buf, end, file, figures, totals, i);
         i += 1;
     }
     end
 }
 
 // Those and these.
-fn put_figures(buf: &mut [u8], at: usize, file: &[u8], figures: &[u16]) -> usize
-    requires { ⌜ Ready (now file) (now figures) (now buf) at figuresRoom ⌝ }
+fn put_figures(buf: &mut [u8], at: usize, file: &[u8], figures: &[u16], totals: &[u32]) -> usize
+    requires { ⌜ Summed (now file) (now figures) (now totals) (now buf) at figuresRoom ⌝ }
     ensures { λ r. ⌜ PutIn (now (buf .entry)) (now (buf .exit)) at figuresRoom (figureLines (now (file .entry))) r ⌝ }
 {
-    let a = put_budgets(buf, at, file, figures);
-    put_holds(buf, a, file, figures)
+    let a = put_budgets(buf, at, file, figures, totals);
+    put_holds(buf, a, file, figures, totals)
 }
 
 // "requirement TAG B1 B2 TOLERANCE SLACK SIDE met", or "unmet".
@@ -226,17 +250,17 @@ fn put_requirement_at(
     buf: &mut [u8],
     at: usize,
     file: &[u8],
-    figures: &[u16],
     terms: &[u16],
+    sides: &[u64],
     i: usize,
 ) -> Required
-    requires { ⌜ RowReady (now file) (now figures) (now terms) (now buf) at i ⌝ }
+    requires { ⌜ RowReady (now file) (now terms) (now sides) (now buf) at i ⌝ }
     ensures { λ r. ⌜ RowPut (now (file .entry)) i (now (buf .entry)) (now (buf .exit)) at r ⌝ }
 {
-    if analysis_requirements::count_at(terms, i) == 0 {
+    if analysis_terms::count_at(terms, i) == 0 {
         return Required { end: at, all: true };
     }
-    let found = analysis_requirements::requirement_of(file, figures, terms, i);
+    let found = analysis_requirements::requirement_of(file, terms, sides, i);
     let task = plan_reading::checked::task(file, i);
     let end = put_requirement(buf, at, task.tag, found);
     Required {
@@ -250,10 +274,10 @@ fn put_requirements(
     buf: &mut [u8],
     at: usize,
     file: &[u8],
-    figures: &[u16],
     terms: &[u16],
+    sides: &[u64],
 ) -> Required
-    requires { ⌜ Rows (now file) (now figures) (now terms) (now buf) at ⌝ }
+    requires { ⌜ Rows (now file) (now terms) (now sides) (now buf) at ⌝ }
     ensures { λ r. ⌜ RowsPut (now (file .entry)) (now (buf .entry)) (now (buf .exit)) at r ⌝ }
 {
     let counts = plan_reading::checked::counts(file);
@@ -262,7 +286,7 @@ fn put_requirements(
     let mut all = true;
     let mut i = 0;
     while i < n {
-        let one = put_requirement_at(buf, end, file, figures, terms, i);
+        let one = put_requirement_at(buf, end, file, terms, sides, i);
         end = one.end;
         all = all & one.all;
         i += 1;
@@ -286,25 +310,27 @@ fn put_admitted(buf: &mut [u8], at: usize, yes: bool) -> usize
 }
 
 // The requirements and whether the plan is admitted.
-fn put_verdict(buf: &mut [u8], at: usize, file: &[u8], figures: &[u16]) -> usize
-    requires { ⌜ Ready (now file) (now figures) (now buf) at verdictRoom ⌝ }
+fn put_verdict(buf: &mut [u8], at: usize, file: &[u8], figures: &[u16], totals: &[u32]) -> usize
+    requires { ⌜ Summed (now file) (now figures) (now totals) (now buf) at verdictRoom ⌝ }
     ensures { λ r. ⌜ PutIn (now (buf .entry)) (now (buf .exit)) at verdictRoom (verdictLines (now (file .entry))) r ⌝ }
 {
-    let mut terms = [0u16; analysis_requirements::TERMS];
-    analysis_requirements::fill_terms(file, figures, &mut terms);
-    let required = put_requirements(buf, at, file, figures, &terms);
+    let mut terms = [0u16; analysis_terms::TERMS];
+    analysis_terms::fill_terms(file, figures, &mut terms);
+    let mut sides = [0u64; analysis_sides::SIDES];
+    analysis_sides::fill_sides(file, figures, totals, &mut sides);
+    let required = put_requirements(buf, at, file, &terms, &sides);
     put_admitted(buf, required.end, required.all)
 }
 
-// The sheet of a checked plan, from the table of its figures.
-fn put_parts(buf: &mut [u8], file: &[u8], figures: &[u16]) -> usize
-    requires { ⌜ Ready (now file) (now figures) (now buf) 0 mostSheet ⌝ }
+// The sheet of a checked plan, from the tables of its figures and totals.
+fn put_parts(buf: &mut [u8], file: &[u8], figures: &[u16], totals: &[u32]) -> usize
+    requires { ⌜ Summed (now file) (now figures) (now totals) (now buf) 0 mostSheet ⌝ }
     ensures { λ r. ⌜ PutIn (now (buf .entry)) (now (buf .exit)) 0 mostSheet (planSheet (now (file .entry))) r ⌝ }
 {
     let a = print_lines::put_plan(buf, 0, plan_reading::checked::counts(file));
     let b = put_resources(buf, a, file, figures);
-    let c = put_figures(buf, b, file, figures);
-    put_verdict(buf, c, file, figures)
+    let c = put_figures(buf, b, file, figures, totals);
+    put_verdict(buf, c, file, figures, totals)
 }
 
 // The sheet of a checked plan.
@@ -314,7 +340,9 @@ fn put_plan_sheet(buf: &mut [u8], file: &[u8]) -> usize
 {
     let mut figures = [0u16; analysis_figures::FIGURES];
     analysis_hold_times::fill_figures(file, &mut figures);
-    put_parts(buf, file, &figures)
+    let mut totals = [0u32; analysis_totals::TOTALS];
+    analysis_totals::fill_totals(file, &figures, &mut totals);
+    put_parts(buf, file, &figures, &totals)
 }
 
 // The sheet of a checked plan by way of a buffer of its own, for a lent one that may be too short for it.

@@ -6,17 +6,17 @@ use Rattle.folds.proofs.Tests.{all-more, all-left, all-done, held, failed}
 use Rattle.analysis.proofs.all_pass.Statement.{statement}
 use Rattle.analysis.proofs.all_pass.Tie as tie
 
-record Turn (f figures t : List ℕ) (n i : ℕ) : Type 0 where
+record Turn (f t sides : List ℕ) (n i : ℕ) : Type 0 where
   within : i ≤ n
   all : n ≡ planOf f .tasks
-  prepared : Prepared f figures t
+  prepared : Prepared f t sides
   told : allBelow i (λ j. not (asks (planOf f) j) || met (planOf f) j) ≡ true
 
 abbrev Inv-loop : tie.InvT-loop
-Inv-loop file figures terms n i₀ i = Turn file figures terms n i
+Inv-loop file terms sides n i₀ i = Turn file terms sides n i
 
 abbrev μ-loop : tie.MeasureT-loop
-μ-loop file figures terms n i₀ i = n - i
+μ-loop file terms sides n i₀ i = n - i
 
 loop-holds : tie.Need-loop-holds Inv-loop μ-loop
 unfolding allBelow

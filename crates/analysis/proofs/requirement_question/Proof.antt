@@ -6,13 +6,13 @@ use Rattle.analysis.proofs.requirement_question.Tie as tie
 
 -- ── where the tables are filled ──
 abbrev Filled : Type 0
-Filled = tie.After-fill-terms
+Filled = tie.After-prepare
 
-abbrev figures : Filled → tie.After-fill-figures
-figures c = c .before .before .before .before
+abbrev known : Filled → tie.Else1
+known c = c .before .before .before
 
 abbrev found : Filled → tie.After-task-number
-found c = figures c .before .before .before .before
+found c = known c .before .before
 
 abbrev plan : Filled → Plan
 plan c = planOf (found c .before .before .before .args .file .now)
@@ -22,10 +22,10 @@ below c = omega arith
 
 -- ── and the task's global sections are counted ──
 abbrev filled : tie.After-count-at → Filled
-filled c = c .before .before .before
+filled c = c .before .before .before .before
 
 counted : (c : tie.After-count-at) → c .count-at .result ≡ globalCount (plan (filled c)) (found (filled c) .task-number .result)
-counted c = count-told (filled c .fill-terms .ensures) (below (filled c)) (c .count-at .ensures)
+counted c = count-told (filled c .prepare .ensures) (below (filled c)) (c .count-at .ensures)
 
 returns-2 : tie.Need-returns-2
 returns-2 c =
@@ -44,8 +44,7 @@ requirement-question-spec =
     tie.close
     (tie.spec
     (λ c κs. search needs) (λ c κs. search needs) (λ c κs. search needs)
-    (λ c. requirement-refused _ (no-task-asked _ _ (omega arith)) (λ e. omega arith)) (λ c. search needs) (λ c κs. search needs)
-    (λ c. search needs) (λ c. search needs) (λ c κs. search needs) (λ c. search needs)
-    (λ c κs. let t = c .before .before in (t .fill-terms .ensures .terms .long, task-low (t .fill-terms .ensures) (below t)))
-    returns-2 (λ c. search needs) (λ c. search needs)
-    (λ c κs. let t = filled (c .before .before .before) in (t .fill-terms .ensures, below t)) returns-3)
+    (λ c. requirement-refused _ (no-task-asked _ _ (omega arith)) (λ e. omega arith)) (λ c. search needs) (λ c. search needs) (λ c κs. search needs)
+    (λ c. search needs)
+    (λ c κs. let t = c .before .before .before in (t .prepare .ensures .terms .long, task-low (t .prepare .ensures) (below t)))
+    returns-2 (λ c. search needs) (λ c. search needs) (λ c κs. search needs) returns-3)

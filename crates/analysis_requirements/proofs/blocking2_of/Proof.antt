@@ -1,13 +1,13 @@
 -- The invariant: the sum over the tasks below `j`, each term in its range.
 use Rattle.analysis_requirements.proofs.Ground.{ℕ, _*_, _≤_, _-_, _≡_, refl, _∙_, List, arith, needs, sumBelow, sum-step, sum-done}
-use Rattle.analysis_requirements.proofs.Ground.{mostTasks, planOf, valid-plan, blocking2, mostBlocking1, countCell}
+use Rattle.analysis_requirements.proofs.Ground.{planOf, blocking2, mostBlocking1, countCell}
 use Rattle.analysis_requirements.proofs.Blocking.{term, Term, Over, over, term-is}
 use Rattle.analysis_requirements.proofs.blocking2_of.Statement.{statement}
 use Rattle.analysis_requirements.proofs.blocking2_of.Tie as tie
 
 record Turn (f t : List ℕ) (i n j sum : ℕ) : Type 0 where
   within : j ≤ n
-  over : Over f t i n (planOf f .tasks) mostTasks
+  over : Over f t i n
   low : sum ≤ j * mostBlocking1
   told : sum ≡ sumBelow j (term (planOf f) i)
 
@@ -26,7 +26,7 @@ loop-holds c =
     let w = c .before .before in
     let h = start w .pre in
     let e = w .wide .ensures .same ∙ w .before .counts .ensures .tasks in
-    record { within = omega arith; over = over h e (valid-plan _ (h .plan) .tasks); low = omega arith; told = refl }
+    record { within = omega arith; over = over h e; low = omega arith; told = refl }
 
 -- ── a term, and that it is small ──
 abbrev Here : Type 0

@@ -1,7 +1,7 @@
 -- The tolerance and the slack are read back from their bits.
 use mir.Facts.{toZ-ofZ}
 use Rattle.analysis_requirements.proofs.Ground.{needs, back}
-use Rattle.analysis_requirements.proofs.Sides.{comparison-told}
+use Rattle.analysis_requirements.proofs.Together.{comparison-told}
 use Rattle.analysis_requirements.proofs.compared.Statement.{statement}
 use Rattle.analysis_requirements.proofs.compared.Tie as tie
 

@@ -1,5 +1,5 @@
 -- The invariant: the tasks below j that are above task i are counted and packed.
-use Rattle.analysis_requirements.proofs.Ground.{ℕ, _≤_, _-_, sym, ap, _∙_, List, ⊎-elim, arith, needs, mostTasks, TaskRow, planOf}
+use Rattle.analysis_requirements.proofs.Ground.{ℕ, _≤_, _-_, sym, ap, _∙_, List, ⊎-elim, arith, needs, TaskRow, planOf}
 use Rattle.analysis_requirements.proofs.Ground.{valid-plan, HigherTasks}
 use Rattle.analysis_requirements.proofs.Precedences.{table-above}
 use Rattle.analysis_requirements.proofs.Blocking.{Over, over}
@@ -9,7 +9,7 @@ use Rattle.analysis_requirements.proofs.higher_tasks.Tie as tie
 
 record Turn (f t : List ℕ) (i n j m : ℕ) (periods times : List ℕ) : Type 0 where
   within : j ≤ n
-  over : Over f t i n (planOf f .tasks) mostTasks
+  over : Over f t i n
   packed : HigherTasks (planOf f) i j m periods times
 
 abbrev Inv-loop : tie.InvT-loop
@@ -26,7 +26,7 @@ loop-holds c =
     let w = c .before in
     let h = start w .pre in
     let e = w .wide .ensures .same ∙ w .before .counts .ensures .tasks in
-    record { within = omega arith; over = over h e (valid-plan _ (h .plan) .tasks); packed = higher-none _ _ }
+    record { within = omega arith; over = over h e; packed = higher-none _ _ }
 
 loop-again : tie.Need-loop-again Inv-loop μ-loop
 loop-again c =

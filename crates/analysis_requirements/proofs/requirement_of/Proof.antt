@@ -1,8 +1,8 @@
 -- Each figure comes from its call; the tolerance is read back from its bits.
-use Rattle.analysis_requirements.proofs.Ground.{_∙_, arith, needs, valid-plan, TaskTerms, back}
+use Rattle.analysis_requirements.proofs.Ground.{_∙_, arith, valid-plan, TaskTerms, back}
 use Rattle.analysis_equations.proofs.Laws.{tolerance-mag}
 use Rattle.analysis_requirements.proofs.Blocking.{task-terms}
-use Rattle.analysis_requirements.proofs.Sides.{requirement-told}
+use Rattle.analysis_requirements.proofs.Together.{requirement-told}
 use Rattle.analysis_requirements.proofs.requirement_of.Statement.{statement}
 use Rattle.analysis_requirements.proofs.requirement_of.Tie as tie
 
@@ -20,15 +20,17 @@ compared-requires c κs =
 
 returns : tie.Need-returns
 returns c =
-    let s = c .before in
-    let z = s .before .tolerance-of in
-    let b = s .before .before in
+    let z = c .before .before .tolerance-of in
+    let b = c .before .before .before in
+    let s = start (b .before) in
     requirement-told _ _ (c .compared .ensures) (b .before .blocking1-of .ensures) (b .blocking2-of .ensures) (back _ (z .ok) ∙ z .ensures)
-    (s .waiting-side .ensures)
+    (s .pre .0 .sides .side _ (asked s .low))
 
 pub requirement-of-spec : {M : Type 1} → statement M
 requirement-of-spec =
     tie.close
     (tie.spec
-    (λ c κs. asked (c .before .before .before)) (λ c κs. asked (start c)) (λ c κs. asked (start (c .before))) (λ c κs. search needs)
+    (λ c κs. asked (c .before .before .before)) (λ c κs. asked (start c)) (λ c κs. asked (start (c .before)))
+    (λ c. let h = asked (start (c .before .before)) in omega arith)
+    (λ c. let s = start (c .before .before .before) in let h = asked s in omega (arith, s .pre .0 .sides .long))
     compared-requires returns)

@@ -1,46 +1,58 @@
--- There is a line where the processor uses the resource; budget and wait time are those of the table.
-use Rattle.print_sheet.proofs.Ground.{_<_, _&&_, _≡_, _∙_, arith, needs, mostProcessors, mostResources, put-wider, planOf}
-use Rattle.print_sheet.proofs.Ground.{valid-plan, usedOn, global, budgetRoom}
-use Rattle.folds.proofs.Tests.{held, failed}
+-- There is a line where the processor has users of the resource; budget and wait time are those of the tables.
+use Rattle.print_sheet.proofs.Ground.{_<_, _∙_, arith, needs, mostProcessors, mostResources, put-wider, planOf, Valid}
+use Rattle.print_sheet.proofs.Ground.{valid-plan, budgetRoom}
+use Rattle.folds.proofs.Ground.{refl}
 use Rattle.analysis_figures.proofs.Cells.{budget-of}
-use Rattle.print_sheet.proofs.Laws.{line-out}
+use Rattle.analysis_totals.specs.Totals.{Share}
+use Rattle.print_sheet.proofs.Laws.{line-out, unused, used, wait-read}
 use Rattle.print_sheet.proofs.put_budget_at.Statement.{statement}
 use Rattle.print_sheet.proofs.put_budget_at.Tie as tie
 
 abbrev start : tie.After-wide → tie.Start
-start w = w .before .before .before .before
+start w = let known = w .before in known .before .before .before .before
 
-abbrev column : tie.After-wide2 → tie.After-wide
-column c = c .before .before .before
+valid : (a : tie.Start) → Valid (planOf (a .args .file .now))
+valid a = valid-plan _ (a .pre .added .known .plan)
 
-low : (a : tie.Start) → (a .args .k < mostProcessors) × (a .args .q < mostResources)
-low a = let v = valid-plan _ (a .pre .known .plan) in (omega arith, omega arith)
+low : (a : tie.Start) → (a .args .entry .row < mostProcessors) × (a .args .entry .resource < mostResources)
+low a = let v = valid a in let h = a .pre in (omega arith, omega arith)
 
--- whether there is a line
-told : (u : tie.After-uses) → let a = start (u .before) .args in let p = planOf (a .file .now) in
-    u .uses .result ≡ (global p (a .q) && usedOn p (a .k) (a .q))
-told u = rw (u .before .wide .ensures .same) at (u .uses .ensures)
+-- the entry is one of the totals
+share : (w : tie.After-wide) → let a = start w .args in Share (a .totals .now) (a .entry .row) (w .wide .result)
+share w =
+    let a = start w in
+    let l = low a in
+    record { long = a .pre .added .totals .sums .long; processor = l .0; resource = rw (w .wide .ensures .same) (l .1) }
+
+returns : tie.Need-returns
+returns c =
+    let w = c .before .before in
+    let a = start w in
+    let l = low a in
+    let q = w .wide .ensures .same in
+    rw (unused _ (valid a) (a .pre .added .totals) (l .0) (l .1) (rw q at (c .before .users-at .ensures)) (c .if1 .taken)) (line-out _ _ _)
 
 returns-2 : tie.Need-returns-2
 returns-2 c =
     let p = c .before .before in
     let m = p .before .before .before in
     let b = m .before in
-    let w = column (b .before) in
+    let i = b .before in
+    let w = i .before .before in
     let a = start w in
     let l = low a in
     let q = w .wide .ensures .same in
-    let budget = b .budget-at .ensures ∙ budget-of _ _ (a .pre .known .figures) (b .before .wide2 .ensures .same) q (l .0) (l .1) in
+    let budget = b .budget-at .ensures ∙ budget-of _ _ (a .pre .added .known .figures) refl q (l .0) (l .1) in
+    let wait = m .wait-at .ensures ∙ wait-read _ (a .pre .added .totals) q (a .pre .row) (a .pre .resource) in
     let line = put-wider budgetRoom (p .put-line .ensures) (omega arith) in
-    let i = b .before .before in
-    rw (held (told (i .before)) (i .if1 .left)) (rw (budget, rw q at (m .wait-in .ensures .0)) at line)
+    rw (used _ (valid a) (a .pre .added .totals) (l .0) (l .1) (rw q at (i .before .users-at .ensures)) (i .if1 .left)) (rw (budget, wait) at line)
 
 pub put-budget-at-spec : {M : Type 1} → statement M
 put-budget-at-spec =
     tie.close
     (tie.spec
-    (λ c κs. search needs) (λ c κs. let l = low (start c) in search needs)
-    (λ c. rw (failed (told (c .before)) (c .if1 .taken)) (line-out _ _ _))
-    (λ c κs. search needs) (λ c κs. let l = low (start (column c)) in search needs)
-    (λ c κs. let a = start (column (c .before)) in let l = low a in search needs)
+    (λ c κs. search needs) (λ c κs. share c) returns
+    (λ c κs. let w = c .before .before in let s = share w in
+    record { long = start w .pre .added .known .figures .long; row = s .processor; resource = s .resource })
+    (λ c κs. let i = c .before in share (i .before .before))
     (λ c. search needs) (λ c. search needs) (λ c. search needs) (λ c κs. search needs) (λ c. search needs) returns-2)

@@ -7,29 +7,30 @@ use Rattle.print_sheet.proofs.put_hold_at.Statement.{statement}
 use Rattle.print_sheet.proofs.put_hold_at.Tie as tie
 
 abbrev start : tie.After-wide → tie.Start
-start w = w .before .before .before .before
+start w = let known = w .before in known .before .before .before .before
 
 valid : (a : tie.Start) → Valid (planOf (a .args .file .now))
-valid a = valid-plan _ (a .pre .known .plan)
+valid a = valid-plan _ (a .pre .added .known .plan)
 
-low : (a : tie.Start) → (a .args .i < mostTasks) × (a .args .q < mostResources)
-low a = let v = valid a in (omega arith, omega arith)
+low : (a : tie.Start) → (a .args .entry .row < mostTasks) × (a .args .entry .resource < mostResources)
+low a = let v = valid a in let h = a .pre in (omega arith, omega arith)
 
 -- what the table says
-told : (h : tie.After-hold-at) → let a = start (h .before) .args in h .hold-at .result ≡ holdAt (planOf (a .file .now)) (a .i) (a .q)
+told : (h : tie.After-hold-at) → let a = start (h .before) .args in
+    h .hold-at .result ≡ holdAt (planOf (a .file .now)) (a .entry .row) (a .entry .resource)
 told h =
     let a = start (h .before) in
     let l = low a in
-    h .hold-at .ensures ∙ hold-of _ _ (a .pre .known .figures) (h .before .wide .ensures .same) (l .0) (l .1)
+    h .hold-at .ensures ∙ hold-of _ _ (a .pre .added .known .figures) (h .before .wide .ensures .same) (l .0) (l .1)
 
 longest-of-requires : tie.Need-longest-of-requires
 longest-of-requires c κs =
     let i = c .before in
     let w = i .before .before in
     let a = start w in
-    let l = low a in
     let g = hold-global _ (valid a) _ _ (told (i .before)) (i .if1 .left) in
-    record { known = a .pre .known; task = a .pre .row; resource = omega (arith, l .1); shared = rw (w .wide .ensures .same) g }
+    let q = w .wide .ensures .same in
+    record { added = a .pre .added; task = a .pre .row; used = rw q (g .1); shared = rw q (g .0) }
 
 returns-2 : tie.Need-returns-2
 returns-2 c =
@@ -50,10 +51,11 @@ put-hold-at-spec =
     tie.close
     (tie.spec
     (λ c κs. search needs)
-    (λ c κs. let l = low (start c) in search needs)
+    (λ c κs. let a = start c in let l = low a in
+    record { long = a .pre .added .known .figures .long; row = l .0; resource = rw (c .wide .ensures .same) (l .1) })
     (λ c. rw (hold-none _ (valid (start (c .before .before))) _ _ (told (c .before)) (c .if1 .taken)) (line-out _ _ _))
     (λ c κs. search needs) longest-of-requires (λ c. search needs) (λ c. search needs) (λ c. search needs) (λ c. search needs)
     (λ c. search needs)
     (λ c κs. let s = c .before .before .before in let i = s .before .before .before .before in let h = start (i .before .before) .pre in
-    ((record { plan = h .known .plan; below = h .resource }, tt), omega (arith, h .room)))
+    ((record { plan = h .added .known .plan; below = h .resource }, tt), omega (arith, h .room)))
     (λ c. search needs) returns-2)

@@ -8,7 +8,7 @@ abbrev start : tie.After-shared-slice-known3 → tie.Start
 start s = s .before .before .before .before
 
 low : (a : tie.Start) → a .args .i < mostTasks
-low a = let v = valid-plan _ (a .pre .prepared .known .plan) in omega arith
+low a = let v = valid-plan _ (a .pre .prepared .plan) in omega arith
 
 -- what the table says
 told : (n : tie.After-count-at) → let a = start (n .before) .args in n .count-at .result ≡ globalCount (planOf (a .file .now)) (a .i)

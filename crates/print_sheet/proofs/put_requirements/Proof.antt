@@ -13,17 +13,17 @@ record AllPut (f before now : List ℕ) (at end : ℕ) (ok : Bool) (i : ℕ) : T
   all : ok ≡ allBelow i (passes f)
 
 abbrev Inv-loop : tie.InvT-loop
-Inv-loop buf₀ at file figures terms n end₀ all₀ i₀ buf end all i = AllPut file buf₀ buf at end all i
+Inv-loop buf₀ at file terms sides n end₀ all₀ i₀ buf end all i = AllPut file buf₀ buf at end all i
 
 abbrev μ-loop : tie.MeasureT-loop
-μ-loop buf₀ at file figures terms n end₀ all₀ i₀ buf end all i = n - i
+μ-loop buf₀ at file terms sides n end₀ all₀ i₀ buf end all i = n - i
 
 loop-holds : tie.Need-loop-holds Inv-loop μ-loop
 unfolding allBelow
 loop-holds c =
     let s = c .before .before .before in
     let h = s .before .before .before .pre in
-    record { put = turns-none (valid-plan _ (h .prepared .known .plan) .tasks) (h .room); all = refl }
+    record { put = turns-none (valid-plan _ (h .prepared .plan) .tasks) (h .room); all = refl }
 
 loop-again : tie.Need-loop-again Inv-loop μ-loop
 loop-again c =

@@ -1,0 +1,4 @@
+pub mod Ground
+pub mod Precedences
+pub mod Terms
+pub mod Raising

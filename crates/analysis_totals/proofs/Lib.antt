@@ -1,0 +1,5 @@
+pub mod Ground
+pub mod Adding
+pub mod Sums
+pub mod Waits
+pub mod Laws
