@@ -76,6 +76,13 @@ toSix = toThree ++ (Request 11 0 ∷ Release 12 0 ∷ Request 1 0 ∷ Tick ∷ R
 abbrev pub toEleven : List Call
 toEleven = toSix ++ (Tick ∷ Request 13 0 ∷ Tick ∷ Tick ∷ Tick ∷ Tick ∷ [])
 
+-- a plan for the waiting side: the first task has two sections on the resource, its fellows hold it for 6 and 4 ticks; the only user of
+-- another processor holds it for 5
+abbrev pub twice : Plan
+twice =
+    planWith 2 1 (taskRow 0 1 3 90 10 ∷ taskRow 0 2 2 900 10 ∷ taskRow 0 3 1 900 10 ∷ taskRow 1 4 1 900 10 ∷ [])
+    (sectionRow 0 0 3 ∷ sectionRow 1 0 6 ∷ sectionRow 0 0 2 ∷ sectionRow 2 0 4 ∷ sectionRow 3 0 5 ∷ [])
+
 -- a plan for C5: two tasks of one processor with hold time 3, which is its budget; one of another
 abbrev pub equal : Plan
 equal =

@@ -1,5 +1,5 @@
 -- The table of examples that document 01 wants proved of the definitions: C1 to C6 and the listing's seven calls; that the longest
--- wait is reached; and what give-ups do.
+-- wait is reached; and, of document 02, what give-ups do and what the waiting side counts.
 use Prim.Native.Nat.{ℕ, _+_, _*_}
 use mathlib.Core.Bool.{Bool, true, false, _&&_, cond}
 use mathlib.Core.List.{List, [], _∷_, _++_}
@@ -17,7 +17,7 @@ use Rattle.machine_rules.specs.declared.Answer.the-variants.{Granted, Waits, Ne
 use Rattle.machine_rules.specs.Machine.{View, fresh, step, answer, answerOutcome, run}
 use Rattle.machine_rules.specs.Longest.{longestWait}
 use Rattle.plan_reading.specs.Plan.{Plan}
-use Rattle.examples.specs.Paper.{paper, toThree, toEleven, equal, toLast, toSecond, bus, seven}
+use Rattle.examples.specs.Paper.{paper, toThree, toEleven, twice, equal, toLast, toSecond, bus, seven}
 
 -- a row: what the definitions give, and what document 01 says, both as integers
 pub record Row : Type 0 where
@@ -146,6 +146,14 @@ c6 rest =
     ∷ isTest (met (paper 92) 6) false
     ∷ rest
 
+-- Document 02 §2 where C6 cannot tell: of two sections on one resource each has its wait and its fellows' hold times, twice
+-- (4 + 1) × 5 + 10; the only user on its core has one wait time, 6, where Equation 6 as printed has 0
+unfoldable pub sides : List Row → List Row
+sides rest =
+    isNumber (waitingSide twice 0) (2 * (5 * 5 + 10))
+    ∷ isNumber (waitingSide twice 3) 6
+    ∷ rest
+
 -- The longest wait is reached. The paper's third task of P2 has two fellows on R1, with hold times 3 and 4, and P2's wait time is 10:
 -- 3 + 4 + 3 × 10. It is told just that where both are ahead of it. In the plan of C5 the second task is told 3 + 2 × 2, and is
 -- granted by the tick that fills it, not before
@@ -183,4 +191,4 @@ listing rest =
 
 -- the whole table
 abbrev pub table : List Row
-table = c1 (c2 (c3 (c4 (c5 (c6 (longest (giveUps (listing []))))))))
+table = c1 (c2 (c3 (c4 (c5 (c6 (sides (longest (giveUps (listing [])))))))))
