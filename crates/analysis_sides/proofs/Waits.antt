@@ -11,7 +11,7 @@ use Rattle.analysis_equations.specs.Blocking.{ceilDiv, fellowHolds, sectionWait
 use Rattle.analysis_equations.specs.Bounds.{mostBudget, mostWait, mostFellowHolds, mostTurns}
 use Rattle.analysis_equations.proofs.Laws.{ceil-bound, used-at, hold-zero, budget-low, budget-high, wait-high, fellow-high, section-wait-high}
 use Rattle.analysis_figures.specs.Figures.{holdCell, budgetCell}
-use Rattle.analysis_totals.specs.Totals.{User}
+use Rattle.analysis_totals.specs.Totals.{SharingTask}
 use Rattle.analysis_sides.specs.Inner.{SectionOf, WaitTold}
 
 -- what the code's steps need of the budget b, the wait time w and the fellows' hold times h
@@ -48,10 +48,10 @@ module _ {f figures totals : List ℕ} {i q : ℕ} (a : SectionOf f figures tota
     pub wait-none : hold ≡ 0 → WaitTold plan i q 0
     wait-none z = record { told = rw (not-true (global plan q) (sym test ∙ eq-eqb hold 0 z)); high = omega arith }
 
-    pub user : (hold ≡ 0 → ⊥) → User f figures totals i q
+    pub user : (hold ≡ 0 → ⊥) → SharingTask f figures totals i q
     user d = record { added = a .added; task = a .task; used = a .used; shared = not-false (global plan q) (sym test ∙ ne-eqb hold 0 d) }
 
-  module _ (u : User f figures totals i q) {k : ℕ} {row : TaskRow} (er : row ≡ plan .task i) (ek : k ≡ row .processor) where
+  module _ (u : SharingTask f figures totals i q) {k : ℕ} {row : TaskRow} (er : row ≡ plan .task i) (ek : k ≡ row .processor) where
     pub processor-is : k ≡ processorOf plan i
     processor-is = ek ∙ rw er
 

@@ -16,4 +16,4 @@ unfoldable pub use Rattle.analysis_equations.specs.Sharing.{global}
 unfoldable pub use Rattle.analysis_equations.specs.Blocking.{ceiling, globalCount, longestGlobal, longestLocal}
 pub use Rattle.analysis_terms.specs.Terms.{TermTable, blockedCell, ceilingCell, countCell, longestCell, precedenceCell, precedenceOf}
 pub use Rattle.analysis_terms.specs.Terms.{sharedCell, termCount}
-pub use Rattle.analysis_terms.specs.Inner.{Filling, Raised, Sectioned, TermsBelow, between}
+pub use Rattle.analysis_terms.specs.Inner.{Filling, TasksRaised, Sectioned, TermsBelow, between}

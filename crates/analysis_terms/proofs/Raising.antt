@@ -4,7 +4,7 @@ use Rattle.analysis_terms.proofs.Ground.{sym, _∙_, List, eqb, ltb, le
 use Rattle.analysis_terms.proofs.Ground.{max-step, mostTasks, mostResources, SectionRow, Plan, Valid}
 use Rattle.analysis_terms.proofs.Ground.{priorityOf, processorOf, lower, global, ceiling, longestLocal, longestGlobal}
 use Rattle.analysis_terms.proofs.Ground.{globalCount, precedenceCell, ceilingCell, sharedCell, blockedCell, termCount}
-use Rattle.analysis_terms.proofs.Ground.{longestCell, countCell, precedenceOf, TermTable, TermsBelow, Raised, between}
+use Rattle.analysis_terms.proofs.Ground.{longestCell, countCell, precedenceOf, TermTable, TermsBelow, TasksRaised, between}
 use lib.Dec.{leb}
 use Rattle.folds.proofs.Ground.{le-leb, leb-true, eqb-true}
 use Rattle.folds.proofs.Tests.{and-parts, same-test}
@@ -16,13 +16,13 @@ use Rattle.analysis_terms.proofs.Terms.{Cells, flag-off, flag-on}
 
 -- ── the loop over the tasks ──
 
-pub raised-none : (a b x : ℕ) (t : List ℕ) → Raised a b x 0 t t
+pub raised-none : (a b x : ℕ) (t : List ℕ) → TasksRaised a b x 0 t t
 raised-none a b x t =
     record { long = refl; kept = λ y l. refl; raised = λ i l. let bad : ⊥ = omega arith in absurd bad; rest = λ i l m. refl }
 
-pub raised-more : {a b x n v y : ℕ} {old t : List ℕ} → Raised a b x n old t → length old ≡ termCount → n < mostTasks
+pub raised-more : {a b x n v y : ℕ} {old t : List ℕ} → TasksRaised a b x n old t → length old ≡ termCount → n < mostTasks
     → y ≡ cond (between a b (getD t (precedenceCell n) 0)) x 0 → v ≡ max (getD t (blockedCell n) 0) y
-    → Raised a b x (n + 1) old (set t (blockedCell n) v)
+    → TasksRaised a b x (n + 1) old (set t (blockedCell n) v)
 raised-more {a} {b} {x} {n} {v} {y} {old} {t} h long l ey ev =
     let fits : blockedCell n < length t = omega (arith, h .long) in
     let value : v ≡ max (getD old (blockedCell n) 0) (cond (between a b (getD old (precedenceCell n) 0)) x 0)
@@ -92,7 +92,7 @@ module _ (p : Plan) (v : Valid p) where
 
     -- a section on a local resource
     pub blocked-more : {u : List ℕ} → getD t (sharedCell q) 0 ≡ 0
-        → Raised (getD t (precedenceCell j) 0) (getD t (precedenceCell j) 0 / 256 * 256 + getD t (ceilingCell q) 0) (row .length) mostTasks t u
+        → TasksRaised (getD t (precedenceCell j) 0) (getD t (precedenceCell j) 0 / 256 * 256 + getD t (ceilingCell q) 0) (row .length) mostTasks t u
         → TermsBelow p mostResources (p .tasks) (p .sections) (s + 1) u
     blocked-more {u} z r =
         let local : global p q ≡ false = flag-off (global p q) (sym (h .shared q (there .resource) (there .resource)) ∙ z) in

@@ -51,7 +51,7 @@ between a b x = ltb a x && leb x b
 
 -- what is made of a table of terms, old, once those of the first n tasks whose precedence is above `above` and at most `top` are blocked
 -- for `ticks`
-pub record Raised (above top ticks n : ℕ) (old t : List ℕ) : Type 0 where
+pub record TasksRaised (above top ticks n : ℕ) (old t : List ℕ) : Type 0 where
   pub long : length t ≡ length old
   pub kept : (x : ℕ) → x < blockedCell 0 → getD t x 0 ≡ getD old x 0
   pub raised : (i : ℕ) → i < n → i < mostTasks

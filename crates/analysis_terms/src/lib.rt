@@ -7,7 +7,7 @@ ghost use Rattle.sizes.specs.Sizes.{mostTasks, mostResources};
 ghost use Rattle.plan_reading.specs.Plan.{planOf, Checked};
 ghost use Rattle.analysis_figures.specs.Figures.{Known};
 ghost use Rattle.analysis_terms.specs.Terms.{countCell, termCount, TermTable};
-ghost use Rattle.analysis_terms.specs.Inner.{TermsBelow, Filling, Sectioned, Raised};
+ghost use Rattle.analysis_terms.specs.Inner.{TermsBelow, Filling, Sectioned, TasksRaised};
 
 // Where the parts of the table of terms begin, behind the longest global section of each task.
 pub const PRECEDENCES: usize = sizes::TASKS;
@@ -85,7 +85,7 @@ fn put_sections(file: &[u8], terms: &mut [u16])
 // Raises what blocks each task to `ticks` where its precedence is above `above` and at most `top`.
 fn raise_blocked(terms: &mut [u16], above: u16, top: u16, ticks: u16)
     requires { ⌜ length (now terms) ≡ termCount ⌝ }
-    ensures { λ u. ⌜ Raised above top ticks mostTasks (now (terms .entry)) (now (terms .exit)) ⌝ }
+    ensures { λ u. ⌜ TasksRaised above top ticks mostTasks (now (terms .entry)) (now (terms .exit)) ⌝ }
 {
     let mut i = 0;
     while i < sizes::TASKS {

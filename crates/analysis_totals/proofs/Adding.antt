@@ -1,7 +1,7 @@
 -- A task as it is added to the users of processor k and to their hold times, one resource after the other.
 use Rattle.analysis_totals.proofs.Ground.{ℕ, _+_, _<_, _≤_, Bool, cond, _&&_, not, and-false, _≡_, refl, _∙_, List, eqb, ltb, length, getD}
 use Rattle.analysis_totals.proofs.Ground.{set, length-set, getD-set-other, stored, le-ltb, lt-ltb, eq-eqb, arith, mostResources}
-use Rattle.analysis_totals.proofs.Ground.{mostFellowHolds, mostTasks, holdCell, usersCell, sumCell, Addable, TaskAdded}
+use Rattle.analysis_totals.proofs.Ground.{mostFellowHolds, mostTasks, holdCell, usersCell, sumCell, TaskAddable, TaskAdded}
 use Rattle.folds.proofs.Ground.{ltb-true}
 use Rattle.folds.proofs.Tests.{same-test}
 use Rattle.folds.proofs.Arrays.{by-eq}
@@ -33,10 +33,10 @@ one hold = cond (not (eqb hold 0)) 1 0
 -- task j is added to processor k at the resources below n
 pub record Turn (figures old : List ℕ) (j k n : ℕ) (t : List ℕ) : Type 0 where
   pub within : n ≤ mostResources
-  pub start : Addable figures old j k
+  pub start : TaskAddable figures old j k
   pub added : TaskAdded figures j k n old t
 
-pub added-none : {figures old : List ℕ} {j k : ℕ} → Addable figures old j k → Turn figures old j k 0 old
+pub added-none : {figures old : List ℕ} {j k : ℕ} → TaskAddable figures old j k → Turn figures old j k 0 old
 added-none {figures} {old} {j} {k} h =
     record {
       within = omega arith;

@@ -14,5 +14,5 @@ unfoldable pub use Rattle.analysis_equations.specs.HoldTimes.{holdAt, waitTime}
 pub use Rattle.analysis_equations.specs.Bounds.{mostFellowHolds, mostHold}
 pub use Rattle.analysis_figures.specs.Figures.{Figures, Known, holdCell}
 unfoldable pub use Rattle.analysis_totals.specs.Totals.{holdsBelow, usersBelow}
-pub use Rattle.analysis_totals.specs.Totals.{Share, SumsBelow, Totals, User, shareCount, sumCell, totalCount, usersCell, waitCell}
-pub use Rattle.analysis_totals.specs.Inner.{Addable, TaskAdded, Waiting, WaitsBelow}
+pub use Rattle.analysis_totals.specs.Totals.{TotalPlace, SumsBelow, Totals, SharingTask, shareCount, sumCell, totalCount, usersCell, waitCell}
+pub use Rattle.analysis_totals.specs.Inner.{TaskAddable, TaskAdded, Waiting, WaitsBelow}

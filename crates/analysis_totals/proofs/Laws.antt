@@ -2,7 +2,7 @@
 use Rattle.analysis_totals.proofs.Ground.{ℕ, _+_, _<_, Bool, true, false, _&&_, not, and-true, and-false, _≡_, refl, sym, ap, _∙_, List}
 use Rattle.analysis_totals.proofs.Ground.{true≢false, eqb, ltb, getD, eq-eqb, ne-eqb, lt-ltb, arith, countBelow, mostProcessors, mostResources}
 use Rattle.analysis_totals.proofs.Ground.{planOf, valid-plan, Plan, Valid, processorOf, uses, usedOn, global, holdAt, waitTime, usersBelow}
-use Rattle.analysis_totals.proofs.Ground.{holdsBelow, holdCell, shareCount, usersCell, sumCell, waitCell, Totals, User, Share}
+use Rattle.analysis_totals.proofs.Ground.{holdsBelow, holdCell, shareCount, usersCell, sumCell, waitCell, Totals, SharingTask, TotalPlace}
 use mathlib.Core.Bool.{Bool·not-not}
 use Prim.Native.Nat.{zero, suc}
 use Rattle.folds.specs.Below.{anyBelow}
@@ -62,13 +62,13 @@ module _ (p : Plan) (v : Valid p) where
         ∙ ap (λ (s : ℕ). s + holdAt p i q) (sym (fellow-holds p i q g))
 
 -- the user of a global resource
-module _ {f figures t : List ℕ} {i q : ℕ} (u : User f figures t i q) where
+module _ {f figures t : List ℕ} {i q : ℕ} (u : SharingTask f figures t i q) where
   pub user-resource : q < planOf f .resources
   user-resource =
       on-le (q < planOf f .resources) (planOf f .resources) q
       (λ h. absurd (true≢false (sym (u .shared) ∙ past-global _ (valid-plan f (u .added .known .plan)) q h))) (λ h. h)
 
-  pub user-share : Share t (processorOf (planOf f) i) q
+  pub user-share : TotalPlace t (processorOf (planOf f) i) q
   user-share =
       let v = valid-plan f (u .added .known .plan) in
       record {
@@ -82,7 +82,7 @@ module _ {f figures t : List ℕ} {i q : ℕ} (u : User f figures t i q) where
 
   -- by the number of its processor: the users without itself are its fellows, and so are their hold times without its own
   module _ {k : ℕ} (e : k ≡ processorOf (planOf f) i) where
-    pub share-of : Share t k q
+    pub share-of : TotalPlace t k q
     share-of = rw e user-share
 
     pub wait-of : getD t (waitCell k q) 0 ≡ waitTime (planOf f) (processorOf (planOf f) i) q

@@ -2,7 +2,7 @@
 use Rattle.analysis_totals.proofs.Ground.{ℕ, _+_, _*_, _<_, _≤_, Bool, true, false, cond, _&&_, not, _≡_, refl, sym, _∙_, List, eqb, replicate}
 use Rattle.analysis_totals.proofs.Ground.{length-replicate, getD-replicate, lt-ltb, arith, countBelow, sumBelow, mostResources, mostHold, Plan}
 use Rattle.analysis_totals.proofs.Ground.{Valid, processorOf, global, uses, holdAt, Figures, usersBelow, holdsBelow, usersCell, sumCell}
-use Rattle.analysis_totals.proofs.Ground.{totalCount, SumsBelow, Addable, TaskAdded}
+use Rattle.analysis_totals.proofs.Ground.{totalCount, SumsBelow, TaskAddable, TaskAdded}
 use Rattle.folds.proofs.Figures.{count-step, sum-step, count-bound}
 use Rattle.folds.proofs.Ranges.{cond-bound, sum-where-bound}
 use Rattle.folds.proofs.Searches.{same-eqb}
@@ -44,7 +44,7 @@ module _ (p : Plan) where
 
     -- task j, of processor k, once those before it are added
     module _ {figures t : List ℕ} {j k : ℕ} (f : Figures p figures) (h : SumsBelow p j t) (l : j < p .tasks) (e : k ≡ processorOf p j) where
-      pub addable : Addable figures t j k
+      pub addable : TaskAddable figures t j k
       addable =
           let fits = v .task-fits j l in
           record {

@@ -13,7 +13,7 @@ use Rattle.analysis_figures.specs.Figures.{figureCount, holdCell, Known}
 use Rattle.analysis_totals.specs.Totals.{usersCell, sumCell, waitCell, totalCount, SumsBelow}
 
 -- task j of processor k can be added at each resource
-pub record Addable (figures t : List ℕ) (j k : ℕ) : Type 0 where
+pub record TaskAddable (figures t : List ℕ) (j k : ℕ) : Type 0 where
   pub figures-long : length figures ≡ figureCount
   pub long : length t ≡ totalCount
   pub task : j < mostTasks

@@ -58,14 +58,14 @@ pub record Added (f figures t : List ℕ) : Type 0 where
   pub totals : Totals (planOf f) t
 
 -- and a task of the plan that uses the global resource q
-pub record User (f figures t : List ℕ) (i q : ℕ) : Type 0 where
+pub record SharingTask (f figures t : List ℕ) (i q : ℕ) : Type 0 where
   pub added : Added f figures t
   pub task : i < planOf f .tasks
   pub used : uses (planOf f) i q ≡ true
   pub shared : global (planOf f) q ≡ true
 
 -- a processor and a resource that a table as long as that has a place for
-pub record Share (t : List ℕ) (k q : ℕ) : Type 0 where
+pub record TotalPlace (t : List ℕ) (k q : ℕ) : Type 0 where
   pub long : length t ≡ totalCount
   pub processor : k < mostProcessors
   pub resource : q < mostResources

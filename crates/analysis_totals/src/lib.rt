@@ -11,8 +11,8 @@ ghost use Rattle.plan_reading.specs.Plan.{planOf};
 ghost use Rattle.analysis_equations.specs.HoldTimes.{fellow};
 ghost use Rattle.analysis_equations.specs.Blocking.{fellowHolds};
 ghost use Rattle.analysis_figures.specs.Figures.{Known};
-ghost use Rattle.analysis_totals.specs.Totals.{usersCell, waitCell, totalCount, SumsBelow, Added, User, Share};
-ghost use Rattle.analysis_totals.specs.Inner.{Addable, TaskAdded, WaitsBelow, Waiting};
+ghost use Rattle.analysis_totals.specs.Totals.{usersCell, waitCell, totalCount, SumsBelow, Added, SharingTask, TotalPlace};
+ghost use Rattle.analysis_totals.specs.Inner.{TaskAddable, TaskAdded, WaitsBelow, Waiting};
 
 // The fellows of a task on a resource: how many, and their hold times added up.
 pub struct Fellows {
@@ -39,7 +39,7 @@ fn flag(b: bool) -> u32
 
 // Adds task j to the users of processor k and to their hold times, at each resource.
 fn add_task(figures: &[u16], totals: &mut [u32], j: usize, k: usize)
-    requires { ⌜ Addable (now figures) (now totals) j k ⌝ }
+    requires { ⌜ TaskAddable (now figures) (now totals) j k ⌝ }
     ensures { λ u. ⌜ TaskAdded (now (figures .entry)) j k mostResources (now (totals .entry)) (now (totals .exit)) ⌝ }
 {
     let mut q = 0;
@@ -97,7 +97,7 @@ pub fn fill_totals(file: &[u8], figures: &[u16], totals: &mut [u32])
 
 // How many tasks of processor k have a hold time of q, from the table.
 pub fn users_at(totals: &[u32], k: usize, q: usize) -> u32
-    requires { ⌜ Share (now totals) k q ⌝ }
+    requires { ⌜ TotalPlace (now totals) k q ⌝ }
     ensures { λ r. ⌜ r ≡ getD (now (totals .entry)) (usersCell k q) 0 ⌝ }
 {
     totals[k * sizes::RESOURCES + q]
@@ -105,7 +105,7 @@ pub fn users_at(totals: &[u32], k: usize, q: usize) -> u32
 
 // The wait time of processor k on q, from the table.
 pub fn wait_at(totals: &[u32], k: usize, q: usize) -> u32
-    requires { ⌜ Share (now totals) k q ⌝ }
+    requires { ⌜ TotalPlace (now totals) k q ⌝ }
     ensures { λ r. ⌜ r ≡ getD (now (totals .entry)) (waitCell k q) 0 ⌝ }
 {
     totals[WAITS + k * sizes::RESOURCES + q]
@@ -113,7 +113,7 @@ pub fn wait_at(totals: &[u32], k: usize, q: usize) -> u32
 
 // The fellows of task i on the global resource q, which it uses: the users of its processor without itself.
 pub fn fellows_of(file: &[u8], figures: &[u16], totals: &[u32], i: usize, q: usize) -> Fellows
-    requires { ⌜ User (now file) (now figures) (now totals) i q ⌝ }
+    requires { ⌜ SharingTask (now file) (now figures) (now totals) i q ⌝ }
     ensures { λ r. ⌜ r .count ≡ countBelow (planOf (now (file .entry)) .tasks) (fellow (planOf (now (file .entry))) i q) ⌝ }
     ensures { λ r. ⌜ r .holds ≡ fellowHolds (planOf (now (file .entry))) i q ⌝ }
 {

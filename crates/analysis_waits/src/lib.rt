@@ -3,7 +3,7 @@
 ghost use mathlib.Core.Path.{_≡_};
 ghost use lib.ListN.{length};
 ghost use Rattle.plan_reading.specs.Plan.{planOf};
-ghost use Rattle.analysis_totals.specs.Totals.{User};
+ghost use Rattle.analysis_totals.specs.Totals.{SharingTask};
 ghost use Rattle.machine_rules.specs.Longest.{fellows, longestWait};
 
 // How many fellows a task has on a resource, and how long it waits at most.
@@ -14,7 +14,7 @@ pub struct Longest {
 
 // The longest wait of task i for the global resource q, which it uses: the limit with all its fellows ahead.
 pub fn longest_of(file: &[u8], figures: &[u16], totals: &[u32], i: usize, q: usize) -> Longest
-    requires { ⌜ User (now file) (now figures) (now totals) i q ⌝ }
+    requires { ⌜ SharingTask (now file) (now figures) (now totals) i q ⌝ }
     ensures { λ r. ⌜ (r .fellows ≡ length (fellows (planOf (now (file .entry))) i q)) × (r .wait ≡ longestWait (planOf (now (file .entry))) i q) ⌝ }
 {
     let task = plan_reading::checked::task(file, i);

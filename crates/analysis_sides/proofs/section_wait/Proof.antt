@@ -1,7 +1,7 @@
 -- A hold time of 0 tells of a local resource; else the calls give the numbers of the wait, a budget of at least a tick among them.
 use Rattle.folds.proofs.Ground.{_∙_, arith, needs}
 use Rattle.plan_reading.specs.Plan.{planOf}
-use Rattle.analysis_totals.specs.Totals.{User}
+use Rattle.analysis_totals.specs.Totals.{SharingTask}
 use Rattle.analysis_totals.proofs.Laws.{share-of, wait-of}
 use Rattle.analysis_sides.proofs.Waits.{Waits, task-low, resource-low, wait-none, user, processor-is, processor-low, waits, wait-some}
 use Rattle.analysis_sides.proofs.section_wait.Statement.{statement}
@@ -11,7 +11,7 @@ use Rattle.analysis_sides.proofs.section_wait.Tie as tie
 abbrev start : tie.After-hold-at → tie.Start
 start h = h .before .before .before .before
 
-asked : (e : tie.Else1) → let a = start (e .before) .args in User (a .file .now) (a .figures .now) (a .totals .now) (a .i) (a .q)
+asked : (e : tie.Else1) → let a = start (e .before) .args in SharingTask (a .file .now) (a .figures .now) (a .totals .now) (a .i) (a .q)
 asked e = user (start (e .before) .pre) (e .before .hold-at .ensures) (e .if1 .left)
 
 -- ── where the task's processor is known ──

@@ -1,5 +1,5 @@
 -- The invariant: the tasks below `i` are raised.
-use Rattle.analysis_terms.proofs.Ground.{ℕ, _≤_, _-_, List, _≡_, _∙_, length, arith, needs, mostTasks, termCount, Raised}
+use Rattle.analysis_terms.proofs.Ground.{ℕ, _≤_, _-_, List, _≡_, _∙_, length, arith, needs, mostTasks, termCount, TasksRaised}
 use Rattle.analysis_terms.proofs.Raising.{raised-none, raised-more}
 use Rattle.analysis_terms.proofs.raise_blocked.Statement.{statement}
 use Rattle.analysis_terms.proofs.raise_blocked.Tie as tie
@@ -7,7 +7,7 @@ use Rattle.analysis_terms.proofs.raise_blocked.Tie as tie
 record Turn (above top ticks i : ℕ) (old t : List ℕ) : Type 0 where
   within : i ≤ mostTasks
   long : length t ≡ termCount
-  raised : Raised above top ticks i old t
+  raised : TasksRaised above top ticks i old t
 
 abbrev Inv-loop : tie.InvT-loop
 Inv-loop terms₀ above top ticks i₀ terms i = Turn above top ticks i terms₀ terms

@@ -1,5 +1,5 @@
 -- The users of the processor are the fellows and the task itself.
-use Rattle.analysis_totals.proofs.Ground.{_≡_, ap, _∙_, arith, needs, planOf, valid-plan, processorOf, Share}
+use Rattle.analysis_totals.proofs.Ground.{_≡_, ap, _∙_, arith, needs, planOf, valid-plan, processorOf, TotalPlace}
 use Rattle.plan_rules.specs.declared.TaskRow.{TaskRow}
 use Rattle.analysis_totals.proofs.Laws.{share-of, users-of, holds-of}
 use Rattle.analysis_totals.proofs.fellows_of.Statement.{statement}
@@ -12,7 +12,7 @@ own : (c : tie.After-wide) → let a = start c .args in c .wide .result ≡ proc
 own c = c .wide .ensures .same ∙ ap (λ (r : TaskRow). r .processor) (c .before .task .ensures)
 
 -- the cells of its processor and the resource are there
-there : (c : tie.After-wide) → let a = start c .args in Share (a .totals .now) (c .wide .result) (a .q)
+there : (c : tie.After-wide) → let a = start c .args in TotalPlace (a .totals .now) (c .wide .result) (a .q)
 there c = share-of (start c .pre) (own c)
 
 returns : tie.Need-returns

@@ -3,7 +3,7 @@ use Rattle.print_sheet.proofs.Ground.{_<_, _∙_, arith, needs, mostPro
 use Rattle.print_sheet.proofs.Ground.{valid-plan, budgetRoom}
 use Rattle.folds.proofs.Ground.{refl}
 use Rattle.analysis_figures.proofs.Cells.{budget-of}
-use Rattle.analysis_totals.specs.Totals.{Share}
+use Rattle.analysis_totals.specs.Totals.{TotalPlace}
 use Rattle.print_sheet.proofs.Laws.{line-out, unused, used, wait-read}
 use Rattle.print_sheet.proofs.put_budget_at.Statement.{statement}
 use Rattle.print_sheet.proofs.put_budget_at.Tie as tie
@@ -18,7 +18,7 @@ low : (a : tie.Start) → (a .args .entry .row < mostProcessors) × (a .args .en
 low a = let v = valid a in let h = a .pre in (omega arith, omega arith)
 
 -- the entry is one of the totals
-share : (w : tie.After-wide) → let a = start w .args in Share (a .totals .now) (a .entry .row) (w .wide .result)
+share : (w : tie.After-wide) → let a = start w .args in TotalPlace (a .totals .now) (a .entry .row) (w .wide .result)
 share w =
     let a = start w in
     let l = low a in
