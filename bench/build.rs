@@ -1,12 +1,16 @@
-//! Links the archive of the proved code, which `rt staticlib bench_hooks` writes, to the program that calls into it and to no other.
+//! Links the archives of the proved code, which `rt staticlib` writes, to the program that calls into them and to no other.
 
 use std::path::Path;
+
+const ARCHIVES: [&str; 2] = ["libbench_hooks.a", "libmspis_c.a"];
 
 fn main() {
     let root = Path::new(env!("CARGO_MANIFEST_DIR"))
         .parent()
         .expect("bench lies in the repository");
-    let path = root.join("target/staticlib/libbench_hooks.a");
-    println!("cargo:rustc-link-arg-bin=bench={}", path.display());
-    println!("cargo:rerun-if-changed={}", path.display());
+    for archive in ARCHIVES {
+        let path = root.join("target/staticlib").join(archive);
+        println!("cargo:rustc-link-arg-bin=bench={}", path.display());
+        println!("cargo:rerun-if-changed={}", path.display());
+    }
 }

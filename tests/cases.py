@@ -4,6 +4,7 @@ import sys
 from pathlib import Path
 
 import analysis_cases
+import image_cases
 import machine_cases
 import plan_cases
 import print_cases
@@ -23,7 +24,7 @@ def record(kind, label, body):
 def made():
     """Of each case its label, and its part of each file."""
     cases = plan_cases.cases() + analysis_cases.cases() + machine_cases.cases() + state_cases.cases() + print_cases.cases()
-    cases += sheet_cases.cases()
+    cases += sheet_cases.cases() + image_cases.cases()
     labels = [label for _, label, _, _ in cases]
     repeated = sorted({label for label in labels if labels.count(label) > 1})
     if repeated:

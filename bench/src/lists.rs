@@ -48,6 +48,40 @@ pub fn give_ups(count: usize) -> Vec<u8> {
     asks.chain(again.flatten()).flatten().collect()
 }
 
+/// Each task of the `long` plan asks for the resource of its first section, so that four are in line for each; then, resource after
+/// resource, the holder releases and asks again, behind the three others.
+pub fn turns_on_all(count: usize) -> Vec<u8> {
+    let again = (0..count).flat_map(|x| {
+        let (tag, q) = ((x % 64) as u8, (x % 16) as u8);
+        [[b'R', tag, q], [b'Q', tag, q]]
+    });
+    ticks(0).into_iter().chain(again.flatten()).collect()
+}
+
+/// As above, but that the last in line gives up and asks again.
+pub fn give_ups_on_all(count: usize) -> Vec<u8> {
+    let again = (0..count).flat_map(|x| {
+        let (tag, q) = ((48 + x % 16) as u8, (x % 16) as u8);
+        [[b'W', tag, q], [b'Q', tag, q]]
+    });
+    ticks(0).into_iter().chain(again.flatten()).collect()
+}
+
+/// On the small plan: a request, and three ticks, of which the last ends the hold.
+pub fn small_ticks(count: usize) -> Vec<u8> {
+    b"Q\x14\0T\0\0T\0\0T\0\0".repeat(count)
+}
+
+/// On the small plan: a request of a free resource, and its release.
+pub fn small_turns(count: usize) -> Vec<u8> {
+    b"Q\x14\0R\x14\0".repeat(count)
+}
+
+/// On the small plan: one holds, and the other asks and gives up.
+pub fn small_give_ups(count: usize) -> Vec<u8> {
+    [b"Q\x14\0".to_vec(), b"Q\x0a\0W\x0a\0".repeat(count)].concat()
+}
+
 /// A give-up by a task that waits, from a random one on.
 fn give_up(plan: &Plan, state: &State, random: &mut Random) -> Option<[u8; 3]> {
     let tasks = usize::from(plan.counts.tasks);

@@ -94,3 +94,9 @@ pub fn tuned_row(file: &[u8], calls: &[u8], x: u8) -> u64 {
 pub fn row(file: &[u8], calls: &[u8], x: u8) -> u64 {
     row_of(&peer::plain::run(file, calls), x)
 }
+
+/// Puts the image of a fresh state into lent bytes.
+#[inline(never)]
+pub fn start(file: &[u8], image: &mut [u8]) -> u64 {
+    peer::image::start(file, image)
+}

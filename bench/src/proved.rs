@@ -1,5 +1,5 @@
-//! The proved code, from the archive of `crates/bench_hooks`. Each function returns one number, with the refusal in the low byte and a
-//! figure above it; `row` alone has a part of a state in all its bytes.
+//! The proved code, from the archives of `crates/bench_hooks` and of `crates/mspis_c`, which has the functions on an image. Each function
+//! returns one number, with the refusal in the low byte and a figure above it; `row` alone has a part of a state in all its bytes.
 
 mod archive {
     extern "C" {
@@ -23,6 +23,37 @@ mod archive {
             calls_length: usize,
             x: u8,
         ) -> u64;
+    }
+}
+
+mod firmware {
+    extern "C" {
+        pub fn mspis_start(file: *const u8, length: usize, image: *mut u8, lent: usize) -> u64;
+        pub fn mspis_request(
+            file: *const u8,
+            length: usize,
+            image: *mut u8,
+            lent: usize,
+            tag: u16,
+            resource: u8,
+        ) -> u64;
+        pub fn mspis_release(
+            file: *const u8,
+            length: usize,
+            image: *mut u8,
+            lent: usize,
+            tag: u16,
+            resource: u8,
+        ) -> u64;
+        pub fn mspis_give_up(
+            file: *const u8,
+            length: usize,
+            image: *mut u8,
+            lent: usize,
+            tag: u16,
+            resource: u8,
+        ) -> u64;
+        pub fn mspis_tick(file: *const u8, length: usize, image: *mut u8, lent: usize) -> u64;
     }
 }
 
@@ -70,4 +101,37 @@ pub fn answer(file: &[u8], calls: &[u8], [letter, tag, resource]: [u8; 3]) -> u6
 pub fn row(file: &[u8], calls: &[u8], x: u8) -> u64 {
     // SAFETY: as above, for both slices.
     unsafe { archive::machine_row(file.as_ptr(), file.len(), calls.as_ptr(), calls.len(), x) }
+}
+
+/// Puts the image of a fresh state into lent bytes.
+pub fn start(file: &[u8], image: &mut [u8]) -> u64 {
+    // SAFETY: the function reads `length` bytes at `file`, reads and writes `lent` bytes at `image`, and nothing else.
+    unsafe { firmware::mspis_start(file.as_ptr(), file.len(), image.as_mut_ptr(), image.len()) }
+}
+
+/// A task asks for a resource.
+pub fn request(file: &[u8], image: &mut [u8], tag: u16, resource: u8) -> u64 {
+    let (lent, room) = (image.as_mut_ptr(), image.len());
+    // SAFETY: as for a start.
+    unsafe { firmware::mspis_request(file.as_ptr(), file.len(), lent, room, tag, resource) }
+}
+
+/// A task gives a resource back.
+pub fn release(file: &[u8], image: &mut [u8], tag: u16, resource: u8) -> u64 {
+    let (lent, room) = (image.as_mut_ptr(), image.len());
+    // SAFETY: as for a start.
+    unsafe { firmware::mspis_release(file.as_ptr(), file.len(), lent, room, tag, resource) }
+}
+
+/// A waiting task leaves the line.
+pub fn give_up(file: &[u8], image: &mut [u8], tag: u16, resource: u8) -> u64 {
+    let (lent, room) = (image.as_mut_ptr(), image.len());
+    // SAFETY: as for a start.
+    unsafe { firmware::mspis_give_up(file.as_ptr(), file.len(), lent, room, tag, resource) }
+}
+
+/// A tick passes.
+pub fn tick(file: &[u8], image: &mut [u8]) -> u64 {
+    // SAFETY: as for a start.
+    unsafe { firmware::mspis_tick(file.as_ptr(), file.len(), image.as_mut_ptr(), image.len()) }
 }

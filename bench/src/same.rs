@@ -1,10 +1,13 @@
 //! Both sides on plans that are damaged, and on plans that are not: each must give the same number.
 
+use crate::images::{PLAIN, PROVED, TUNED as TUNED_ON_IMAGE};
 use crate::{plain, proved};
 use bench::{lists, plans};
 use compare::damage::damaged;
 use compare::random::Random;
 use peer::calls::{Call, TUNED};
+use peer::image::{self, MAX_IMAGE};
+use peer::machine::State;
 
 const START: u64 = 0x9e37_79b9_7f4a_7c15;
 
@@ -100,4 +103,77 @@ pub fn lists(count: usize, length: usize) {
     );
     let [refused, granted, waits, next, free, ticks, left] = met;
     println!("  {granted} granted, {waits} waits, {next} to another, {free} free, {left} left, {ticks} ticks, {refused} refused");
+}
+
+/// The word of a call on an image, if it is one: each side gives the same, and leaves the same in all that is lent.
+fn on_image(file: &[u8], lent: &mut [u8], call: [u8; 3]) -> Option<u64> {
+    let before = lent.to_vec();
+    let word = PROVED.call(file, lent, call);
+    for functions in [TUNED_ON_IMAGE, PLAIN] {
+        let mut copy = before.clone();
+        let other = functions.call(file, &mut copy, call);
+        assert_eq!(word, other, "{call:?} on {before:?}: {file:?}");
+        assert!(lent == copy, "{call:?} on {before:?}: {file:?}");
+    }
+    word
+}
+
+/// The same call on a copy with one byte changed to any, which is most often refused.
+fn on_a_changed_image(file: &[u8], lent: &[u8], call: [u8; 3], random: &mut Random) -> Option<u64> {
+    let mut copy = lent.to_vec();
+    copy[random.below(lent.len())] = random.byte();
+    on_image(file, &mut copy, call)
+}
+
+/// A start or a call by value: its word, and the next state.
+fn by_value(file: &[u8], state: &State, call: [u8; 3]) -> Option<(u64, State)> {
+    match call[0] {
+        b'S' => Some((0, State::FRESH)),
+        _ => {
+            let (answer, next) = TUNED.make(file, state, Call::of(call))?;
+            Some((image::word(answer), next))
+        }
+    }
+}
+
+/// `count` lists by image on as many plans, with some bytes behind: each word and all bytes, and the same word as by value. Each call is
+/// made on a changed copy too.
+pub fn images(count: usize, length: usize) {
+    let mut random = Random(START);
+    let (mut met, mut not_sound) = ([0; 2], 0);
+    for i in 0..count {
+        let file = plans::some(&mut random);
+        let plan = peer::read(&file).expect("the plan keeps the rules");
+        let behind = random.below(9);
+        let mut lent = random.bytes(image::length(plan.counts) + behind);
+        let mut state = State::FRESH;
+        assert_eq!(on_image(&file, &mut lent, [b'S', 0, 0]), Some(0));
+        for _ in 0..length {
+            let call = lists::some(&plan, &state, &mut random);
+            let changed = on_a_changed_image(&file, &lent, call, &mut random);
+            not_sound += usize::from(changed == Some(image::NOT_SOUND.into()));
+            let (word, made) = (
+                on_image(&file, &mut lent, call),
+                by_value(&file, &state, call),
+            );
+            assert_eq!(word, made.map(|(word, _)| word), "list {i}: {call:?}");
+            if let Some((word, next)) = made {
+                met[usize::from(word % 256 != 0)] += 1;
+                state = next;
+            }
+        }
+    }
+    let [accepted, refused] = met;
+    println!("{count} lists of {length} calls on an image: the same words and the same bytes from all sides");
+    println!("  {accepted} accepted, {refused} refused; {not_sound} refused 25 on a copy with a byte changed");
+}
+
+/// A list that is measured: the same from each side, and no call of it is refused.
+pub fn list_on_image(file: &[u8], calls: &[u8]) {
+    let mut lent = [0; MAX_IMAGE];
+    let starts = [[b'S', 0, 0]];
+    for &call in starts.iter().chain(calls.as_chunks().0) {
+        let word = on_image(file, &mut lent, call);
+        assert_eq!(word.map(|word| word % 256), Some(0), "{call:?}");
+    }
 }

@@ -11,8 +11,14 @@ pub struct Pace {
     pub calls: u32,
 }
 
+impl Pace {
+    pub fn told(self) -> String {
+        format!("{} rounds of {}", self.rounds, self.calls)
+    }
+}
+
 /// Nanoseconds for a call, over one round.
-fn round(calls: u32, ask: impl Fn(&[u8]) -> u64, file: &[u8]) -> f64 {
+pub fn round(calls: u32, ask: impl Fn(&[u8]) -> u64, file: &[u8]) -> f64 {
     let start = Instant::now();
     for _ in 0..calls {
         black_box(ask(black_box(file)));
@@ -41,21 +47,33 @@ pub fn measure(
     peer: impl Fn(&[u8]) -> u64,
 ) {
     assert_eq!(proved(file), peer(file));
-    let mut of_proved = Vec::with_capacity(pace.rounds);
-    let mut of_peer = Vec::with_capacity(pace.rounds);
+    let sides: [Side; 2] = [
+        ("proved", &|calls| round(calls, &proved, file)),
+        ("peer", &|calls| round(calls, &peer, file)),
+    ];
+    println!("{what}, {} bytes, {}", file.len(), pace.told());
+    measure_sides(pace, each, &sides);
+}
+
+/// A name, and the time of a call over a round of so many.
+pub type Side<'a> = (&'a str, &'a dyn Fn(u32) -> f64);
+
+/// All sides in turn; the ratios are those of the first to each of the others.
+pub fn measure_sides(pace: Pace, each: usize, sides: &[Side]) {
+    let mut times = vec![Vec::with_capacity(pace.rounds); sides.len()];
     for _ in 0..pace.rounds {
-        of_proved.push(round(pace.calls, &proved, file) / each as f64);
-        of_peer.push(round(pace.calls, &peer, file) / each as f64);
+        for (times, (_, round)) in times.iter_mut().zip(sides) {
+            times.push(round(pace.calls) / each as f64);
+        }
     }
-    let (proved, peer) = (quartiles(of_proved), quartiles(of_peer));
-    println!(
-        "{what}, {} bytes, {} rounds of {}",
-        file.len(),
-        pace.rounds,
-        pace.calls
-    );
-    for (name, [low, median, high]) in [("proved", proved), ("peer", peer)] {
-        println!("  {name:<7} median {median:11.1} ns   (middle half {low:.1} to {high:.1})");
+    let width = sides.iter().map(|(name, _)| name.len()).max().unwrap_or(0);
+    let mut medians = Vec::new();
+    for ((name, _), times) in sides.iter().zip(times) {
+        let [low, median, high] = quartiles(times);
+        println!("  {name:<width$}  median {median:11.1} ns   (middle half {low:.1} to {high:.1})");
+        medians.push(median);
     }
-    println!("  proved / peer  {:.2}", proved[1] / peer[1]);
+    for ((name, _), median) in sides.iter().zip(&medians).skip(1) {
+        println!("  {} / {name}  {:.2}", sides[0].0, medians[0] / median);
+    }
 }

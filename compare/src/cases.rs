@@ -1,14 +1,14 @@
 //! The case program: each line of the proved one against that of the peer.
 
 use crate::given::{case, record};
-use crate::met::{Met, Sides};
+use crate::met::{Images, Met, Sides};
 use crate::watch::{self, Watched};
 use crate::work::{program, run, share, Difference};
 use peer::calls::{PLAIN, TUNED};
 use std::path::Path;
 
 /// The kinds, and how many cases of each are made.
-const KINDS: [(u8, &str, usize); 17] = [
+const KINDS: [(u8, &str, usize); 19] = [
     (b'R', "readings", 20_000),
     (b'N', "names", 4_000),
     (b'W', "writings", 6_000),
@@ -26,6 +26,8 @@ const KINDS: [(u8, &str, usize); 17] = [
     (b'E', "lines in one buffer", 6_000),
     (b'S', "calls on a state", 20_000),
     (b'V', "lists with each state", 3_000),
+    (b'I', "calls on an image", 12_000),
+    (b'F', "images with each byte changed", 2_000),
 ];
 /// So many cases go to one run of the program.
 const BATCH: usize = 100;
@@ -38,6 +40,7 @@ struct Found {
     sides: Sides,
     admitted: usize,
     not_admitted: usize,
+    images: Images,
     watched: Watched,
     differences: Vec<Difference>,
 }
@@ -61,7 +64,7 @@ fn batch((kind, what, start): (u8, &str, usize), proved: &Path) -> Found {
         let peer = peer::cases::line(&record[4..], &machine).unwrap_or_default() + "\n";
         let difference = Difference::of(what, *number, record, line, peer.as_bytes());
         found.differences.extend(difference);
-        found.put_answers(&String::from_utf8_lossy(line));
+        found.put_answers(case, &String::from_utf8_lossy(line));
         if kind == b'V' {
             watch_line((*number, case), record, line, &mut found);
         }
@@ -80,12 +83,13 @@ fn by_case(output: &[u8]) -> impl Iterator<Item = &[u8]> {
 
 impl Found {
     /// The answers of a line, behind its label: one, or those of a list, each with a state behind it or not.
-    fn put_answers(&mut self, line: &str) {
+    fn put_answers(&mut self, case: &[u8], line: &str) {
         let answers = line.trim_end().split_once(": ");
         let answers = answers.map_or("", |(_, answers)| answers);
         for answer in answers.split("; ") {
             self.met.put(answer);
             self.sides.put(answer);
+            self.images.put(case, answer);
             self.admitted += usize::from(answer == "admitted");
             self.not_admitted += usize::from(answer == "not admitted");
         }
@@ -97,6 +101,7 @@ impl Found {
         self.sides.add(&other.sides);
         self.admitted += other.admitted;
         self.not_admitted += other.not_admitted;
+        self.images.add(&other.images);
         self.watched.add(&other.watched);
     }
 
@@ -107,6 +112,7 @@ impl Found {
             "  {} plans admitted, {} not.",
             self.admitted, self.not_admitted
         );
+        self.images.tell();
         self.watched.tell();
     }
 }

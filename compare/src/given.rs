@@ -1,5 +1,6 @@
 //! Made cases of each kind, as the case program takes them.
 
+use crate::images;
 use compare::damage::maybe_broken;
 use compare::lists::{Habits, Maker, FICKLE, GREEDY};
 use compare::plans::{self, Size};
@@ -29,6 +30,8 @@ pub fn case(kind: u8, number: usize) -> Vec<u8> {
         b'E' => printing_at_once(random),
         b'S' => calling(random),
         b'D' => sheet(random),
+        b'I' => images::calling(random),
+        b'F' => images::changing(random),
         _ => asking(kind, random),
     }
 }
@@ -105,8 +108,9 @@ fn sheet(random: &mut Random) -> Vec<u8> {
     [&(room as u32).to_le_bytes()[..], &file].concat()
 }
 
-fn after_length(file: &[u8], rest: &[u8]) -> Vec<u8> {
-    [&(file.len() as u16).to_le_bytes()[..], file, rest].concat()
+/// A part with its length in two bytes before it, and what comes behind.
+pub fn after_length(part: &[u8], rest: &[u8]) -> Vec<u8> {
+    [&(part.len() as u16).to_le_bytes()[..], part, rest].concat()
 }
 
 fn listing(random: &mut Random) -> Vec<u8> {

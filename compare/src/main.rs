@@ -2,6 +2,7 @@
 
 mod cases;
 mod given;
+mod images;
 mod met;
 mod programs;
 mod sheets;

@@ -74,14 +74,15 @@ impl Met {
     }
 
     pub fn tell_refused(&self) {
-        let refused = self
-            .refused
-            .iter()
-            .enumerate()
-            .filter(|(_, &count)| count > 0);
-        let refused: Vec<_> = refused.map(|(k, count)| format!("{k}: {count}")).collect();
-        println!("  Refused by number: {}.", refused.join(", "));
+        println!("  Refused by number: {}.", by_number(&self.refused));
     }
+}
+
+/// The numbers that came up, each with how often.
+fn by_number(refused: &[usize; 256]) -> String {
+    let met = refused.iter().enumerate().filter(|(_, &count)| count > 0);
+    let met: Vec<_> = met.map(|(k, count)| format!("{k}: {count}")).collect();
+    met.join(", ")
 }
 
 /// The requirements that came up, and how often the waiting side was at the slack or one off it, where met turns to unmet.
@@ -132,6 +133,73 @@ impl Sides {
             "  {} requirements, {} of them unmet, {} with a slack below zero; \
              {} waiting sides one below the slack, {} at it, {} one above it.",
             self.all, self.unmet, self.negative, self.below, self.at, self.above
+        );
+    }
+}
+
+/// What came of calls on images.
+#[derive(Debug)]
+pub struct Images {
+    /// Starts, requests, releases, give-ups, ticks.
+    pub accepted: [usize; 5],
+    pub refused: [usize; 256],
+    /// Ticks on images with a byte changed: refused 25, refused otherwise, accepted.
+    pub changed: [usize; 3],
+}
+
+impl Default for Images {
+    fn default() -> Self {
+        Images {
+            accepted: [0; 5],
+            refused: [0; 256],
+            changed: [0; 3],
+        }
+    }
+}
+
+impl Images {
+    const LETTERS: [u8; 5] = *b"SQRWT";
+    /// The bytes of a call, which end a case.
+    const CALL: usize = 4;
+
+    /// The answer to a case, which begins with its word where it is one of these.
+    pub fn put(&mut self, case: &[u8], answer: &str) {
+        let mut words = answer.split(' ');
+        let kind = words.next();
+        let mut number = || words.next().and_then(|word| word.parse().ok()).unwrap_or(0);
+        match kind {
+            Some("word") => {
+                let letter = case.len().checked_sub(Self::CALL).map(|at| case[at]);
+                let which = Self::LETTERS.iter().position(|&l| Some(l) == letter);
+                match (number(), which) {
+                    (0, Some(which)) => self.accepted[which] += 1,
+                    (refusal, _) => self.refused[refusal % 256] += 1,
+                }
+            }
+            Some("counts") => self.changed.iter_mut().for_each(|count| *count += number()),
+            _ => (),
+        }
+    }
+
+    pub fn add(&mut self, other: &Images) {
+        let mine = self.accepted.iter_mut().chain(&mut self.refused);
+        let mine = mine.chain(&mut self.changed);
+        let others = other.accepted.iter().chain(&other.refused);
+        for (mine, other) in mine.zip(others.chain(&other.changed)) {
+            *mine += other;
+        }
+    }
+
+    pub fn tell(&self) {
+        let [starts, requests, releases, give_ups, ticks] = self.accepted;
+        println!(
+            "  On images {starts} starts, {requests} requests, {releases} releases, {give_ups} give-ups and {ticks} ticks accepted; \
+             refused by number: {}.",
+            by_number(&self.refused)
+        );
+        let [not_sound, otherwise, accepted] = self.changed;
+        println!(
+            "  Ticks on images with one byte changed: {not_sound} refused 25, {otherwise} refused otherwise, {accepted} accepted."
         );
     }
 }

@@ -91,6 +91,20 @@ impl Size {
         }
     }
 
+    /// Many tasks in long queues with long sections, so that limits need more than two bytes.
+    pub fn deep(random: &mut Random) -> Size {
+        let tasks = random.within(40, MAX_TASKS);
+        Size {
+            processors: random.within(2, 3),
+            tasks,
+            resources: 2,
+            sections: 3 * tasks,
+            busy: 2,
+            lengths: Lengths::UpTo(1000),
+            spare: 500,
+        }
+    }
+
     /// Any counts within their ranges.
     pub fn any(random: &mut Random) -> Size {
         Size {

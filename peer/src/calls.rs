@@ -1,7 +1,7 @@
 //! The operations of a machine by value, so that either machine can be handed to who makes calls, and a call by its letter.
 
 use crate::machine::{Answer, Once, State};
-use crate::{machine, plain};
+use crate::{machine, plain, Plan};
 
 #[derive(Clone, Copy)]
 pub struct Machine {
@@ -12,6 +12,16 @@ pub struct Machine {
     pub tick: fn(&[u8], &State) -> (Answer, State),
     /// The state after a list of calls from a fresh state on.
     pub run: fn(&[u8], &[u8]) -> State,
+    pub on_plan: OnPlan,
+}
+
+/// The operations on a checked plan, which change the state where it is; the refusal of one leaves it.
+#[derive(Clone, Copy)]
+pub struct OnPlan {
+    pub request: fn(&Plan, &mut State, u16, u8) -> Result<Answer, u8>,
+    pub release: fn(&Plan, &mut State, u16, u8) -> Result<Answer, u8>,
+    pub give_up: fn(&Plan, &mut State, u16, u8) -> Result<Answer, u8>,
+    pub tick: fn(&Plan, &mut State) -> Result<Answer, u8>,
 }
 
 /// The machine that is written for speed.
@@ -22,6 +32,12 @@ pub const TUNED: Machine = Machine {
     give_up: machine::give_up,
     tick: machine::tick,
     run: |file, calls| machine::run(file, calls, &mut |_, _| ()),
+    on_plan: OnPlan {
+        request: machine::request_on,
+        release: machine::release_on,
+        give_up: machine::give_up_on,
+        tick: machine::tick_on,
+    },
 };
 
 /// The one that is written plainly.
@@ -32,6 +48,12 @@ pub const PLAIN: Machine = Machine {
     give_up: plain::give_up,
     tick: plain::tick,
     run: plain::run,
+    on_plan: OnPlan {
+        request: plain::request_on,
+        release: plain::release_on,
+        give_up: plain::give_up_on,
+        tick: plain::tick_on,
+    },
 };
 
 /// How the calls on a plan are made.

@@ -6,7 +6,7 @@
 use crate::calls::{Call, Machine, OnFile};
 use crate::machine::{Answer, Line, Standing, State};
 use crate::program::{Lines, Running};
-use crate::{analysis, name, read, sheet, write, Counts, Plan, Refusal, Section, Task};
+use crate::{analysis, image, name, read, sheet, write, Counts, Plan, Refusal, Section, Task};
 use crate::{MAX_FILE, MAX_TASKS};
 
 /// What a buffer holds before something is written to it.
@@ -42,6 +42,21 @@ impl<'a> Bytes<'a> {
     /// Four bytes.
     fn long(&mut self) -> usize {
         usize::from(self.word()) + (usize::from(self.word()) << 16)
+    }
+
+    /// A part with its length in two bytes before it.
+    fn part(&mut self) -> &'a [u8] {
+        let length = self.word().into();
+        self.take(length)
+    }
+
+    /// A call with a tag of two bytes.
+    fn call(&mut self) -> Call {
+        Call {
+            letter: self.byte(),
+            tag: self.word(),
+            resource: self.byte(),
+        }
     }
 }
 
@@ -247,8 +262,7 @@ fn shown(plan: &Plan, state: &State) -> String {
 /// The length of the file in two bytes, the file, and calls of three bytes each. What the last state shows stands at the end;
 /// with `each`, what each state shows behind its call.
 fn listing(mut case: Bytes, machine: &Machine, each: bool) -> String {
-    let length = case.word().into();
-    let (file, calls) = (case.take(length), case.0);
+    let (file, calls) = (case.part(), case.0);
     let plan = read(file).unwrap_or_default();
     let (refusal, mut state) = (machine.start)(file);
     let mut line = match refusal {
@@ -287,8 +301,7 @@ fn unchanged(number: u8) -> String {
 /// The length of the file in two bytes, the file, a state where one is given, the room for a line, and calls of three bytes each: the
 /// lines of the printing program. A call whose line has no room is refused and not made.
 fn printing(mut case: Bytes, machine: &Machine, given: bool) -> String {
-    let length = case.word().into();
-    let file = case.take(length);
+    let file = case.part();
     let mut running = Running::new(OnFile { machine, file }, file);
     running.state = match given {
         true => state(&mut case),
@@ -318,8 +331,7 @@ fn printing(mut case: Bytes, machine: &Machine, given: bool) -> String {
 /// The length of the file in two bytes, the file, a state, the room in two bytes, and calls of three bytes each: their lines in one
 /// buffer, as long as the longest has room. What the state shows stands before the lines.
 fn printing_at_once(mut case: Bytes, machine: &Machine) -> String {
-    let length = case.word().into();
-    let file = case.take(length);
+    let file = case.part();
     let mut running = Running::new(OnFile { machine, file }, file);
     running.state = state(&mut case);
     let room = usize::from(case.word()).min(LINES_ROOM);
@@ -385,21 +397,46 @@ pub fn state_bytes(state: &State) -> Vec<u8> {
 
 /// The length of the file in two bytes, the file, a state, and a call with a tag of two bytes.
 fn calling(mut case: Bytes, machine: &Machine) -> String {
-    let length = case.word().into();
-    let file = case.take(length);
+    let file = case.part();
     let state = state(&mut case);
-    let call = Call {
-        letter: case.byte(),
-        tag: case.word(),
-        resource: case.byte(),
-    };
-    let (answer, next) = made(machine, file, &state, call);
+    let (answer, next) = made(machine, file, &state, case.call());
     let un = if next == state { "un" } else { "" };
     let after = match answer {
         Ok(_) => shown(&read(file).unwrap_or_default(), &next),
         Err(_) => String::new(),
     };
     format!("{} {un}changed{after}", told(answer))
+}
+
+fn numbers(bytes: &[u8]) -> String {
+    bytes.iter().map(|byte| format!(" {byte}")).collect()
+}
+
+/// The file and an image, each with its length in two bytes before it, and a call with a tag of two bytes, whose letter may be that of a
+/// start: the eight bytes of its answer, and all that was lent as it then is.
+fn calling_on_image(mut case: Bytes, machine: &Machine) -> String {
+    let (file, mut lent) = (case.part(), case.part().to_vec());
+    match image::call(machine, file, &mut lent, case.call()) {
+        Some(word) => format!("word{} |{}", numbers(&word.to_le_bytes()), numbers(&lent)),
+        None => "none".to_string(),
+    }
+}
+
+/// The file and an image, each with its length in two bytes before it, and a byte: a tick on a copy of the image for each of its bytes,
+/// which there alone is xored with that byte. How many were refused 25, how many otherwise, and how many were accepted.
+fn changing_each_byte(mut case: Bytes, machine: &Machine) -> String {
+    let (file, lent, mask) = (case.part(), case.part(), case.byte());
+    let (mut not_sound, mut otherwise, mut accepted) = (0, 0, 0);
+    for at in 0..lent.len() {
+        let mut copy = lent.to_vec();
+        copy[at] ^= mask;
+        match image::tick(machine, file, &mut copy).to_le_bytes()[0] {
+            0 => accepted += 1,
+            image::NOT_SOUND => not_sound += 1,
+            _ => otherwise += 1,
+        }
+    }
+    format!("counts {not_sound} {otherwise} {accepted}")
 }
 
 /// The line for a record, its calls made by this machine, with the lines that it prints; none for a kind that is not known.
@@ -426,7 +463,12 @@ pub fn line(record: &[u8], machine: &Machine) -> Option<String> {
         b'P' => printing(case, machine, false),
         b'O' => printing(case, machine, true),
         b'E' => printing_at_once(case, machine),
+        b'I' => calling_on_image(case, machine),
+        b'F' => changing_each_byte(case, machine),
         _ => return None,
     };
     Some(format!("{label}: {result}"))
 }
+
+#[cfg(test)]
+mod tests;

@@ -8,6 +8,7 @@ pub mod analysis;
 pub mod calls;
 pub mod cases;
 mod checks;
+pub mod image;
 pub mod machine;
 pub mod plain;
 pub mod program;

@@ -12,7 +12,7 @@ use crate::{read, Plan, Refusal, MAX_PROCESSORS, MAX_RESOURCES, MAX_TASKS};
 
 const IN_LINE: u8 = 15;
 const NOT_HELD: u8 = 16;
-const NOT_SOUND: u8 = 19;
+pub(crate) const NOT_SOUND: u8 = 19;
 const NOT_WAITING: u8 = 23;
 
 /// Stands where there is no resource, place, processor or task.
@@ -586,17 +586,61 @@ fn make(
     call(&mut tables, next)
 }
 
-/// Checks a file, and then makes the call.
+/// Works out what a call needs of a checked plan, checks the state and makes the call.
 #[inline]
 fn make_on(
-    file: &[u8],
+    plan: &Plan,
     next: &mut State,
     call: impl FnOnce(&mut Tables, &mut State) -> Result<Answer, u8>,
 ) -> Result<Answer, u8> {
-    let answer = read(file);
-    let mut figures = Figures::new(checked(&answer)?);
+    let mut figures = Figures::new(plan);
     figures.put_plan();
     make(&mut figures, next, call)
+}
+
+/// As [`request`], on a checked plan, with the state where it is; a refusal leaves it.
+pub fn request_on(plan: &Plan, next: &mut State, tag: u16, resource: u8) -> Result<Answer, u8> {
+    make_on(plan, next, |tables, next| {
+        tables.request(next, row_of(plan, tag), resource)
+    })
+}
+
+/// As [`release`], on a checked plan.
+pub fn release_on(plan: &Plan, next: &mut State, tag: u16, resource: u8) -> Result<Answer, u8> {
+    make_on(plan, next, |tables, next| {
+        tables.release(next, row_of(plan, tag), resource)
+    })
+}
+
+/// As [`give_up`], on a checked plan.
+pub fn give_up_on(plan: &Plan, next: &mut State, tag: u16, resource: u8) -> Result<Answer, u8> {
+    make_on(plan, next, |tables, next| {
+        tables.give_up(next, row_of(plan, tag), resource)
+    })
+}
+
+/// A tick in which nothing happens.
+const IDLE: Answer = Answer::Ticked { cuts: 0, grants: 0 };
+
+/// As [`tick`], on a checked plan. Where nobody is in line, there is nothing more to check.
+pub fn tick_on(plan: &Plan, next: &mut State) -> Result<Answer, u8> {
+    if *next == State::FRESH {
+        return Ok(IDLE);
+    }
+    make_on(plan, next, |tables, next| Ok(tables.tick(next)))
+}
+
+/// Checks a file, and makes a call on its plan and a copy of the state.
+#[inline]
+fn on_file(
+    file: &[u8],
+    state: &State,
+    call: impl FnOnce(&Plan, &mut State) -> Result<Answer, u8>,
+) -> (Answer, State) {
+    let mut next = *state;
+    let answer = read(file);
+    let made = checked(&answer).and_then(|plan| call(plan, &mut next));
+    (made.unwrap_or_else(Answer::Refused), next)
 }
 
 /// The refusal of the plan, or 0, and the fresh state.
@@ -614,46 +658,28 @@ pub fn sound(plan: &Plan, state: &State) -> bool {
 
 /// A task asks for a resource.
 pub fn request(file: &[u8], state: &State, tag: u16, resource: u8) -> (Answer, State) {
-    let mut next = *state;
-    let answer = make_on(file, &mut next, |tables, next| {
-        let row = row_of(tables.figures.plan, tag);
-        tables.request(next, row, resource)
-    });
-    (answer.unwrap_or_else(Answer::Refused), next)
+    on_file(file, state, |plan, next| {
+        request_on(plan, next, tag, resource)
+    })
 }
 
 /// A task gives a resource back.
 pub fn release(file: &[u8], state: &State, tag: u16, resource: u8) -> (Answer, State) {
-    let mut next = *state;
-    let answer = make_on(file, &mut next, |tables, next| {
-        let row = row_of(tables.figures.plan, tag);
-        tables.release(next, row, resource)
-    });
-    (answer.unwrap_or_else(Answer::Refused), next)
+    on_file(file, state, |plan, next| {
+        release_on(plan, next, tag, resource)
+    })
 }
 
 /// A waiting task leaves the line.
 pub fn give_up(file: &[u8], state: &State, tag: u16, resource: u8) -> (Answer, State) {
-    let mut next = *state;
-    let answer = make_on(file, &mut next, |tables, next| {
-        let row = row_of(tables.figures.plan, tag);
-        tables.give_up(next, row, resource)
-    });
-    (answer.unwrap_or_else(Answer::Refused), next)
+    on_file(file, state, |plan, next| {
+        give_up_on(plan, next, tag, resource)
+    })
 }
 
-/// A tick in which nothing happens.
-const IDLE: Answer = Answer::Ticked { cuts: 0, grants: 0 };
-
-/// A tick passes. Where nobody is in line, the plan is all there is to check.
+/// A tick passes.
 pub fn tick(file: &[u8], state: &State) -> (Answer, State) {
-    let mut next = *state;
-    let answer = if next == State::FRESH {
-        read(file).map_or_else(|refusal| Err(refusal.number()), |_| Ok(IDLE))
-    } else {
-        make_on(file, &mut next, |tables, next| Ok(tables.tick(next)))
-    };
-    (answer.unwrap_or_else(Answer::Refused), next)
+    on_file(file, state, tick_on)
 }
 
 /// A checked plan with all that can be known of it before a call. Each call checks the state alone.

@@ -5,12 +5,11 @@
 
 use crate::analysis::{checked, hold_times_of, row_of, sections};
 use crate::analysis::{LOCAL, NOT_DECLARED, UNKNOWN_RESOURCE};
-use crate::machine::{Answer, Line, Standing, State, NONE};
+use crate::machine::{Answer, Line, Standing, State, NONE, NOT_SOUND};
 use crate::{read, Plan, MAX_PROCESSORS, MAX_RESOURCES, MAX_TASKS};
 
 const ALREADY_IN_LINE: u8 = 15;
 const NOT_HOLDING: u8 = 16;
-const NOT_SOUND: u8 = 19;
 const NOT_WAITING: u8 = 23;
 
 impl Line {
@@ -253,9 +252,9 @@ fn end_hold(tables: &Tables, queues: &Queues, state: &mut State, resource: usize
     Some(first)
 }
 
-fn try_request(file: &[u8], state: &mut State, tag: u16, resource: u8) -> Result<Answer, u8> {
-    let answer = read(file);
-    let tables = Tables::of(checked(&answer)?);
+/// As [`request`], on a checked plan, with the state where it is; a refusal leaves it.
+pub fn request_on(plan: &Plan, state: &mut State, tag: u16, resource: u8) -> Result<Answer, u8> {
+    let tables = Tables::of(plan);
     let queues = check_state(&tables, state)?;
     let row = tables.find(tag, resource)?;
     let q = usize::from(resource);
@@ -289,9 +288,9 @@ fn try_request(file: &[u8], state: &mut State, tag: u16, resource: u8) -> Result
     Ok(Answer::Waits { ahead, limit })
 }
 
-fn try_release(file: &[u8], state: &mut State, tag: u16, resource: u8) -> Result<Answer, u8> {
-    let answer = read(file);
-    let tables = Tables::of(checked(&answer)?);
+/// As [`release`], on a checked plan.
+pub fn release_on(plan: &Plan, state: &mut State, tag: u16, resource: u8) -> Result<Answer, u8> {
+    let tables = Tables::of(plan);
     let queues = check_state(&tables, state)?;
     let row = tables.find(tag, resource)?;
     let q = usize::from(resource);
@@ -306,9 +305,9 @@ fn try_release(file: &[u8], state: &mut State, tag: u16, resource: u8) -> Result
     })
 }
 
-fn try_give_up(file: &[u8], state: &mut State, tag: u16, resource: u8) -> Result<Answer, u8> {
-    let answer = read(file);
-    let tables = Tables::of(checked(&answer)?);
+/// As [`give_up`], on a checked plan.
+pub fn give_up_on(plan: &Plan, state: &mut State, tag: u16, resource: u8) -> Result<Answer, u8> {
+    let tables = Tables::of(plan);
     let queues = check_state(&tables, state)?;
     let row = tables.find(tag, resource)?;
     let q = usize::from(resource);
@@ -329,9 +328,9 @@ fn try_give_up(file: &[u8], state: &mut State, tag: u16, resource: u8) -> Result
     Ok(Answer::Left)
 }
 
-fn try_tick(file: &[u8], state: &mut State) -> Result<Answer, u8> {
-    let answer = read(file);
-    let tables = Tables::of(checked(&answer)?);
+/// As [`tick`], on a checked plan.
+pub fn tick_on(plan: &Plan, state: &mut State) -> Result<Answer, u8> {
+    let tables = Tables::of(plan);
     let queues = check_state(&tables, state)?;
     let (mut cuts, mut grants) = (0, 0);
     for resource in 0..usize::from(tables.plan.counts.resources) {
@@ -351,11 +350,16 @@ fn try_tick(file: &[u8], state: &mut State) -> Result<Answer, u8> {
     Ok(Answer::Ticked { cuts, grants })
 }
 
-/// Runs one call on a copy of the state. A call changes it only after its last check.
-fn call(state: &State, change: impl FnOnce(&mut State) -> Result<Answer, u8>) -> (Answer, State) {
+/// Checks a file, and runs one call on a copy of the state. A call changes it only after its last check.
+fn call(
+    file: &[u8],
+    state: &State,
+    change: impl FnOnce(&Plan, &mut State) -> Result<Answer, u8>,
+) -> (Answer, State) {
     let mut next = *state;
-    let answer = change(&mut next).unwrap_or_else(Answer::Refused);
-    (answer, next)
+    let answer = read(file);
+    let made = checked(&answer).and_then(|plan| change(plan, &mut next));
+    (made.unwrap_or_else(Answer::Refused), next)
 }
 
 /// 0 or the plan's refusal, and a fresh state.
@@ -365,19 +369,25 @@ pub fn start(file: &[u8]) -> (u8, State) {
 }
 
 pub fn request(file: &[u8], state: &State, tag: u16, resource: u8) -> (Answer, State) {
-    call(state, |next| try_request(file, next, tag, resource))
+    call(file, state, |plan, next| {
+        request_on(plan, next, tag, resource)
+    })
 }
 
 pub fn release(file: &[u8], state: &State, tag: u16, resource: u8) -> (Answer, State) {
-    call(state, |next| try_release(file, next, tag, resource))
+    call(file, state, |plan, next| {
+        release_on(plan, next, tag, resource)
+    })
 }
 
 pub fn give_up(file: &[u8], state: &State, tag: u16, resource: u8) -> (Answer, State) {
-    call(state, |next| try_give_up(file, next, tag, resource))
+    call(file, state, |plan, next| {
+        give_up_on(plan, next, tag, resource)
+    })
 }
 
 pub fn tick(file: &[u8], state: &State) -> (Answer, State) {
-    call(state, |next| try_tick(file, next))
+    call(file, state, tick_on)
 }
 
 /// The state after a list of calls of three bytes from a fresh state: a letter, a tag and a resource, both 0 after T.

@@ -10,26 +10,11 @@ use machine_state::LineRow;
 use machine_state::Standing;
 use machine_state::State;
 use plan_rules::TaskRow;
-ghost use Prim.Native.Nat.{_<_};
 
 // What a call gave, its answer printed: whether it was refused, and the next state.
 struct Outcome {
     refused: bool,
     state: State,
-}
-
-fn file_end(case: &[u8]) -> usize
-    ensures { λ r. ⌜ r < 70000 ⌝ }
-{
-    2 + given::size(given::word(case, 0))
-}
-
-pub fn file(case: &[u8]) -> &[u8] {
-    given::part(case, 2, file_end(case))
-}
-
-pub fn behind(case: &[u8]) -> &[u8] {
-    given::part(case, file_end(case), case.len())
 }
 
 fn is_refusal(answer: Answer) -> bool {
@@ -238,8 +223,8 @@ fn all(file: &[u8], calls: &[u8], show: bool) -> State {
 
 // A list of calls; what the last state shows; whether a run of the whole list ends there.
 pub fn list(case: &[u8]) {
-    let file = file(case);
-    let calls = behind(case);
+    let file = given::front(case);
+    let calls = given::behind(case);
     let state = all(file, calls, false);
     shown(file, state);
     let end = machine::run(file, calls);
@@ -248,14 +233,14 @@ pub fn list(case: &[u8]) {
 
 // A list of calls, with what the state shows after each.
 pub fn each(case: &[u8]) {
-    all(file(case), behind(case), true);
+    all(given::front(case), given::behind(case), true);
 }
 
 // One call on a given state, and what the next one shows where it is not refused. Its tag has two bytes, so that it can be one
 // that no plan has.
 pub fn one(case: &[u8]) {
-    let file = file(case);
-    let rest = behind(case);
+    let file = given::front(case);
+    let rest = given::behind(case);
     let state = given::state(rest);
     let outcome = call(file, state, given::wide_call(rest, given::STATE));
     let after = outcome.state;

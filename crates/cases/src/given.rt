@@ -64,6 +64,22 @@ pub fn part(s: &[u8], start: usize, end: usize) -> &[u8] {
     &s[0..0]
 }
 
+// Where the part at the front ends whose length stands in two bytes before it.
+fn front_end(s: &[u8]) -> usize
+    ensures { λ r. ⌜ r < 70000 ⌝ }
+{
+    2 + size(word(s, 0))
+}
+
+// That part, and what stands behind it.
+pub fn front(s: &[u8]) -> &[u8] {
+    part(s, 2, front_end(s))
+}
+
+pub fn behind(s: &[u8]) -> &[u8] {
+    part(s, front_end(s), s.len())
+}
+
 // A line of so many bytes at the front, without its end.
 pub fn without_end(s: &[u8], length: usize) -> &[u8] {
     if length == 0 {

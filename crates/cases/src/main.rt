@@ -3,6 +3,7 @@
 mod asked;
 mod called;
 mod given;
+mod lent;
 mod print;
 mod printed;
 mod same;
@@ -112,6 +113,8 @@ fn run_case(record: &[u8]) {
         b'P' => printed::list(case),
         b'O' => printed::from_state(case),
         b'E' => printed::many(case),
+        b'I' => lent::one(case),
+        b'F' => lent::each(case),
         _ => print::text(b"no such case"),
     }
     print::text(b"\n");

@@ -2,6 +2,13 @@
 use crate::given;
 use libc::STDOUT_FILENO;
 use plan::ReadAnswer;
+ghost use Prim.Native.Nat.{_+_, _≤_};
+ghost use lib.ListN.{length};
+
+// A buffer for many numbers, and the most that a space and one of them take.
+const NUMBERS: usize = 4096;
+
+const NUMBER: usize = 21;
 
 pub fn text(s: &[u8]) {
     io::write_all(STDOUT_FILENO, s);
@@ -14,6 +21,39 @@ pub fn digits(n: u64) {
 pub fn number(n: u64) {
     text(b" ");
     digits(n);
+}
+
+// Where the next number goes in a buffer of so many: at its front, once what is there is written, where there is no room behind it.
+fn room(buf: &[u8], at: usize) -> usize
+    requires { ⌜ 21 ≤ length (now buf) ⌝ }
+    ensures { λ r. ⌜ r + 21 ≤ length (now (buf .entry)) ⌝ }
+{
+    if at <= buf.len() - NUMBER {
+        return at;
+    }
+    text(given::part(buf, 0, at));
+    0
+}
+
+// Puts a number behind a space: where it ends.
+fn put(buf: &mut [u8], at: usize, n: u8) -> usize
+    requires { ⌜ at + 21 ≤ length (now buf) ⌝ }
+{
+    let digits = print_text::put(buf, at, b" ");
+    print_text::put_decimal(buf, digits, n as u64)
+}
+
+// Bytes as numbers, in as few writes as the buffer allows.
+pub fn numbers(s: &[u8]) {
+    let mut buf = [0u8; NUMBERS];
+    let mut at = 0;
+    let mut i = 0;
+    while i < s.len() {
+        let free = room(&buf, at);
+        at = put(&mut buf, free, s[i]);
+        i += 1;
+    }
+    text(given::part(&buf, 0, at));
 }
 
 // With a minus where it is below zero.

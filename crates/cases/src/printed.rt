@@ -52,17 +52,17 @@ fn each(file: &[u8], start: State, rest: &[u8]) {
 
 // The calls of a list, from a fresh machine on.
 pub fn list(case: &[u8]) {
-    let file = called::file(case);
+    let file = given::front(case);
     print::text(b"start");
-    each(file, machine::start(file).state, called::behind(case));
+    each(file, machine::start(file).state, given::behind(case));
 }
 
 // The same from a given state on.
 pub fn from_state(case: &[u8]) {
-    let rest = called::behind(case);
+    let rest = given::behind(case);
     print::text(b"state");
     each(
-        called::file(case),
+        given::front(case),
         given::state(rest),
         given::part(rest, given::STATE, rest.len()),
     );
@@ -70,16 +70,16 @@ pub fn from_state(case: &[u8]) {
 
 // Makes calls from a given state on in one go, with so many bytes of the buffer lent for their lines as two bytes behind the state say.
 fn make(case: &[u8], state: State, buf: &mut [u8]) -> Batch {
-    let rest = called::behind(case);
+    let rest = given::behind(case);
     let lent = given::at_most(given::size(given::word(rest, given::STATE)), buf.len());
     let calls = given::part(rest, given::STATE + 2, rest.len());
-    print_calls::lines(called::file(case), state, calls, &mut buf[0..lent])
+    print_calls::lines(given::front(case), state, calls, &mut buf[0..lent])
 }
 
 // What came of many calls: how many of their bytes were made, how long the lines are, whether what lies behind them is as it was, and
 // what the state shows; then the lines. Or why nothing was made.
 pub fn many(case: &[u8]) {
-    let state = given::state(called::behind(case));
+    let state = given::state(given::behind(case));
     let mut buf = [same::FILL; LINES];
     let batch = make(case, state, &mut buf);
     let after = batch.state;
@@ -93,7 +93,7 @@ pub fn many(case: &[u8]) {
     print::number(batch.used as u64);
     print::number(batch.length as u64);
     print::which(same::untouched(&buf, batch.length), b" right", b" wrong");
-    called::shown(called::file(case), after);
+    called::shown(given::front(case), after);
     print::which(batch.length == 0, b"", b"\n");
     print::text(given::without_end(&buf, batch.length));
 }

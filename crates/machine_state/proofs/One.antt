@@ -14,7 +14,7 @@ pub record Shaped (s : State) : Type 0 where
   pub queues : (q : ℕ) → q < mostResources → length (lineAt s q .queue) ≡ mostProcessors
 
 -- states of these lengths that agree in all rows are the same
-same-line : (a b : LineRow) → SameRow a b → length (a .queue) ≡ mostProcessors → length (b .queue) ≡ mostProcessors → a ≡ b
+pub same-line : (a b : LineRow) → SameRow a b → length (a .queue) ≡ mostProcessors → length (b .queue) ≡ mostProcessors → a ≡ b
 same-line a b r m n =
     ap₂ (λ (x : ℕ) (y : List ℕ). record { queued = x; queue = y; «hold_left» = a .«hold_left»; «budget_left» = a .«budget_left» }) (r .queued)
     (ext-getD 0 (a .queue) (b .queue) (m ∙ sym n) (λ j l. r .slots j (rw m at l)))
@@ -31,7 +31,7 @@ same-state s t r m n =
 row-long : (l : Rules.Line) → length (lineOf l .queue) ≡ mostProcessors
 row-long (Rules.line h b queue) = list-length mostProcessors 0 (slotOf queue)
 
-told-shaped : (p : Plan) (s : View) → Shaped (stateOf p s)
+pub told-shaped : (p : Plan) (s : View) → Shaped (stateOf p s)
 told-shaped p s = record {
   tasks = list-length mostTasks 0 (standingOf p s);
   lines = list-length mostResources 0 (λ q. lineOf (s .lines q));

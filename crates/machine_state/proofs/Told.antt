@@ -136,7 +136,7 @@ module _ (p : Plan) (s : View) where
   pub line-at : (q : ℕ) → q < mostResources → lineAt (stateOf p s) q ≡ lineOf (s .lines q)
   line-at q l = list-get mostResources 0 q q (λ r. lineOf (s .lines r)) noLine (omega arith) l
 
-  standing-at : (i : ℕ) → i < mostTasks → standing (stateOf p s .tasks) i ≡ standingOf p s i
+  pub standing-at : (i : ℕ) → i < mostTasks → standing (stateOf p s .tasks) i ≡ standingOf p s i
   standing-at i l = list-get mostTasks 0 i i (standingOf p s) noStanding (omega arith) l
 
 -- two states that agree in all rows that the struct has room for

@@ -10,7 +10,7 @@ ghost use Rattle.folds.specs.Below.{allBelow};
 ghost use Rattle.folds.specs.Bytes.{placedBelow};
 ghost use Rattle.plan_reading.specs.Plan.{planOf, Checked};
 ghost use Rattle.analysis_figures.specs.Figures.{Known};
-ghost use Rattle.machine_state.specs.Shows.{freshState, noneInLine, isIdle, inLineAt, movedUp};
+ghost use Rattle.machine_state.specs.Shows.{freeLine, freshState, noneInLine, isIdle, inLineAt, movedUp};
 ghost use Rattle.machine_state.specs.Inner.{seat, seatCount, Keys, Seats, firstSeat, taskTest, tasksTest, tailTest, queueTest};
 ghost use Rattle.machine_state.specs.Inner.{clockTest, freeTest, lineTest, linesTest, stateTest, InQueue, Unseated, SeatTable};
 ghost use Rattle.machine_state.specs.Inner.{SeatSized, Sized, TaskSeat, QueueCount, QueueRow, LineTables, HeadRow, EightBytes};
@@ -104,16 +104,23 @@ pub fn is_in_line(s: Standing) -> bool
     s.resource != sizes::ABSENT
 }
 
-// Nobody in line.
-pub fn fresh() -> State
-    ensures { λ r. ⌜ r ≡ freshState ⌝ }
+// The row of a free resource.
+pub fn free() -> LineRow
+    ensures { λ r. ⌜ r ≡ freeLine ⌝ }
 {
-    let line = LineRow {
+    LineRow {
         queued: 0,
         queue: [sizes::ABSENT; sizes::PROCESSORS],
         hold_left: 0,
         budget_left: 0,
-    };
+    }
+}
+
+// Nobody in line.
+pub fn fresh() -> State
+    ensures { λ r. ⌜ r ≡ freshState ⌝ }
+{
+    let line = free();
     let standing = idle();
     State {
         lines: [line; sizes::RESOURCES],

@@ -2,6 +2,7 @@
 pub use Rattle.folds.proofs.Ground.{List, _*_, _++_, _+_, _-_, _<_, _∙_, _≡_, _≤_, ap, arith, drop, length, length-drop, length-take, needs}
 pub use Rattle.folds.proofs.Ground.{refl, take, ℕ}
 unfoldable pub use Rattle.folds.specs.Bytes.{digits, rowBytes}
+pub use Rattle.folds.proofs.Fronts.{Front, Rowed, part-more, put-front, rows-all, rows-more, rows-none, rows-part}
 pub use Rattle.plan_rules.specs.Rules.{lengthOf}
 pub use Rattle.plan_rules.proofs.Laws.{counts-facts}
 pub use Rattle.plan_layout.specs.Editions.{edition1}

@@ -6,7 +6,7 @@ use plan_rules::SectionRow;
 use plan_rules::TaskRow;
 ghost use mathlib.Core.Path.{_≡_};
 ghost use mathlib.Core.List.{_++_};
-ghost use Prim.Native.Nat.{_*_, _/_, _%_, _≤_, _<_};
+ghost use Prim.Native.Nat.{_*_, _≤_, _<_};
 ghost use lib.ListN.{length, drop};
 ghost use Rattle.sizes.specs.Sizes.{mostResources, mostSections};
 ghost use Rattle.folds.specs.Bytes.{rowBytes, bytesBelow};
@@ -15,33 +15,6 @@ ghost use Rattle.plan_layout.specs.Layout.{tasksAt, resourceNumbers, sectionNum
 ghost use Rattle.plan_layout.specs.Inner.{taskWidth, resourceWidth, sectionWidth};
 ghost use Rattle.plan_bytes.specs.Encode.{headerBytes, taskBytes, resourceBytes, sectionBytes, fileLength, fileOf};
 ghost use Rattle.plan_bytes.specs.Inner.{HeaderRoom, TasksRoom, FileRoom};
-
-// The low byte of a number.
-fn low(v: usize) -> u8
-    ensures { λ r. ⌜ r ≡ v % 256 ⌝ }
-{
-    (v % 256) as u8
-}
-
-// The high byte of a number of 16 bits.
-fn high(v: usize) -> u8
-    requires { ⌜ v < 65536 ⌝ }
-    ensures { λ r. ⌜ r ≡ v / 256 ⌝ }
-{
-    (v / 256) as u8
-}
-
-// Bytes at the front of the buffer.
-fn put_bytes(buf: &mut [u8], bytes: &[u8])
-    requires { ⌜ length (now bytes) ≤ length (now buf) ⌝ }
-    ensures { λ r. ⌜ now (buf .exit) ≡ now (bytes .entry) ++ drop (length (now (bytes .entry))) (now (buf .entry)) ⌝ }
-{
-    let mut k = 0;
-    while k < bytes.len() {
-        buf[k] = bytes[k];
-        k += 1;
-    }
-}
 
 // The header of a file of len bytes, at the front of the buffer.
 fn put_header(buf: &mut [u8], c: Counts, len: usize)
@@ -57,20 +30,20 @@ fn put_header(buf: &mut [u8], c: Counts, len: usize)
         c.processors,
         c.tasks,
         c.resources,
-        low(sections),
-        high(sections),
+        folds::low(sections),
+        folds::high(sections),
         plan_layout::HEADER as u8,
         0,
-        low(resources_at),
-        high(resources_at),
-        low(sections_at),
-        high(sections_at),
-        low(names_at),
-        high(names_at),
-        low(len),
-        high(len),
+        folds::low(resources_at),
+        folds::high(resources_at),
+        folds::low(sections_at),
+        folds::high(sections_at),
+        folds::low(names_at),
+        folds::high(names_at),
+        folds::low(len),
+        folds::high(len),
     ];
-    put_bytes(buf, &row);
+    folds::put_bytes(buf, &row);
 }
 
 // One task row at the front of the buffer.
@@ -85,12 +58,12 @@ fn put_task(buf: &mut [u8], t: TaskRow)
         t.tag as u8,
         t.priority,
         0,
-        low(period),
-        high(period),
-        low(execution),
-        high(execution),
+        folds::low(period),
+        folds::high(period),
+        folds::low(execution),
+        folds::high(execution),
     ];
-    put_bytes(buf, &row);
+    folds::put_bytes(buf, &row);
 }
 
 // The first n task rows at the front of the buffer.
@@ -112,8 +85,8 @@ fn put_resource(buf: &mut [u8], start: usize, len: u8)
     requires { ⌜ (resourceWidth ≤ length (now buf)) × (start < 65536) ⌝ }
     ensures { λ r. ⌜ now (buf .exit) ≡ rowBytes (formatOf edition1 .resource) (resourceNumbers start len) ++ drop resourceWidth (now (buf .entry)) ⌝ }
 {
-    let row = [low(start), high(start), len, 0];
-    put_bytes(buf, &row);
+    let row = [folds::low(start), folds::high(start), len, 0];
+    folds::put_bytes(buf, &row);
 }
 
 // The first r resource rows at the front of the buffer: each name starts where the last ended.
@@ -138,8 +111,8 @@ fn put_section(buf: &mut [u8], s: SectionRow)
     ensures { λ r. ⌜ now (buf .exit) ≡ rowBytes (formatOf edition1 .section) (sectionNumbers s) ++ drop sectionWidth (now (buf .entry)) ⌝ }
 {
     let ticks = s.length as usize;
-    let row = [s.task, s.resource, low(ticks), high(ticks)];
-    put_bytes(buf, &row);
+    let row = [s.task, s.resource, folds::low(ticks), folds::high(ticks)];
+    folds::put_bytes(buf, &row);
 }
 
 // The first s section rows at the front of the buffer.
@@ -172,5 +145,5 @@ pub fn put_file(c: Counts, rows: Rows, names: &[u8], buf: &mut [u8])
     put_tasks(&mut buf[plan_layout::HEADER..], tasks, folds::wide(c.tasks));
     put_resources(&mut buf[resources_at..], lengths, folds::wide(c.resources));
     put_sections(&mut buf[sections_at..], sections, s);
-    put_bytes(&mut buf[names_at..], names);
+    folds::put_bytes(&mut buf[names_at..], names);
 }

@@ -87,6 +87,16 @@ unsound = 19
 abbrev pub notWaiting : ℕ
 notWaiting = 23
 
+-- ── A state that is lent as an image (document 02 §3) ──
+
+-- 24, "the lent state is shorter than the plan's image"
+abbrev pub shortImage : ℕ
+shortImage = 24
+
+-- 25, "the image is not sound"
+abbrev pub unsoundImage : ℕ
+unsoundImage = 25
+
 -- ── The printing program ──
 
 -- 21, another letter, or T with other bytes

@@ -42,6 +42,11 @@ pub const UNSOUND: u8 = 19;
 
 pub const NOT_WAITING: u8 = 23;
 
+// A state that is lent as an image.
+pub const SHORT_IMAGE: u8 = 24;
+
+pub const UNSOUND_IMAGE: u8 = 25;
+
 // The printing program.
 pub const NO_CALL: u8 = 21;
 

@@ -2,8 +2,8 @@
 use Rattle.plan_bytes.proofs.Ground.{ℕ, _+_, refl, ap, _∙_, length, length-take, length-drop, arith, needs, counts-facts, tasksAt}
 use Rattle.plan_bytes.proofs.Ground.{taskWidth, resourceWidth, sectionWidth, headerBytes}
 use Rattle.plan_rules.proofs.Laws.{InRange}
-use Rattle.plan_bytes.proofs.Put.{Front, put-front, part-more, rows-part, header-length, task-length, resource-length, section-length}
-use Rattle.plan_bytes.proofs.Put.{file-same}
+use Rattle.plan_bytes.proofs.Ground.{Front, put-front, part-more, rows-part}
+use Rattle.plan_bytes.proofs.Put.{header-length, task-length, resource-length, section-length, file-same}
 use Rattle.plan_bytes.proofs.put_file.Statement.{statement}
 use Rattle.plan_bytes.proofs.put_file.Tie as tie
 

@@ -3,7 +3,8 @@ use Rattle.plan_bytes.proofs.Ground.{ℕ, _≤_, _-_, _*_, _≡_, refl,
 use Rattle.plan_bytes.proofs.Ground.{resourceWidth, resourceBytes}
 use Rattle.folds.specs.Below.{sumBelow}
 use Rattle.folds.proofs.Figures.{sum-step}
-use Rattle.plan_bytes.proofs.Put.{Rowed, rows-none, rows-more, rows-all, resource-length}
+use Rattle.plan_bytes.proofs.Ground.{Rowed, rows-none, rows-more, rows-all}
+use Rattle.plan_bytes.proofs.Put.{resource-length}
 use Rattle.plan_bytes.proofs.put_resources.Statement.{statement}
 use Rattle.plan_bytes.proofs.put_resources.Tie as tie
 

@@ -1,6 +1,7 @@
 -- The invariant: the first `i` section rows stand at the front of the buffer, and what lies behind is as it was.
 use Rattle.plan_bytes.proofs.Ground.{_-_, length-take, length-drop, arith, edition1, sectionWidth, sectionBytes}
-use Rattle.plan_bytes.proofs.Put.{Rowed, rows-none, rows-more, rows-all, section-length}
+use Rattle.plan_bytes.proofs.Ground.{Rowed, rows-none, rows-more, rows-all}
+use Rattle.plan_bytes.proofs.Put.{section-length}
 use Rattle.plan_bytes.proofs.put_sections.Statement.{statement}
 use Rattle.plan_bytes.proofs.put_sections.Tie as tie
 

@@ -1,6 +1,7 @@
 -- The invariant: the first `i` task rows stand at the front of the buffer, and what lies behind is as it was.
 use Rattle.plan_bytes.proofs.Ground.{_-_, length-take, length-drop, arith, edition1, taskWidth, taskBytes}
-use Rattle.plan_bytes.proofs.Put.{Rowed, rows-none, rows-more, rows-all, task-length, tag-at}
+use Rattle.plan_bytes.proofs.Ground.{Rowed, rows-none, rows-more, rows-all}
+use Rattle.plan_bytes.proofs.Put.{task-length, tag-at}
 use Rattle.plan_bytes.proofs.put_tasks.Statement.{statement}
 use Rattle.plan_bytes.proofs.put_tasks.Tie as tie
 

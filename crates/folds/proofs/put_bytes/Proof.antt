@@ -1,8 +1,8 @@
 -- The invariant: the first `k` of the bytes stand at the front of the buffer, and what lies behind is as it was.
-use Rattle.plan_bytes.proofs.Ground.{ℕ, _≤_, _<_, _+_, _-_, _≡_, refl, List, _++_, length, take, drop, arith}
-use Rattle.folds.proofs.Ground.{getD, set, length-set, paste-suc, take-length, zero-add, add-one}
-use Rattle.plan_bytes.proofs.put_bytes.Statement.{statement}
-use Rattle.plan_bytes.proofs.put_bytes.Tie as tie
+use Rattle.folds.proofs.Ground.{ℕ, _≤_, _<_, _+_, _-_, _≡_, refl, List, _++_, length, take, drop, arith, getD, set, length-set}
+use Rattle.folds.proofs.Ground.{paste-suc, take-length, zero-add, add-one}
+use Rattle.folds.proofs.put_bytes.Statement.{statement}
+use Rattle.folds.proofs.put_bytes.Tie as tie
 
 one-more : (l s : List ℕ) (k : ℕ) → k < length l → k < length s → set (take k s ++ drop k l) k (getD s k 0) ≡ take (k + 1) s ++ drop (k + 1) l
 one-more l s k hl hs = rw add-one (simp zero-add at (paste-suc l 0 s k 0 (rw zero-add hl) hs))

@@ -1,0 +1,9 @@
+pub mod Ground
+pub mod Rows
+pub mod Wholes
+pub mod Loaded
+pub mod Holding
+pub mod Tested
+pub mod Round
+pub mod Stored
+pub mod Kept

@@ -1,0 +1,5 @@
+pub mod Ground
+pub mod Made
+pub mod Kept
+pub mod Bytes
+pub mod ByValue
