@@ -3,7 +3,6 @@
 Each case has a label, a plan, the lent bytes, a call, its answer and what it leaves, written here by hand from documents 01 and 02; the
 model has to agree. Where a case goes through a long list, or changes each byte of the longest image, what is left is the model's.
 """
-import random
 import re
 from itertools import cycle
 
@@ -37,8 +36,8 @@ def shows(plan, shown):
     return image(plan, lines_of(shown))
 
 
-# Places in a resource row; in an image of PAPER the task rows begin at 46.
-COUNT, HOLDER, HOLD, BUDGET, QUEUE = 0, 1, 2, 4, 6
+# Places in a resource row, which begins with the count.
+HOLDER, HOLD, BUDGET, QUEUE = 1, 2, 4, 6
 
 
 def in_row(q):
@@ -69,7 +68,7 @@ def reached(plan, calls):
 FULL_BUSY = reached(FULL, FULL_CALLS)
 FULL_FRESH = shows(FULL, "nobody")
 BEHIND = bytes([7, 0, 255, 170, 1])
-SOME_BYTES = random.Random(3).randbytes(1600)
+SOME_BYTES = bytes(x ** 3 % 251 for x in range(1, 1601))
 
 # ---- the listing, byte by byte: call, word, the row of the bus, the task rows ----
 
@@ -93,7 +92,7 @@ BYTES = [
     ("R 10 0", NO_WORD, FREE, [255, 255, 255, 255]),
 ]
 
-# ---- single calls: label, plan, what the image shows, call, answer, what it then shows (nothing: it stays) ----
+# ---- single calls: label, plan, what the image shows, call, answer, what it then shows ----
 
 
 def in_turn(n):
@@ -310,7 +309,7 @@ UNSOUND = [(f"{what}: {label}", *rest) for what, rows in [
 # the same counts as LISTING, and the sections the other way round
 OTHER = LISTING._replace(sections=[Section(0, 0, 3), Section(1, 0, 2)])
 # three ticks left of tag 20, which OTHER allows two
-OF_LISTING = shows(LISTING, "0:3/3:1(1)")
+LISTING_HELD = shows(LISTING, "0:3/3:1(1)")
 # two resources and two tasks have the same length as one and nine
 NINE = Plan(1, [Task(0, u, u + 1, 10, 1) for u in range(9)], [b"a"], [])
 TWO = Plan(1, [Task(0, u, u + 1, 10, 1) for u in range(2)], [b"a", b"b"], [])
@@ -324,14 +323,14 @@ STRANGE = [
     ("zeros behind the right counts", PAPER, BUSY[:4] + bytes(58), None),
     ("255s behind the right counts", PAPER, BUSY[:4] + b"\xff" * 58, None),
     ("one byte further on", PAPER, b"\0" + BUSY, None),
-    ("another plan's, with the same counts", OTHER, OF_LISTING, {"above hold time", "above budget"}),
+    ("another plan's, with the same counts", OTHER, LISTING_HELD, {"above hold time", "above budget"}),
     ("another plan's, of the same length", NINE, shows(TWO, "nobody"), None),
     ("another plan's, longer", LISTING, BUSY, None),
+    ("nine queued where eight are listed", EIGHT, changed(shows(EIGHT, "0:8/8:7(7)0(0)6(6)1(1)5(5)2(2)4(4)3(3)"), (4, 9)), {"count"}),
 ]
 
 # ---- each byte changed: label, plan, lent bytes, mask, the three counts ----
 
-LISTING_HELD = shows(LISTING, "0:3/3:1(1)")
 MASKS = [1, 2, 4, 8, 16, 32, 64, 128, 255]
 
 EACH = [
@@ -424,23 +423,27 @@ def state_cases_as_images():
     return found
 
 
+def lists():
+    """Lists of machine_cases, with the calls of each that are to be cases: all, the give-ups, or the last."""
+    for row in machine_cases.AGREED[1:] + machine_cases.REFUSALS[:-1]:
+        yield row, lambda n, call, count: True
+    for row in machine_cases.GIVE_UPS:
+        yield row, lambda n, call, count: call[0] == "W"
+    for row in machine_cases.TURNS + machine_cases.PLACES + machine_cases.WORDS + machine_cases.WIDTHS:
+        yield row, lambda n, call, count: n == count - 1
+
+
 def list_cases():
-    """Lists of machine_cases with their answers, each call on what the last one left; of some only the give-ups, or the last call."""
+    """Calls with the answers that their lists have, each on what the last one left."""
     found = []
-    every = lambda calls: range(len(calls))
-    give_ups = lambda calls: [n for n, ((letter, *_), _) in enumerate(calls) if letter == "W"]
-    last = lambda calls: [len(calls) - 1] if calls else []
-    wanted = [(machine_cases.AGREED[1:] + machine_cases.REFUSALS[:-1], every), (machine_cases.GIVE_UPS, give_ups),
-              (machine_cases.TURNS + machine_cases.PLACES + machine_cases.WORDS + machine_cases.WIDTHS, last)]
-    for lists, which in wanted:
-        for label, plan, text, _ in lists:
-            lent, calls = shows(plan, "nobody"), calls_of(text)
-            for n, (call, answer) in enumerate(calls):
-                second, left = image_model.called(plan, lent, *call)
-                agree(f"{label}, {n}", answer, second)
-                if n in which(calls):
-                    found.append(record(f"list, {label}, call {n}", file(plan), lent, call, answer, left))
-                lent = left
+    for (label, plan, text, _), wanted in lists():
+        lent, calls = shows(plan, "nobody"), calls_of(text)
+        for n, (call, answer) in enumerate(calls):
+            second, left = image_model.called(plan, lent, *call)
+            agree(f"{label}, {n}", answer, second)
+            if wanted(n, call, len(calls)):
+                found.append(record(f"list, {label}, call {n}", file(plan), lent, call, answer, left))
+            lent = left
     return found
 
 

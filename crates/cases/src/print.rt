@@ -23,7 +23,7 @@ pub fn number(n: u64) {
     digits(n);
 }
 
-// Where the next number goes in a buffer of so many: at its front, once what is there is written, where there is no room behind it.
+// Where the next number goes: behind what is in the buffer, or at its front, once that is written, where too little room is left.
 fn room(buf: &[u8], at: usize) -> usize
     requires { ⌜ 21 ≤ length (now buf) ⌝ }
     ensures { λ r. ⌜ r + 21 ≤ length (now (buf .entry)) ⌝ }
