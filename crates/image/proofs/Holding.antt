@@ -4,10 +4,9 @@ use Rattle.image.proofs.Ground.{ltb, length, getD, replicate, length-re
 use Rattle.image.proofs.Ground.{ltb-true, and-parts, by-eq, on-le, anyBelow, mostTasks, mostResources, absent, Plan, Valid, processorOf}
 use Rattle.image.proofs.Ground.{taskRanked, listFrom, queueFrom, full, sole, task-rank, State, Standing, LineRow, lineAt, slot, standing}
 use Rattle.image.proofs.Ground.{rank, shows, holderOf, Good, Whole, holderIn, holderKey, keyAt, holderTable}
-use Rattle.folds.proofs.Ground.{set, getD-set-same, getD-set-other}
 use Rattle.folds.proofs.Tests.{any-at, any-none, is-not-true}
 use Rattle.folds.proofs.Figures.{max-at}
-use Rattle.folds.proofs.Arrays.{stampedBelow, stamped-length}
+use Rattle.folds.proofs.Arrays.{stampedBelow, stamped-length, stamped-where}
 use Rattle.queue_rules.specs.Rules as Rules
 
 -- a test that begins with a bound gives it
@@ -20,27 +19,6 @@ pub holder-ranked : (n : ℕ) (R : ℕ → ℕ → ℕ) (g : ℕ → ℕ) (c h b
 unfolding listFrom
 holder-ranked n R g zero h b = refl
 holder-ranked n R g (suc c) h b = rw (ne-eqb (suc c) 0 (λ e. omega arith))
-
--- where the values at the key x are all w, that is what stands there if x is a key
-pub stamped-where : (n : ℕ) (f v : ℕ → ℕ) (l : List ℕ) (x w d : ℕ) → x < length l → ((k : ℕ) → k < n → f k ≡ x → v k ≡ w)
-    → getD (stampedBelow n f v l) x d ≡ cond (anyBelow n (λ k. eqb (f k) x)) w (getD l x d)
-unfolding stampedBelow anyBelow
-stamped-where zero f v l x w d b h = refl
-stamped-where (suc n) f v l x w d b h =
-    let g : List ℕ = stampedBelow n f v l in
-    let a : Bool = anyBelow n (λ k. eqb (f k) x) in
-    let ih : getD g x d ≡ cond a w (getD l x d) = stamped-where n f v l x w d b (λ k lt. h k (omega arith)) in
-    by-eq (λ (t : Bool). getD (set g (f n) (v n)) x d ≡ cond (a || t) w (getD l x d)) (f n) x
-    (λ e. rw (e, or-right a) (getD-set-same g x (v n) d (rw (stamped-length n f v l) b) ∙ h n (omega arith) e))
-    (λ ne. getD-set-other g (f n) x (v n) d (λ e. ne (sym e)) ∙ ih ∙ ap (λ (t : Bool). cond t w (getD l x d)) (sym (or-left a)))
-  where
-    or-right : (t : Bool) → (t || true) ≡ true
-    or-right true = refl
-    or-right false = refl
-
-    or-left : (t : Bool) → (t || false) ≡ t
-    or-left true = refl
-    or-left false = refl
 
 module _ (p : Plan) (v : Valid p) (s : State) (w : Whole p s) where
   -- task u is put at q exactly where it is the first of the head

@@ -10,16 +10,11 @@ use Rattle.image.proofs.Ground.{standingNumbers, holderIn, imageWith, i
 use Rattle.image.proofs.Ground.{lineIn, holderAt, standingIn, countsFit, filled, absentFilled, freeFilled, taskFilled, placeFits}
 use Rattle.image.proofs.Ground.{holderFits, imageSound, all-from, both, whole-of}
 use Rattle.folds.proofs.Ground.{[], not, getD-drop, take-add, take-append-drop, zero, suc}
+use Rattle.folds.proofs.Parts.{bytes-same}
 use Rattle.folds.proofs.RowLaws.{fields-forth}
 use Rattle.image.proofs.Rows.{rows-long}
 use Rattle.image.proofs.Holding.{holder-ranked}
 use Rattle.image.proofs.Tested.{line-loaded, standing-loaded}
-
--- rows that agree have the same bytes
-pub bytes-same : (n : ℕ) (f g : ℕ → List ℕ) → ((k : ℕ) → k < n → f k ≡ g k) → bytesBelow n f ≡ bytesBelow n g
-unfolding bytesBelow
-bytes-same zero f g h = refl
-bytes-same (suc n) f g h = ap₂ _++_ (bytes-same n f g (λ k l. h k (omega arith))) (h n (omega arith))
 
 -- the bytes of a row in an image are those of the numbers read there
 line-read : (b : List ℕ) (q : ℕ) → lineNumbers (lineIn b q) (holderAt b q) ≡ rowAt lineWidths (drop linesFrom b) q

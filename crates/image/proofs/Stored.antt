@@ -3,8 +3,9 @@ use Rattle.image.proofs.Ground.{ℕ, _<_, true, _≡_, ap₂, _∙_, Li
 use Rattle.image.proofs.Ground.{State, lineAt, standing, shows, sound, lineOf, standingOf, SameRow, line-at, standing-at, rows-told}
 use Rattle.image.proofs.Ground.{whole-of, imageLength, imageWith, holderIn, headBytes, lineBytes, standingBytes, imageOf, lineRow}
 use Rattle.image.proofs.Ground.{standingRow, holderTable, sym, ap}
+use Rattle.folds.proofs.Parts.{bytes-same}
 use Rattle.image.proofs.Holding.{table-at}
-use Rattle.image.proofs.Round.{bytes-same, same-bytes}
+use Rattle.image.proofs.Round.{same-bytes}
 
 pub stored-same : {n m : ℕ} {t : List ℕ} (p : Plan) → Valid p → (s : State) → sound p s ≡ true → (b : List ℕ)
     → n ≡ p .resources → m ≡ p .tasks → t ≡ holderTable p s

@@ -30,13 +30,15 @@ lineNumbers l holder = l .queued ∷ holder ∷ l .«hold_left» ∷ l .«budget
 abbrev pub standingNumbers : Standing → List ℕ
 standingNumbers s = s .resource ∷ s .place ∷ []
 
--- their bytes
+-- the first four bytes
 unfoldable pub headBytes : Plan → List ℕ
 headBytes p = rowBytes headWidths (headNumbers p)
 
+-- the bytes of a resource row
 unfoldable pub lineBytes : LineRow → ℕ → List ℕ
 lineBytes l holder = rowBytes lineWidths (lineNumbers l holder)
 
+-- and of a task row
 unfoldable pub standingBytes : Standing → List ℕ
 standingBytes s = rowBytes standingWidths (standingNumbers s)
 
@@ -65,13 +67,15 @@ lineFrom vs = record { queued = getD vs 0 0; queue = drop 4 vs; «hold_left» = 
 abbrev pub standingFrom : List ℕ → Standing
 standingFrom vs = record { resource = getD vs 0 0; place = getD vs 1 0 }
 
--- the row of resource q in an image, the holder's number in it, and the row of task i
+-- the row of resource q in an image
 unfoldable pub lineIn : List ℕ → ℕ → LineRow
 lineIn b q = lineFrom (rowAt lineWidths (drop linesFrom b) q)
 
+-- the holder's number in it
 unfoldable pub holderAt : List ℕ → ℕ → ℕ
 holderAt b q = getD (rowAt lineWidths (drop linesFrom b) q) 1 0
 
+-- the row of task i
 unfoldable pub standingIn : Plan → List ℕ → ℕ → Standing
 standingIn p b i = standingFrom (rowAt standingWidths (drop (standingsFrom p) b) i)
 

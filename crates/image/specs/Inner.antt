@@ -19,10 +19,11 @@ use Rattle.image.specs.Layout.{linesFrom, imageLength}
 use Rattle.image.specs.Image.{lineBytes, standingBytes, lineIn, holderAt, standingIn}
 use Rattle.image.specs.Sound.{countsFit}
 
--- the widths of rows as numbers
+-- the width of a resource row as a number
 abbrev pub lineWidth : ℕ
 lineWidth = 14
 
+-- and of a task row
 abbrev pub standingWidth : ℕ
 standingWidth = 2
 
@@ -106,9 +107,10 @@ pub record StandingsPut (n : ℕ) (buf : List ℕ) : Type 0 where
 unfoldable pub holderTable : Plan → State → List ℕ
 holderTable p s = stampedBelow (p .tasks) (keyAt p s) (λ u. u) (replicate (mostResources + 1) absent)
 
--- the bytes of the rows of a state, with a table of holders
+-- the bytes of the row of resource q of a state, with a table of holders
 abbrev pub lineRow : List LineRow → List ℕ → ℕ → List ℕ
 lineRow ls holders q = lineBytes (getD ls q noLine) (getD holders q 0)
 
+-- and of the row of task i
 abbrev pub standingRow : List Standing → ℕ → List ℕ
 standingRow ts i = standingBytes (standing ts i)

@@ -14,7 +14,7 @@ pub record Shaped (s : State) : Type 0 where
   pub queues : (q : ℕ) → q < mostResources → length (lineAt s q .queue) ≡ mostProcessors
 
 -- states of these lengths that agree in all rows are the same
-pub same-line : (a b : LineRow) → SameRow a b → length (a .queue) ≡ mostProcessors → length (b .queue) ≡ mostProcessors → a ≡ b
+same-line : (a b : LineRow) → SameRow a b → length (a .queue) ≡ mostProcessors → length (b .queue) ≡ mostProcessors → a ≡ b
 same-line a b r m n =
     ap₂ (λ (x : ℕ) (y : List ℕ). record { queued = x; queue = y; «hold_left» = a .«hold_left»; «budget_left» = a .«budget_left» }) (r .queued)
     (ext-getD 0 (a .queue) (b .queue) (m ∙ sym n) (λ j l. r .slots j (rw m at l)))

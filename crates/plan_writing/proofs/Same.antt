@@ -9,7 +9,7 @@ use Rattle.folds.specs.Below.{allBelow}
 use Rattle.folds.specs.Bytes.{width}
 use Rattle.folds.proofs.Tests.{code-next}
 use Rattle.folds.proofs.Figures.{sum-bound}
-use Rattle.folds.proofs.Parts.{bytes-length}
+use Rattle.folds.proofs.Parts.{bytes-length, bytes-same}
 use Rattle.folds.proofs.RowLaws.{row-length, rows-back, rows-forth}
 use Rattle.plan_rules.specs.Rules.{tagNew, priorityNew, lengthsOk, bytesOk, differ, nameNew, namesDiffer, sectionSum}
 use Rattle.plan_rules.specs.declared.SectionRow.{SectionRow}
@@ -103,19 +103,11 @@ module _ (ws : List ℕ) (g : ℕ → List ℕ) (n : ℕ) where
   rows-stand f a b at p e q la i l =
       rw (q, drop-at a (bytesBelow n (λ k. rowBytes ws (g k)) ++ b) at la) (rows-back ws g n i b p (e i) l)
 
--- rows with the same numbers have the same bytes
-bytes-same : (ws : List ℕ) (g h : ℕ → List ℕ) (n : ℕ) → ((i : ℕ) → i < n → h i ≡ g i)
-    → bytesBelow n (λ k. rowBytes ws (g k)) ≡ bytesBelow n (λ k. rowBytes ws (h k))
-unfolding bytesBelow
-bytes-same ws g h zero e = refl
-bytes-same ws g h (suc n) e =
-    ap₂ _++_ (bytes-same ws g h n (λ i l. e i (omega arith))) (ap (rowBytes ws) (sym (e n (omega arith))))
-
 -- written behind the file up to where they stand, rows make the file up to their end
 pub rows-joined : (ws : List ℕ) (g : ℕ → List ℕ) (n : ℕ) (f : List ℕ) (at end : ℕ) {x : List ℕ} → Bytes f → Stand ws g n f at
     → at + n * width ws ≡ end → end ≤ length f → x ≡ take at f → x ++ bytesBelow n (λ k. rowBytes ws (g k)) ≡ take end f
 rows-joined ws g n f at end b h e l q =
     let part : List ℕ = drop at f in
     let bytes : bytesBelow n (λ k. rowBytes ws (g k)) ≡ take (n * width ws) part =
-    bytes-same ws g (rowAt ws part) n h ∙ rows-forth ws part n (λ i. rw getD-drop (b (at + i))) (omega (arith, length-drop at f)) in
+    bytes-same n (λ k. rowBytes ws (g k)) (λ k. rowBytes ws (rowAt ws part k)) (λ i l. ap (rowBytes ws) (sym (h i l))) ∙ rows-forth ws part n (λ i. rw getD-drop (b (at + i))) (omega (arith, length-drop at f)) in
     rw (q, bytes, ← e, take-add)

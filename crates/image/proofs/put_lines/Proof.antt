@@ -16,7 +16,8 @@ put-line-requires c κs = simp (length-take, length-drop) (omega arith)
 loop-again : tie.Need-loop-again Inv-loop μ-loop
 loop-again c =
     let p = c .before .before in
-    let l = p .before .before .before .before .before in
+    let s = p .before .before in
+    let l = s .before .before .before in
     rows-more (λ k. line-length _ _) (l .loop .inv) (p .put-line .ensures) (omega arith) (omega arith)
 
 pub put-lines-spec : {M : Type 1} → statement M

@@ -28,7 +28,8 @@ long a = (search (needs, length-mapped), search (needs, length-mapped))
 
 put-lines-requires : tie.Need-put-lines-requires
 put-lines-requires c κs =
-    let p = c .before .before .before .before .before in
+    let i = c .before .before in
+    let p = i .before .before .before in
     let h = tabled p in
     let v = valid h in
     let n = c .wide .ensures .same in
