@@ -1,12 +1,12 @@
 -- Who holds: the table of holders, and the holder's number in a row, against the first task of the head.
-use Rattle.image.proofs.Ground.{ℕ, zero, suc, _+_, _%_, _<_, _≤_, Bool, true, false, cond, _&&_, _||_, _≡_, refl, sym, ap, _∙_, List, eqb}
+use Rattle.image.proofs.Ground.{ℕ, zero, suc, _+_, _%_, _<_, Bool, true, false, cond, _&&_, _≡_, refl, sym, ap, _∙_, eqb}
 use Rattle.image.proofs.Ground.{ltb, length, getD, replicate, length-replicate, getD-replicate, arith, eqb-true, eq-eqb, ne-eqb, lt-ltb}
-use Rattle.image.proofs.Ground.{ltb-true, and-parts, by-eq, on-le, anyBelow, mostTasks, mostResources, absent, Plan, Valid, processorOf}
-use Rattle.image.proofs.Ground.{taskRanked, listFrom, queueFrom, full, sole, task-rank, State, Standing, LineRow, lineAt, slot, standing}
-use Rattle.image.proofs.Ground.{rank, shows, holderOf, Good, Whole, holderIn, holderKey, keyAt, holderTable}
+use Rattle.image.proofs.Ground.{ltb-true, and-parts, by-eq, anyBelow, mostResources, absent, Plan, Valid, processorOf}
+use Rattle.image.proofs.Ground.{taskRanked, listFrom, queueFrom, full, sole, task-rank, State, Standing, lineAt, slot, standing}
+use Rattle.image.proofs.Ground.{rank, shows, Good, Whole, holderIn, holderKey, keyAt, holderTable}
 use Rattle.folds.proofs.Tests.{any-at, any-none, is-not-true}
 use Rattle.folds.proofs.Figures.{max-at}
-use Rattle.folds.proofs.Arrays.{stampedBelow, stamped-length, stamped-where}
+use Rattle.folds.proofs.Arrays.{stamped-length, stamped-where}
 use Rattle.queue_rules.specs.Rules as Rules
 
 -- a test that begins with a bound gives it

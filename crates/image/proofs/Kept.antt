@@ -1,7 +1,7 @@
 -- The image of a sound state is sound, and as long as the bytes that it was put into.
-use Rattle.image.proofs.Ground.{ℕ, _<_, _≤_, true, _≡_, sym, ap, _∙_, List, [], length, drop, all-from, mostTasks, mostResources, Plan, Valid}
+use Rattle.image.proofs.Ground.{ℕ, _≤_, true, _≡_, sym, ap, _∙_, List, [], length, drop, all-from, mostTasks, mostResources, Plan, Valid}
 use Rattle.image.proofs.Ground.{View, State, lineAt, slot, rank, shows, sound, lineOf, standingOf, both, imageLength, imageWith, imageOf}
-use Rattle.image.proofs.Ground.{holderIn, stateIn, shownIn, countsFit, imageSound, fitTest, holderTest}
+use Rattle.image.proofs.Ground.{holderIn, stateIn, countsFit, imageSound, fitTest, holderTest}
 use Rattle.folds.proofs.Parts.{put-length}
 use Rattle.image.proofs.Rows.{head-back, rows-long}
 use Rattle.image.proofs.Loaded.{loaded-sound, loaded-shows, holder-in}

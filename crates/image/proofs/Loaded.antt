@@ -1,10 +1,10 @@
 -- The image of a sound state shows that state: what is stored and then loaded is the same, and sound.
-use Rattle.image.proofs.Ground.{ℕ, _+_, _<_, _≤_, true, _≡_, refl, sym, ap, _∙_, ⊎-elim, List, length, getD, length-replicate}
-use Rattle.image.proofs.Ground.{getD-replicate, ext-getD, arith, on-le, placedBelow, placed-length, placed-at, placed-later}
-use Rattle.image.proofs.Ground.{mostTasks, mostResources, mostProcessors, Plan, Valid, taskRanked, listFrom, list-length, queueFrom, turnOf}
-use Rattle.image.proofs.Ground.{full, task-rank, State, Standing, LineRow, freeLine, freshState, lineAt, noLine, noStanding, noneInLine}
-use Rattle.image.proofs.Ground.{slot, standing, rank, shows, sound, lineOf, slotOf, stateOf, standingOf, Good, Whole, SameRows, line-at}
-use Rattle.image.proofs.Ground.{standing-at, rows-told, hold-resource, hold-task, whole-of, sound-of, View, imageWith, stateIn, holderIn}
+use Rattle.image.proofs.Ground.{ℕ, _<_, _≤_, true, _≡_, sym, ap, _∙_, ⊎-elim, List, length, getD, length-replicate}
+use Rattle.image.proofs.Ground.{getD-replicate, ext-getD, arith, on-le, placed-length, placed-at, placed-later}
+use Rattle.image.proofs.Ground.{mostTasks, mostResources, Plan, Valid, taskRanked, listFrom, queueFrom}
+use Rattle.image.proofs.Ground.{full, task-rank, State, freeLine, freshState, lineAt, noLine, noStanding, noneInLine}
+use Rattle.image.proofs.Ground.{slot, standing, rank, shows, sound, lineOf, stateOf, standingOf, Good, Whole, line-at}
+use Rattle.image.proofs.Ground.{standing-at, rows-told, hold-resource, hold-task, whole-of, sound-of, imageWith, stateIn, holderIn}
 use Rattle.image.proofs.Ground.{lineIn, holderAt, standingIn, standingFrom, imageOf, lineFrom, imageLength, drop, shownIn}
 use Rattle.queue_rules.specs.Rules as Rules
 use Rattle.queue_ranks.proofs.Ranked.{owner}

@@ -1,18 +1,17 @@
 -- The other way round: what is loaded from a sound image and stored again is the same bytes; so two images that show the same are the same.
 -- And the image of a sound state is sound.
 use Rattle.image.proofs.Ground.{ℕ, _+_, _*_, _<_, _≤_, Bool, true, cond, _&&_, _||_, _≡_, refl, sym, ap, ap₂, _∙_, List, _∷_, _++_, eqb}
-use Rattle.image.proofs.Ground.{length, getD, take, drop, length-append, length-drop, arith, eqb-true, eq-eqb, ne-eqb, and-parts, all-at}
-use Rattle.image.proofs.Ground.{by-eq, allBelow, bytesBelow, rowAt, rowBytes, fields, number, digits, width, Bytes, rows-forth}
-use Rattle.image.proofs.Ground.{mostProcessors, mostTasks, mostResources, absent, Plan, Valid, listFrom, list-same, State, LineRow, lineAt}
-use Rattle.image.proofs.Ground.{slot, standing, rank, shows, sound, holderOf, lineOf, standingOf, SameRow, line-at, standing-at, rows-told}
-use Rattle.image.proofs.Ground.{headWidths, lineWidths, standingWidths, linesFrom, standingsFrom, imageLength, headNumbers, lineNumbers}
+use Rattle.image.proofs.Ground.{length, getD, take, drop, length-drop, arith, eqb-true, and-parts, all-at}
+use Rattle.image.proofs.Ground.{by-eq, allBelow, bytesBelow, rowAt, rowBytes, fields, number, width, Bytes, rows-forth}
+use Rattle.image.proofs.Ground.{mostProcessors, mostTasks, mostResources, absent, Plan, Valid, listFrom, list-same, LineRow}
+use Rattle.image.proofs.Ground.{slot, rank, shows, sound, holderOf, lineOf, standingOf, SameRow, line-at, standing-at, rows-told}
+use Rattle.image.proofs.Ground.{headWidths, lineWidths, standingWidths, linesFrom, standingsFrom, imageLength, lineNumbers}
 use Rattle.image.proofs.Ground.{standingNumbers, holderIn, imageWith, imageOf, headBytes, lineBytes, standingBytes, stateIn, shownIn}
 use Rattle.image.proofs.Ground.{lineIn, holderAt, standingIn, countsFit, filled, absentFilled, freeFilled, taskFilled, placeFits}
-use Rattle.image.proofs.Ground.{holderFits, imageSound, all-from, both, whole-of}
-use Rattle.folds.proofs.Ground.{[], not, getD-drop, take-add, take-append-drop, zero, suc}
+use Rattle.image.proofs.Ground.{holderFits, imageSound}
+use Rattle.folds.proofs.Ground.{[], not, getD-drop, take-add, take-append-drop}
 use Rattle.folds.proofs.Parts.{bytes-same}
 use Rattle.folds.proofs.RowLaws.{fields-forth}
-use Rattle.image.proofs.Rows.{rows-long}
 use Rattle.image.proofs.Holding.{holder-ranked}
 use Rattle.image.proofs.Tested.{line-loaded, standing-loaded}
 

@@ -1,7 +1,7 @@
 -- The rows of an image: what is put into bytes is what is read there, once over the number of a row.
-use Rattle.image.proofs.Ground.{ℕ, _+_, _*_, _<_, true, _≡_, refl, sym, ap, ap₂, _∙_, List, _++_, append-assoc, length, getD, drop, drop-at}
+use Rattle.image.proofs.Ground.{ℕ, _+_, _*_, _<_, true, _≡_, refl, sym, ap, ap₂, _∙_, List, _++_, append-assoc, length, drop, drop-at}
 use Rattle.image.proofs.Ground.{length-append, arith, eq-eqb, bytesBelow, rowAt, rowBytes, digits, width, bytes-length, row-length}
-use Rattle.image.proofs.Ground.{rows-back, solid, mostProcessors, Plan, listFrom, list-get, list-length, list-same, LineRow, Standing}
+use Rattle.image.proofs.Ground.{rows-back, solid, mostProcessors, Plan, listFrom, list-get, list-same, LineRow, Standing}
 use Rattle.image.proofs.Ground.{slot, slotOf, lineOf, lineWidths, standingWidths, linesFrom, standingsFrom, imageLength, headNumbers}
 use Rattle.image.proofs.Ground.{lineNumbers, standingNumbers, lineFrom, headBytes, lineBytes, standingBytes, countsFit, headWidths}
 use Rattle.image.proofs.Ground.{_-_, take, drop-drop, fields, part-rest}

@@ -2,7 +2,7 @@
 use Rattle.image.proofs.Ground.{ℕ, _<_, true, _≡_, ap₂, _∙_, List, _++_, drop, arith, bytesBelow, mostTasks, mostResources, Plan, Valid}
 use Rattle.image.proofs.Ground.{State, lineAt, standing, shows, sound, lineOf, standingOf, SameRow, line-at, standing-at, rows-told}
 use Rattle.image.proofs.Ground.{whole-of, imageLength, imageWith, holderIn, headBytes, lineBytes, standingBytes, imageOf, lineRow}
-use Rattle.image.proofs.Ground.{standingRow, holderTable, sym, ap}
+use Rattle.image.proofs.Ground.{standingRow, holderTable, ap}
 use Rattle.folds.proofs.Parts.{bytes-same}
 use Rattle.image.proofs.Holding.{table-at}
 use Rattle.image.proofs.Round.{same-bytes}

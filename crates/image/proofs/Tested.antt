@@ -1,12 +1,12 @@
 -- An image is sound exactly where it passes the tests of the code: its counts and offsets, the holder's number in each row, and the state
 -- that it shows.
 use Rattle.image.proofs.Ground.{ℕ, _+_, _<_, _≤_, Bool, true, false, cond, _&&_, _||_, not, or-true, _≡_, refl, sym, ap, _∙_, ⊎-elim, List}
-use Rattle.image.proofs.Ground.{eqb, ltb, length, length-replicate, arith, eqb-true, eq-eqb, ne-eqb, lt-ltb, le-ltb, ltb-true, and-parts}
-use Rattle.image.proofs.Ground.{is-not-true, same-test, all-at, all-from, by-eq, on-eq, on-le, allBelow, placed-at, placed-length}
-use Rattle.image.proofs.Ground.{mostProcessors, mostTasks, mostResources, absent, Plan, Valid, processorOf, global, uses, taskRanked, full}
-use Rattle.image.proofs.Ground.{sole, task-rank, State, Standing, LineRow, freshState, freeLine, noneInLine, noLine, noStanding, isIdle}
+use Rattle.image.proofs.Ground.{eqb, ltb, length-replicate, arith, eqb-true, eq-eqb, ne-eqb, lt-ltb, le-ltb, and-parts}
+use Rattle.image.proofs.Ground.{same-test, all-at, all-from, by-eq, on-eq, on-le, allBelow, placed-at}
+use Rattle.image.proofs.Ground.{mostProcessors, mostTasks, absent, Plan, Valid, processorOf, global, uses, taskRanked, full}
+use Rattle.image.proofs.Ground.{sole, task-rank, State, Standing, LineRow, freshState, noneInLine, noLine, noStanding, isIdle}
 use Rattle.image.proofs.Ground.{lineAt, slot, standing, rank, idle, alone, backed, holderOf, taskFits, sound, Good, Whole, both, rank-own}
-use Rattle.image.proofs.Ground.{hold-task, hold-resource, whole-of, stateIn, lineIn, holderAt, standingIn, absentFilled, freeFilled}
+use Rattle.image.proofs.Ground.{hold-resource, whole-of, stateIn, lineIn, holderAt, standingIn, absentFilled, freeFilled}
 use Rattle.image.proofs.Ground.{taskFilled, placeFits, holderFits, filled, countsFit, imageSound, first, holderTest, fitTest}
 use Rattle.folds.proofs.Ground.{true≢false}
 use Rattle.folds.proofs.Tests.{or-out}

@@ -1,7 +1,7 @@
 -- States that agree in all rows that the struct has room for, and in the list of their tasks, are sound together and show the same.
-use Rattle.image.proofs.Ground.{ℕ, _<_, _≤_, true, _≡_, sym, ap, _∙_, List, length, arith, fun-ext, on-le, mostResources, Plan, Valid}
-use Rattle.image.proofs.Ground.{queueFrom, turnOf, listFrom, list-same, State, LineRow, lineAt, noLine, slot, rank, shows, sound}
-use Rattle.image.proofs.Ground.{View, Good, Whole, SameRow, SameRows, sound-of}
+use Rattle.image.proofs.Ground.{ℕ, _<_, _≡_, sym, ap, _∙_, List, length, arith, fun-ext, on-le, mostResources, Plan}
+use Rattle.image.proofs.Ground.{queueFrom, turnOf, list-same, State, lineAt, noLine, slot, rank, shows, sound}
+use Rattle.image.proofs.Ground.{Good, Whole, SameRow, SameRows}
 use Rattle.folds.proofs.Ground.{List·getD-eq-default}
 use Rattle.queue_rules.specs.Rules as Rules
 use Rattle.queue_rules.specs.Rules.{Turn}

@@ -2,7 +2,7 @@
 -- task queue have no gap and no repeat, and the state it shows is sound." Each of these by itself; the last says the two before it
 -- again, of the state by value.
 use Prim.Native.Nat.{ℕ}
-use mathlib.Core.Bool.{Bool, cond, _&&_, _||_, not}
+use mathlib.Core.Bool.{Bool, _&&_, _||_, not}
 use mathlib.Core.List.{List}
 use lib.Dec.{eqb, ltb}
 use lib.ListN.{getD}

@@ -1,7 +1,7 @@
 -- A call on an image is the same call by value on the state that the image shows: the same refusal and answer, and what it leaves shows
 -- the next state of that call.
-use Rattle.image_calls.proofs.Ground.{ℕ, true, _≡_, refl, sym, _∙_, List, eq-eqb, refusal, Accepted, accepted-valid, planOf, Call, callCode}
-use Rattle.image_calls.proofs.Ground.{step, shows, sound, ap, Bool, by-eq, ne-eqb, shownIn, stateIn, imageSound, image-state}
+use Rattle.image_calls.proofs.Ground.{ℕ, true, _≡_, _∙_, List, eq-eqb, refusal, Accepted, accepted-valid, planOf, Call}
+use Rattle.image_calls.proofs.Ground.{shows, sound, ap, ne-eqb, stateIn, image-state}
 use Rattle.image_calls.proofs.Ground.{imageRefusal, imageCallRefusal, imageReply, imageAfter, NextImage}
 use Rattle.machine.specs.Replies.{callRefusal, reply, Next}
 use Rattle.image_calls.proofs.Made.{own-code}

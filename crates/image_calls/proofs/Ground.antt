@@ -1,20 +1,18 @@
 -- The names that the proofs of this crate share, by one module: a definition that moves is named anew here alone.
-pub use Rattle.folds.proofs.Ground.{Bool, List, [], _*_, _++_, _+_, _-_, _<_, _∙_, _∷_, _≡_, _≤_, ap, arith, cond, eq-eqb, eqb, false, getD}
-pub use Rattle.folds.proofs.Ground.{le-leb, leb, length, lt-leb, ne-eqb, needs, not-false, not-true, refl, sym, true, ℕ}
+pub use Rattle.folds.proofs.Ground.{List, _*_, _++_, _+_, _-_, _<_, _∙_, _≡_, _≤_, ap, arith, eq-eqb, false, getD}
+pub use Rattle.folds.proofs.Ground.{le-leb, length, lt-leb, ne-eqb, needs, not-false, not-true, refl, sym, true, ℕ}
 pub use Rattle.folds.proofs.Tests.{code-zero, first-zero, then-zero}
-pub use Rattle.folds.proofs.Arrays.{by-eq}
 unfoldable pub use Rattle.plan.specs.Acceptance.{refusal}
 pub use Rattle.plan.specs.Acceptance.{Accepted}
 pub use Rattle.plan.proofs.Laws.{accepted-checked, accepted-valid}
-pub use Rattle.plan_reading.specs.Plan.{Checked, Plan, Valid}
+pub use Rattle.plan_reading.specs.Plan.{Valid}
 unfoldable pub use Rattle.plan_reading.specs.Plan.{planOf}
 pub use Rattle.plan_reading.proofs.Laws.{valid-plan}
 pub use Rattle.sizes.specs.Sizes.{mostResources, mostTasks}
 pub use Rattle.refusals.specs.Numbers.{shortImage, unsoundImage}
 pub use Rattle.machine_rules.specs.declared.Call.{Call}
-pub use Rattle.machine_rules.specs.declared.Answer.{Answer}
 pub use Rattle.machine_rules.specs.declared.Answer.the-variants.{Refused}
-pub use Rattle.machine_rules.specs.Machine.{View, acceptedAnswer, after, callCode, effect, fresh}
+pub use Rattle.machine_rules.specs.Machine.{View, after, callCode}
 unfoldable pub use Rattle.machine_rules.specs.Machine.{answer, step}
 pub use Rattle.machine_state.specs.declared.State.{State}
 pub use Rattle.machine_state.specs.Shows.{freshState}
@@ -33,5 +31,5 @@ pub use Rattle.image.proofs.Round.{image-state}
 pub use Rattle.image.proofs.Tested.{image-tested}
 pub use Rattle.image_calls.specs.Replies.{NextImage, StartedImage}
 unfoldable pub use Rattle.image_calls.specs.Replies.{imageAfter, imageCallRefusal, imageRefusal, imageReply, imageStarted, lentRefusal}
-pub use Rattle.image_calls.specs.Promise.{ImagePromise, ImageRan, LeftBy, begun, called}
-pub use Rattle.image_calls.specs.Inner.{Made, OnLent}
+pub use Rattle.image_calls.specs.Promise.{ImageRan, LeftBy, begun, called}
+pub use Rattle.image_calls.specs.Inner.{Made}

@@ -1,8 +1,8 @@
 -- The promise for images: each image that calls leave is sound, and shows what the rules make of the calls.
-use Rattle.image_calls.proofs.Ground.{ℕ, _<_, true, _≡_, refl, sym, ap, _∙_, List, [], _∷_, _++_, length, getD, ne-eqb, first-zero, then-zero}
-use Rattle.image_calls.proofs.Ground.{code-zero, refusal, Accepted, accepted-valid, planOf, Plan, mostResources, Call, View, callCode}
+use Rattle.image_calls.proofs.Ground.{ℕ, _<_, true, _≡_, refl, sym, ap, _∙_, List, length, getD, ne-eqb, first-zero, then-zero}
+use Rattle.image_calls.proofs.Ground.{code-zero, refusal, accepted-valid, planOf, mostResources, Call, View}
 use Rattle.image_calls.proofs.Ground.{step, answer, after, freshState, sound, shownIn, stateIn, imageSound, image-state, lentRefusal}
-use Rattle.image_calls.proofs.Ground.{imageRefusal, imageCallRefusal, imageReply, imageAfter, LeftBy, begun, called, ImagePromise, ImageRan}
+use Rattle.image_calls.proofs.Ground.{imageRefusal, imageCallRefusal, imageReply, imageAfter, LeftBy, begun, called, ImageRan}
 use Rattle.folds.proofs.Ground.{length-replicate}
 use Rattle.folds.proofs.Arrays.{placed-length}
 use Rattle.machine_rules.proofs.OnceLines.{Orderly}

@@ -1,10 +1,10 @@
 -- What a start and a call make of lent bytes: refused, or done.
 use Rattle.image_calls.proofs.Ground.{ℕ, _<_, _≤_, true, false, _≡_, refl, sym, ap, _∙_, List, length, arith, eq-eqb, ne-eqb, le-leb, lt-leb}
-use Rattle.image_calls.proofs.Ground.{refusal, planOf, Plan, Valid, mostResources, mostTasks, shortImage, unsoundImage, Call, Answer}
-use Rattle.image_calls.proofs.Ground.{Refused, fresh, callCode, step, freshState, shows, sound, fresh-sound, fresh-shows, Reply, Acted}
+use Rattle.image_calls.proofs.Ground.{refusal, planOf, Valid, mostResources, mostTasks, shortImage, unsoundImage, Call}
+use Rattle.image_calls.proofs.Ground.{Refused, callCode, step, freshState, shows, sound, fresh-sound, fresh-shows, Reply, Acted}
 use Rattle.image_calls.proofs.Ground.{State, View, imageLength, imageWith, shownIn, stateIn, imageSound, kept-long, stored-sound}
 use Rattle.image_calls.proofs.Ground.{loaded-shows, lentRefusal, imageRefusal, imageCallRefusal, imageReply, imageAfter, imageStarted}
-use Rattle.image_calls.proofs.Ground.{NextImage, StartedImage, Made}
+use Rattle.image_calls.proofs.Ground.{StartedImage, Made}
 
 module _ (f b : List ℕ) where
   -- 1 to 9

@@ -3,7 +3,6 @@ use Prim.Native.Nat.{ℕ, _+_, _*_, _/_, _%_, _<_}
 use mathlib.Core.Path.{_≡_, refl}
 use native.Mathlib.Omega.{arith}
 use Rattle.folds.specs.Bytes.{number, digits, rowBytes}
-use Rattle.machine_rules.specs.declared.Answer.{Answer}
 use Rattle.machine_rules.specs.declared.Answer.the-variants.{Granted, Waits, Next, Free, Left, Ticked, Refused}
 use Rattle.mspis_c.specs.Words.{wordOf}
 

@@ -1,5 +1,5 @@
 -- The rows of both kinds, as many as the plan has.
-use Rattle.image.proofs.Ground.{List, ℕ, ap, ap₂, _∙_, drop, arith, needs, planOf, valid-plan, rowAt, placedBelow, LineRow, Standing}
+use Rattle.image.proofs.Ground.{List, ℕ, ap, ap₂, _∙_, drop, arith, needs, valid-plan, rowAt, placedBelow, LineRow, Standing}
 use Rattle.image.proofs.Ground.{freshState, standingWidths, standingFrom, lineIn, standingIn}
 use Rattle.image.proofs.load.Statement.{statement}
 use Rattle.image.proofs.load.Tie as tie

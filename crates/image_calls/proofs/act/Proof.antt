@@ -1,5 +1,5 @@
 -- The image is not sound, the call is refused, or it is made and what it leaves is stored.
-use Rattle.image_calls.proofs.Ground.{true, false, _≡_, refl, sym, ap, _∙_, arith, needs, not-true, not-false, planOf, Valid, valid-plan, State}
+use Rattle.image_calls.proofs.Ground.{true, false, _≡_, sym, ap, _∙_, arith, needs, not-true, not-false, planOf, Valid, valid-plan, State}
 use Rattle.image_calls.proofs.Ground.{callCode, shows, sound, stateIn, imageSound, image-tested, fitTest, lentRefusal, imageRefusal}
 use Rattle.folds.proofs.Tests.{held, failed}
 use Rattle.image_calls.proofs.Made.{room-lent, unsound-image, sound-image, image-first, own-code, refused, done}

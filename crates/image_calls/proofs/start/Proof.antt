@@ -1,5 +1,5 @@
 -- A plan that is refused, bytes that are too short, or a fresh state stored.
-use Rattle.image_calls.proofs.Ground.{_≡_, _≤_, length, sym, ap, _∙_, arith, needs, Accepted, accepted-checked, accepted-valid, planOf, State, shows}
+use Rattle.image_calls.proofs.Ground.{_≤_, length, sym, ap, _∙_, arith, needs, Accepted, accepted-checked, accepted-valid, planOf, State, shows}
 use Rattle.image_calls.proofs.Ground.{fresh-sound, imageLength, imageWith}
 use Rattle.image_calls.proofs.Made.{plan-lent, short-lent, room-lent, start-refused, start-done}
 use Rattle.image_calls.proofs.start.Statement.{statement}

@@ -1,6 +1,4 @@
 -- Each answer by its law.
-use mathlib.Core.Path.{ap, ap₂, _∙_}
-use Prim.Native.Nat.{ℕ, _+_, _*_}
 use borrow.Author.Needs.{needs}
 use Rattle.mspis_c.proofs.Words.{word-granted, word-waits, word-next, word-free, word-left, word-ticked, word-refused}
 use Rattle.mspis_c.proofs.word.Statement.{statement}
