@@ -7,3 +7,4 @@ pub mod Tested
 pub mod Round
 pub mod Stored
 pub mod Kept
+pub mod Reading

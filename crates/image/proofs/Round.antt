@@ -61,7 +61,16 @@ module _ (p : Plan) (v : Valid p) (b : List ℕ) (h : imageSound p b ≡ true) w
   pub image-state : sound p (stateIn p b) ≡ true
   image-state = parts .state
 
-  holder-shown : (q : ℕ) → q < p .resources → holderIn (shownIn p b .lines q) ≡ holderAt b q
+  -- the row of a resource in an image is that of the line that it shows: how many processors are queued and which, hold and budget left
+  pub row-shown : (q : ℕ) → q < p .resources → SameRow (lineOf (shownIn p b .lines q)) (lineIn b q)
+  row-shown q l =
+      let c : q < mostResources = omega (arith, v .resources) in
+      let e = rows-told p v (stateIn p b) (parts .state) .lines q c in
+      let f : SameRow (lineIn b q) (lineOf (shownIn p b .lines q)) = rw (line-loaded p v b q l, line-at p (shownIn p b) q c) at e in
+      record { queued = sym (f .queued); slots = λ j a. sym (f .slots j a); hold = sym (f .hold); budget = sym (f .budget) }
+
+  -- and the holder's number is that of its holder
+  pub holder-shown : (q : ℕ) → q < p .resources → holderIn (shownIn p b .lines q) ≡ holderAt b q
   unfolding shows
   holder-shown q l =
       let R = rank p (stateIn p b .tasks) q in
@@ -92,16 +101,9 @@ module _ (p : Plan) (v : Valid p) (b : List ℕ) (h : imageSound p b ≡ true) w
     unfolding lineBytes
     lines-forth =
         bytes-same (p .resources) _ _
-        (λ q l. same-bytes (lineOf (shownIn p b .lines q)) (lineIn b q) (holderIn (shownIn p b .lines q)) (holderAt b q) (row q l) (holder-shown q l)
+        (λ q l. same-bytes (lineOf (shownIn p b .lines q)) (lineIn b q) (holderIn (shownIn p b .lines q)) (holderAt b q) (row-shown q l) (holder-shown q l)
         ∙ ap (rowBytes lineWidths) (line-read b q))
         ∙ rows-forth lineWidths (drop linesFrom b) (p .resources) (λ i. rw getD-drop (bytes (linesFrom + i))) (omega (arith, length-drop linesFrom b))
-      where
-        row : (q : ℕ) → q < p .resources → SameRow (lineOf (shownIn p b .lines q)) (lineIn b q)
-        row q l =
-            let c : q < mostResources = omega (arith, v .resources) in
-            let e = rows-told p v (stateIn p b) (parts .state) .lines q c in
-            let f : SameRow (lineIn b q) (lineOf (shownIn p b .lines q)) = rw (line-loaded p v b q l, line-at p (shownIn p b) q c) at e in
-            record { queued = sym (f .queued); slots = λ j a. sym (f .slots j a); hold = sym (f .hold); budget = sym (f .budget) }
 
     standings-forth : bytesBelow (p .tasks) (λ i. standingBytes (standingOf p (shownIn p b) i))
         ≡ take (p .tasks * width standingWidths) (drop (standingsFrom p) b)

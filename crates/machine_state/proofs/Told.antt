@@ -94,7 +94,7 @@ module _ (p : Plan) (v : Valid p) (s : State) (w : Whole p s) where
     row = standing (s .tasks) i
 
     -- a task in line
-    place-is : i < p .tasks → row .resource < mostResources → placeOf p (shows p s) i (row .resource) ≡ row .place
+    pub place-is : i < p .tasks → row .resource < mostResources → placeOf p (shows p s) i (row .resource) ≡ row .place
     place-is lt l =
         let k = processorOf p i in
         let ranks : ℕ → ℕ = rank p (s .tasks) (row .resource) k in
