@@ -37,9 +37,9 @@ unfoldable pub use Rattle.machine_state.specs.Rows.{standingOf}
 pub use Rattle.machine_state.proofs.Good.{Good, Whole}
 pub use Rattle.machine_state.proofs.Told.{SameRow, SameRows, line-at, rows-told, standing-at}
 pub use Rattle.machine_state.proofs.Wholes.{both, hold-resource, hold-task, rank-own, sound-of, whole-of}
-pub use Rattle.image.specs.Layout.{headWidths, imageLength, lineWidths, linesFrom, standingWidths, standingsFrom}
-pub use Rattle.image.specs.Image.{headNumbers, holderIn, imageWith, lineFrom, lineNumbers, shownIn, standingFrom, standingNumbers, stateIn}
-unfoldable pub use Rattle.image.specs.Image.{headBytes, holderAt, imageOf, lineBytes, lineIn, standingBytes, standingIn}
+pub use Rattle.image.specs.Layout.{headWidths, imageLength, lineWidths, lineRowsAt, standingWidths, standingRowsAt}
+pub use Rattle.image.specs.Image.{headNumbers, holderNumber, imageWith, lineFrom, lineNumbers, shownIn, standingFrom, standingNumbers, stateIn}
+unfoldable pub use Rattle.image.specs.Image.{headBytes, holderIn, imageOf, lineBytes, lineIn, standingBytes, standingIn}
 pub use Rattle.image.specs.Sound.{absentFilled, filled, freeFilled, holderFits, placeFits, taskFilled}
 unfoldable pub use Rattle.image.specs.Sound.{countsFit, imageSound}
 pub use Rattle.image.specs.Inner.{first, keyAt, lineRow, lineWidth, standingRow, standingWidth}

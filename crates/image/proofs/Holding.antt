@@ -3,7 +3,7 @@ use Rattle.image.proofs.Ground.{ℕ, zero, suc, _+_, _%_, _<_, Bool, tr
 use Rattle.image.proofs.Ground.{ltb, length, getD, replicate, length-replicate, getD-replicate, arith, eqb-true, eq-eqb, ne-eqb, lt-ltb}
 use Rattle.image.proofs.Ground.{ltb-true, and-parts, by-eq, anyBelow, mostResources, absent, Plan, Valid, processorOf}
 use Rattle.image.proofs.Ground.{taskRanked, listFrom, queueFrom, full, sole, task-rank, State, Standing, lineAt, slot, standing}
-use Rattle.image.proofs.Ground.{rank, shows, Good, Whole, holderIn, holderKey, keyAt, holderTable}
+use Rattle.image.proofs.Ground.{rank, shows, Good, Whole, holderNumber, holderKey, keyAt, holderTable}
 use Rattle.folds.proofs.Tests.{any-at, any-none, is-not-true}
 use Rattle.folds.proofs.Figures.{max-at}
 use Rattle.folds.proofs.Arrays.{stamped-length, stamped-where}
@@ -15,7 +15,7 @@ key-low r b h = ltb-true r mostResources (and-parts (ltb r mostResources) b h .0
 
 -- the holder in a line over ranks
 pub holder-ranked : (n : ℕ) (R : ℕ → ℕ → ℕ) (g : ℕ → ℕ) (c h b : ℕ)
-    → holderIn (Rules.line h b (queueFrom n R c g)) ≡ cond (eqb c 0) absent (taskRanked n (R (g 0)) 1)
+    → holderNumber (Rules.line h b (queueFrom n R c g)) ≡ cond (eqb c 0) absent (taskRanked n (R (g 0)) 1)
 unfolding listFrom
 holder-ranked n R g zero h b = refl
 holder-ranked n R g (suc c) h b = rw (ne-eqb (suc c) 0 (λ e. omega arith))
@@ -64,7 +64,7 @@ module _ (p : Plan) (v : Valid p) (s : State) (w : Whole p s) where
           rw (small, lt-ltb r 16 (omega arith), eq-eqb (t .place) 0 (omega arith), eq-eqb (slot (lineAt s q) 0) (processorOf p u) (sym own)) here
 
   -- the table has the holder of each resource
-  pub table-at : (q : ℕ) → q < mostResources → getD (holderTable p s) q 0 ≡ holderIn (shows p s .lines q)
+  pub table-at : (q : ℕ) → q < mostResources → getD (holderTable p s) q 0 ≡ holderNumber (shows p s .lines q)
   unfolding shows holderTable
   table-at q l =
       let g : Good p (s .tasks) q (lineAt s q) = w .lines q l in

@@ -4,8 +4,8 @@ use Rattle.image.proofs.Ground.{getD-replicate, ext-getD, arith, on-le,
 use Rattle.image.proofs.Ground.{mostTasks, mostResources, Plan, Valid, taskRanked, listFrom, queueFrom}
 use Rattle.image.proofs.Ground.{full, task-rank, State, freeLine, freshState, lineAt, noLine, noStanding, noneInLine}
 use Rattle.image.proofs.Ground.{slot, standing, rank, shows, sound, lineOf, stateOf, standingOf, Good, Whole, line-at}
-use Rattle.image.proofs.Ground.{standing-at, rows-told, hold-resource, hold-task, whole-of, sound-of, imageWith, stateIn, holderIn}
-use Rattle.image.proofs.Ground.{lineIn, holderAt, standingIn, standingFrom, imageOf, lineFrom, imageLength, drop, shownIn}
+use Rattle.image.proofs.Ground.{standing-at, rows-told, hold-resource, hold-task, whole-of, sound-of, imageWith, stateIn, holderNumber}
+use Rattle.image.proofs.Ground.{lineIn, holderIn, standingIn, standingFrom, imageOf, lineFrom, imageLength, drop, shownIn}
 use Rattle.queue_rules.specs.Rules as Rules
 use Rattle.queue_ranks.proofs.Ranked.{owner}
 use Rattle.machine_state.proofs.Wholes.{state-same}
@@ -51,19 +51,19 @@ module _ (p : Plan) (v : Valid p) (s : State) (h : sound p s ≡ true) (b : List
   line-in : (q : ℕ) → q < p .resources → lineIn image q ≡ lineOf (shows p s .lines q)
   unfolding lineIn imageOf
   line-in q l =
-      ap lineFrom (line-back p (λ q. lineOf (shows p s .lines q)) (λ q. holderIn (shows p s .lines q)) (standingOf p (shows p s)) (drop (imageLength p) b) q l)
-      ∙ line-same (shows p s .lines q) (holderIn (shows p s .lines q))
+      ap lineFrom (line-back p (λ q. lineOf (shows p s .lines q)) (λ q. holderNumber (shows p s .lines q)) (standingOf p (shows p s)) (drop (imageLength p) b) q l)
+      ∙ line-same (shows p s .lines q) (holderNumber (shows p s .lines q))
 
   -- the holder's number in each row
-  pub holder-in : (q : ℕ) → q < p .resources → holderAt image q ≡ holderIn (shows p s .lines q)
-  unfolding holderAt imageOf
+  pub holder-in : (q : ℕ) → q < p .resources → holderIn image q ≡ holderNumber (shows p s .lines q)
+  unfolding holderIn imageOf
   holder-in q l =
-      ap (λ (vs : List ℕ). getD vs 1 0) (line-back p (λ q. lineOf (shows p s .lines q)) (λ q. holderIn (shows p s .lines q)) (standingOf p (shows p s)) (drop (imageLength p) b) q l)
+      ap (λ (vs : List ℕ). getD vs 1 0) (line-back p (λ q. lineOf (shows p s .lines q)) (λ q. holderNumber (shows p s .lines q)) (standingOf p (shows p s)) (drop (imageLength p) b) q l)
 
   standing-in : (i : ℕ) → i < p .tasks → standingIn p image i ≡ standingOf p (shows p s) i
   unfolding standingIn imageOf
   standing-in i l =
-      ap standingFrom (standing-back p (λ q. lineOf (shows p s .lines q)) (λ q. holderIn (shows p s .lines q)) (standingOf p (shows p s)) (drop (imageLength p) b) i l)
+      ap standingFrom (standing-back p (λ q. lineOf (shows p s .lines q)) (λ q. holderNumber (shows p s .lines q)) (standingOf p (shows p s)) (drop (imageLength p) b) i l)
 
   -- stored and then loaded: the state that the lines tell
   pub loaded-back : stateIn p image ≡ stateOf p (shows p s)

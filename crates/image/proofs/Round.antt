@@ -5,9 +5,9 @@ use Rattle.image.proofs.Ground.{length, getD, take, drop, length-drop, 
 use Rattle.image.proofs.Ground.{by-eq, allBelow, bytesBelow, rowAt, rowBytes, fields, number, width, Bytes, rows-forth}
 use Rattle.image.proofs.Ground.{mostProcessors, mostTasks, mostResources, absent, Plan, Valid, listFrom, list-same, LineRow}
 use Rattle.image.proofs.Ground.{slot, rank, shows, sound, holderOf, lineOf, standingOf, SameRow, line-at, standing-at, rows-told}
-use Rattle.image.proofs.Ground.{headWidths, lineWidths, standingWidths, linesFrom, standingsFrom, imageLength, lineNumbers}
-use Rattle.image.proofs.Ground.{standingNumbers, holderIn, imageWith, imageOf, headBytes, lineBytes, standingBytes, stateIn, shownIn}
-use Rattle.image.proofs.Ground.{lineIn, holderAt, standingIn, countsFit, filled, absentFilled, freeFilled, taskFilled, placeFits}
+use Rattle.image.proofs.Ground.{headWidths, lineWidths, standingWidths, lineRowsAt, standingRowsAt, imageLength, lineNumbers}
+use Rattle.image.proofs.Ground.{standingNumbers, holderNumber, imageWith, imageOf, headBytes, lineBytes, standingBytes, stateIn, shownIn}
+use Rattle.image.proofs.Ground.{lineIn, holderIn, standingIn, countsFit, filled, absentFilled, freeFilled, taskFilled, placeFits}
 use Rattle.image.proofs.Ground.{holderFits, imageSound}
 use Rattle.folds.proofs.Ground.{[], not, getD-drop, take-add, take-append-drop}
 use Rattle.folds.proofs.Parts.{bytes-same}
@@ -16,11 +16,11 @@ use Rattle.image.proofs.Holding.{holder-ranked}
 use Rattle.image.proofs.Tested.{line-loaded, standing-loaded}
 
 -- the bytes of a row in an image are those of the numbers read there
-line-read : (b : List ℕ) (q : ℕ) → lineNumbers (lineIn b q) (holderAt b q) ≡ rowAt lineWidths (drop linesFrom b) q
-unfolding lineIn holderAt rowAt fields listFrom
+line-read : (b : List ℕ) (q : ℕ) → lineNumbers (lineIn b q) (holderIn b q) ≡ rowAt lineWidths (drop lineRowsAt b) q
+unfolding lineIn holderIn rowAt fields listFrom
 line-read b q = refl
 
-standing-read : (p : Plan) (b : List ℕ) (i : ℕ) → standingNumbers (standingIn p b i) ≡ rowAt standingWidths (drop (standingsFrom p) b) i
+standing-read : (p : Plan) (b : List ℕ) (i : ℕ) → standingNumbers (standingIn p b i) ≡ rowAt standingWidths (drop (standingRowsAt p) b) i
 unfolding standingIn rowAt fields
 standing-read p b i = refl
 
@@ -70,43 +70,43 @@ module _ (p : Plan) (v : Valid p) (b : List ℕ) (h : imageSound p b ≡ true) w
       record { queued = sym (f .queued); slots = λ j a. sym (f .slots j a); hold = sym (f .hold); budget = sym (f .budget) }
 
   -- and the holder's number is that of its holder
-  pub holder-shown : (q : ℕ) → q < p .resources → holderIn (shownIn p b .lines q) ≡ holderAt b q
+  pub holder-shown : (q : ℕ) → q < p .resources → holderNumber (shownIn p b .lines q) ≡ holderIn b q
   unfolding shows
   holder-shown q l =
       let R = rank p (stateIn p b .tasks) q in
       rw (line-loaded p v b q l)
       (holder-ranked (p .tasks) R (slot (lineIn b q)) (lineIn b q .queued) (lineIn b q .«hold_left») (lineIn b q .«budget_left»)
-      ∙ by-eq (λ (z : Bool). (not z || (eqb (holderAt b q) absent && eqb (lineIn b q .«hold_left») 0 && eqb (lineIn b q .«budget_left») 0)) ≡ true
-      → (z || eqb (holderAt b q) (holderOf p (stateIn p b .tasks) q (lineIn b q))) ≡ true
-      → cond z absent (holderOf p (stateIn p b .tasks) q (lineIn b q)) ≡ holderAt b q) (lineIn b q .queued) 0
-      (λ e f g. sym (eqb-true _ _ (and-parts (eqb (holderAt b q) absent) (eqb (lineIn b q .«hold_left») 0)
-      (and-parts (eqb (holderAt b q) absent && eqb (lineIn b q .«hold_left») 0) (eqb (lineIn b q .«budget_left») 0) f .0) .0)))
+      ∙ by-eq (λ (z : Bool). (not z || (eqb (holderIn b q) absent && eqb (lineIn b q .«hold_left») 0 && eqb (lineIn b q .«budget_left») 0)) ≡ true
+      → (z || eqb (holderIn b q) (holderOf p (stateIn p b .tasks) q (lineIn b q))) ≡ true
+      → cond z absent (holderOf p (stateIn p b .tasks) q (lineIn b q)) ≡ holderIn b q) (lineIn b q .queued) 0
+      (λ e f g. sym (eqb-true _ _ (and-parts (eqb (holderIn b q) absent) (eqb (lineIn b q .«hold_left») 0)
+      (and-parts (eqb (holderIn b q) absent && eqb (lineIn b q .«hold_left») 0) (eqb (lineIn b q .«budget_left») 0) f .0) .0)))
       (λ ne f g. sym (eqb-true _ _ g))
       (parts .free q l) (parts .held q l))
 
   module _ (bytes : Bytes b) (room : imageLength p ≤ length b) where
-    head-forth : headBytes p ≡ take linesFrom b
+    head-forth : headBytes p ≡ take lineRowsAt b
     unfolding headBytes countsFit fields number
     head-forth =
-        let x = and-parts (eqb (getD b 0 0) (p .tasks) && eqb (getD b 1 0) (p .resources) && eqb (getD b 2 0) linesFrom) (eqb (getD b 3 0) (standingsFrom p)) (parts .counts) in
-        let y = and-parts (eqb (getD b 0 0) (p .tasks) && eqb (getD b 1 0) (p .resources)) (eqb (getD b 2 0) linesFrom) (x .0) in
+        let x = and-parts (eqb (getD b 0 0) (p .tasks) && eqb (getD b 1 0) (p .resources) && eqb (getD b 2 0) lineRowsAt) (eqb (getD b 3 0) (standingRowsAt p)) (parts .counts) in
+        let y = and-parts (eqb (getD b 0 0) (p .tasks) && eqb (getD b 1 0) (p .resources)) (eqb (getD b 2 0) lineRowsAt) (x .0) in
         let z = and-parts (eqb (getD b 0 0) (p .tasks)) (eqb (getD b 1 0) (p .resources)) (y .0) in
         ap (rowBytes headWidths)
         (sym (ap₂ (λ (m n : ℕ). m ∷ n ∷ getD b 2 0 ∷ getD b 3 0 ∷ []) (eqb-true _ _ (z .0)) (eqb-true _ _ (z .1))
         ∙ ap₂ (λ (m n : ℕ). p .tasks ∷ p .resources ∷ m ∷ n ∷ []) (eqb-true _ _ (y .1)) (eqb-true _ _ (x .1))))
         ∙ fields-forth headWidths b 0 bytes (omega arith)
 
-    lines-forth : bytesBelow (p .resources) (λ q. lineBytes (lineOf (shownIn p b .lines q)) (holderIn (shownIn p b .lines q)))
-        ≡ take (p .resources * width lineWidths) (drop linesFrom b)
+    lines-forth : bytesBelow (p .resources) (λ q. lineBytes (lineOf (shownIn p b .lines q)) (holderNumber (shownIn p b .lines q)))
+        ≡ take (p .resources * width lineWidths) (drop lineRowsAt b)
     unfolding lineBytes
     lines-forth =
         bytes-same (p .resources) _ _
-        (λ q l. same-bytes (lineOf (shownIn p b .lines q)) (lineIn b q) (holderIn (shownIn p b .lines q)) (holderAt b q) (row-shown q l) (holder-shown q l)
+        (λ q l. same-bytes (lineOf (shownIn p b .lines q)) (lineIn b q) (holderNumber (shownIn p b .lines q)) (holderIn b q) (row-shown q l) (holder-shown q l)
         ∙ ap (rowBytes lineWidths) (line-read b q))
-        ∙ rows-forth lineWidths (drop linesFrom b) (p .resources) (λ i. rw getD-drop (bytes (linesFrom + i))) (omega (arith, length-drop linesFrom b))
+        ∙ rows-forth lineWidths (drop lineRowsAt b) (p .resources) (λ i. rw getD-drop (bytes (lineRowsAt + i))) (omega (arith, length-drop lineRowsAt b))
 
     standings-forth : bytesBelow (p .tasks) (λ i. standingBytes (standingOf p (shownIn p b) i))
-        ≡ take (p .tasks * width standingWidths) (drop (standingsFrom p) b)
+        ≡ take (p .tasks * width standingWidths) (drop (standingRowsAt p) b)
     unfolding standingBytes
     standings-forth =
         bytes-same (p .tasks) _ _
@@ -114,15 +114,15 @@ module _ (p : Plan) (v : Valid p) (b : List ℕ) (h : imageSound p b ≡ true) w
         ap (λ s. rowBytes standingWidths (standingNumbers s))
         (sym (standing-at p (shownIn p b) i c) ∙ sym (rows-told p v (stateIn p b) (parts .state) .tasks i c) ∙ standing-loaded p v b i l)
         ∙ ap (rowBytes standingWidths) (standing-read p b i))
-        ∙ rows-forth standingWidths (drop (standingsFrom p) b) (p .tasks) (λ i. rw getD-drop (bytes (standingsFrom p + i)))
-        (omega (arith, length-drop (standingsFrom p) b))
+        ∙ rows-forth standingWidths (drop (standingRowsAt p) b) (p .tasks) (λ i. rw getD-drop (bytes (standingRowsAt p + i)))
+        (omega (arith, length-drop (standingRowsAt p) b))
 
     -- the image of what a sound image shows is its bytes
     pub image-forth : imageOf p (shownIn p b) ≡ take (imageLength p) b
     unfolding imageOf
     image-forth =
-        ap₂ _++_ (ap₂ _++_ head-forth lines-forth ∙ sym (take-add linesFrom (p .resources * width lineWidths) b)) standings-forth
-        ∙ sym (take-add (standingsFrom p) (p .tasks * width standingWidths) b)
+        ap₂ _++_ (ap₂ _++_ head-forth lines-forth ∙ sym (take-add lineRowsAt (p .resources * width lineWidths) b)) standings-forth
+        ∙ sym (take-add (standingRowsAt p) (p .tasks * width standingWidths) b)
 
     -- loaded and then stored
     pub stored-back : imageWith p (shownIn p b) b ≡ b

@@ -2,13 +2,13 @@
 use Rattle.image.proofs.Ground.{ℕ, _+_, _*_, _<_, true, _≡_, refl, sym, ap, ap₂, _∙_, List, _++_, append-assoc, length, drop, drop-at}
 use Rattle.image.proofs.Ground.{length-append, arith, eq-eqb, bytesBelow, rowAt, rowBytes, digits, width, bytes-length, row-length}
 use Rattle.image.proofs.Ground.{rows-back, solid, mostProcessors, Plan, listFrom, list-get, list-same, LineRow, Standing}
-use Rattle.image.proofs.Ground.{slot, slotOf, lineOf, lineWidths, standingWidths, linesFrom, standingsFrom, imageLength, headNumbers}
+use Rattle.image.proofs.Ground.{slot, slotOf, lineOf, lineWidths, standingWidths, lineRowsAt, standingRowsAt, imageLength, headNumbers}
 use Rattle.image.proofs.Ground.{lineNumbers, standingNumbers, lineFrom, headBytes, lineBytes, standingBytes, countsFit, headWidths}
 use Rattle.image.proofs.Ground.{_-_, take, drop-drop, fields, part-rest}
 use Rattle.queue_rules.specs.Rules as Rules
 
 -- how long the parts are
-pub head-length : (p : Plan) → length (headBytes p) ≡ linesFrom
+pub head-length : (p : Plan) → length (headBytes p) ≡ lineRowsAt
 unfolding headBytes
 head-length p = row-length headWidths (headNumbers p)
 
@@ -34,7 +34,7 @@ module _ (p : Plan) (ls : ℕ → LineRow) (hs : ℕ → ℕ) (ts : ℕ → Stan
   lines-long : length lineRows ≡ p .resources * width lineWidths
   lines-long = bytes-length (width lineWidths) (λ q. lineBytes (ls q) (hs q)) (λ q. line-length (ls q) (hs q)) (p .resources)
 
-  before-long : length (headBytes p ++ lineRows) ≡ standingsFrom p
+  before-long : length (headBytes p ++ lineRows) ≡ standingRowsAt p
   before-long = length-append (headBytes p) lineRows ∙ ap₂ _+_ (head-length p) lines-long
 
   pub rows-long : length ((headBytes p ++ lineRows) ++ standingRows) ≡ imageLength p
@@ -42,24 +42,24 @@ module _ (p : Plan) (ls : ℕ → LineRow) (hs : ℕ → ℕ) (ts : ℕ → Stan
       length-append (headBytes p ++ lineRows) standingRows
       ∙ ap₂ _+_ before-long (bytes-length (width standingWidths) (λ i. standingBytes (ts i)) (λ i. standing-length (ts i)) (p .tasks))
 
-  from-lines : drop linesFrom laid ≡ lineRows ++ (standingRows ++ r)
+  from-lines : drop lineRowsAt laid ≡ lineRows ++ (standingRows ++ r)
   from-lines =
-      ap (λ (l : List ℕ). drop linesFrom l)
+      ap (λ (l : List ℕ). drop lineRowsAt l)
       (append-assoc (headBytes p ++ lineRows) standingRows r ∙ append-assoc (headBytes p) lineRows (standingRows ++ r))
-      ∙ drop-at (headBytes p) (lineRows ++ (standingRows ++ r)) linesFrom (head-length p)
+      ∙ drop-at (headBytes p) (lineRows ++ (standingRows ++ r)) lineRowsAt (head-length p)
 
-  from-standings : drop (standingsFrom p) laid ≡ standingRows ++ r
+  from-standings : drop (standingRowsAt p) laid ≡ standingRows ++ r
   from-standings =
-      ap (λ (l : List ℕ). drop (standingsFrom p) l) (append-assoc (headBytes p ++ lineRows) standingRows r)
-      ∙ drop-at (headBytes p ++ lineRows) (standingRows ++ r) (standingsFrom p) before-long
+      ap (λ (l : List ℕ). drop (standingRowsAt p) l) (append-assoc (headBytes p ++ lineRows) standingRows r)
+      ∙ drop-at (headBytes p ++ lineRows) (standingRows ++ r) (standingRowsAt p) before-long
 
-  pub line-back : (q : ℕ) → q < p .resources → rowAt lineWidths (drop linesFrom laid) q ≡ lineNumbers (ls q) (hs q)
+  pub line-back : (q : ℕ) → q < p .resources → rowAt lineWidths (drop lineRowsAt laid) q ≡ lineNumbers (ls q) (hs q)
   unfolding lineBytes solid listFrom
   line-back q l =
       ap (λ (s : List ℕ). rowAt lineWidths s q) from-lines
       ∙ rows-back lineWidths (λ k. lineNumbers (ls k) (hs k)) (p .resources) q (standingRows ++ r) refl refl l
 
-  pub standing-back : (i : ℕ) → i < p .tasks → rowAt standingWidths (drop (standingsFrom p) laid) i ≡ standingNumbers (ts i)
+  pub standing-back : (i : ℕ) → i < p .tasks → rowAt standingWidths (drop (standingRowsAt p) laid) i ≡ standingNumbers (ts i)
   unfolding standingBytes solid
   standing-back i l =
       ap (λ (s : List ℕ). rowAt standingWidths s i) from-standings
@@ -68,7 +68,7 @@ module _ (p : Plan) (ls : ℕ → LineRow) (hs : ℕ → ℕ) (ts : ℕ → Stan
   pub head-back : countsFit p laid ≡ true
   unfolding countsFit headBytes rowBytes digits
   head-back =
-      rw (eq-eqb (p .tasks) (p .tasks) refl, eq-eqb (p .resources) (p .resources) refl, eq-eqb (standingsFrom p) (standingsFrom p) refl)
+      rw (eq-eqb (p .tasks) (p .tasks) refl, eq-eqb (p .resources) (p .resources) refl, eq-eqb (standingRowsAt p) (standingRowsAt p) refl)
 
 -- the numbers of a row that lines tell are read as that row
 pub line-same : (l : Rules.Line) (holder : ℕ) → lineFrom (lineNumbers (lineOf l) holder) ≡ lineOf l

@@ -6,7 +6,7 @@ use Rattle.image.proofs.Ground.{same-test, all-at, all-from, by-eq, on-
 use Rattle.image.proofs.Ground.{mostProcessors, mostTasks, absent, Plan, Valid, processorOf, global, uses, taskRanked, full}
 use Rattle.image.proofs.Ground.{sole, task-rank, State, Standing, LineRow, freshState, noneInLine, noLine, noStanding, isIdle}
 use Rattle.image.proofs.Ground.{lineAt, slot, standing, rank, idle, alone, backed, holderOf, taskFits, sound, Good, Whole, both, rank-own}
-use Rattle.image.proofs.Ground.{hold-resource, whole-of, stateIn, lineIn, holderAt, standingIn, absentFilled, freeFilled}
+use Rattle.image.proofs.Ground.{hold-resource, whole-of, stateIn, lineIn, holderIn, standingIn, absentFilled, freeFilled}
 use Rattle.image.proofs.Ground.{taskFilled, placeFits, holderFits, filled, countsFit, imageSound, first, holderTest, fitTest}
 use Rattle.folds.proofs.Ground.{true≢false}
 use Rattle.folds.proofs.Tests.{or-out}
@@ -35,16 +35,16 @@ one-rank p ts q k u h =
 
 -- the test of a holder's number, by what the code looks at
 module _ (p : Plan) (b : List ℕ) (q : ℕ) where
-  pub free-test : {l : LineRow} {holder : ℕ} → l ≡ lineIn b q → holder ≡ holderAt b q → l .queued ≡ 0 → eqb holder absent ≡ holderTest p b q
+  pub free-test : {l : LineRow} {holder : ℕ} → l ≡ lineIn b q → holder ≡ holderIn b q → l .queued ≡ 0 → eqb holder absent ≡ holderTest p b q
   unfolding holderTest
   free-test e f z = rw (← e, ← f, eq-eqb _ 0 z)
 
-  pub past-test : {l : LineRow} {holder : ℕ} → l ≡ lineIn b q → holder ≡ holderAt b q → (l .queued ≡ 0 → ⊥) → p .tasks ≤ holder
+  pub past-test : {l : LineRow} {holder : ℕ} → l ≡ lineIn b q → holder ≡ holderIn b q → (l .queued ≡ 0 → ⊥) → p .tasks ≤ holder
       → false ≡ holderTest p b q
   unfolding holderTest
   past-test e f ne past = rw (← e, ← f, ne-eqb _ 0 ne, le-ltb _ _ past)
 
-  pub first-test : {l : LineRow} {holder i : ℕ} {s : Standing} → l ≡ lineIn b q → holder ≡ holderAt b q → (l .queued ≡ 0 → ⊥)
+  pub first-test : {l : LineRow} {holder i : ℕ} {s : Standing} → l ≡ lineIn b q → holder ≡ holderIn b q → (l .queued ≡ 0 → ⊥)
       → holder < p .tasks → i ≡ holder → s ≡ standingIn p b i → first q (slot l 0) s (processorOf p i) ≡ holderTest p b q
   unfolding holderTest
   first-test e f ne lt same row = rw (← e, ← f, ne-eqb _ 0 ne, lt-ltb _ _ lt, row, same)
@@ -66,18 +66,18 @@ module _ (p : Plan) (v : Valid p) (b : List ℕ) where
 
     -- the holder's number passes the test exactly where it is that of the head's first task
     holder-is : (q : ℕ) → q < p .resources → (lineIn b q .queued ≡ 0 → ⊥) → holderTest p b q ≡ true
-        → holderAt b q ≡ holderOf p (stateIn p b .tasks) q (lineIn b q)
+        → holderIn b q ≡ holderOf p (stateIn p b .tasks) q (lineIn b q)
     unfolding holderTest
     holder-is q l ne t =
-        on-le (holderAt b q ≡ holderOf p (stateIn p b .tasks) q (lineIn b q)) (p .tasks) (holderAt b q)
-        (λ past. absurd (true≢false (sym (rw (ne-eqb (lineIn b q .queued) 0 ne, le-ltb (holderAt b q) (p .tasks) past) at t))))
-        (λ lt. let x = rw (ne-eqb (lineIn b q .queued) 0 ne, lt-ltb (holderAt b q) (p .tasks) lt, ← standing-loaded (holderAt b q) lt) at t in
-        let r : rank p (stateIn p b .tasks) q (slot (lineIn b q) 0) (holderAt b q) ≡ 1 =
-        one-rank p (stateIn p b .tasks) q (slot (lineIn b q) 0) (holderAt b q) x in
-        sym (sole (good q l .ranked) (slot (lineIn b q) 0) (holderAt b q) lt (omega arith))
+        on-le (holderIn b q ≡ holderOf p (stateIn p b .tasks) q (lineIn b q)) (p .tasks) (holderIn b q)
+        (λ past. absurd (true≢false (sym (rw (ne-eqb (lineIn b q .queued) 0 ne, le-ltb (holderIn b q) (p .tasks) past) at t))))
+        (λ lt. let x = rw (ne-eqb (lineIn b q .queued) 0 ne, lt-ltb (holderIn b q) (p .tasks) lt, ← standing-loaded (holderIn b q) lt) at t in
+        let r : rank p (stateIn p b .tasks) q (slot (lineIn b q) 0) (holderIn b q) ≡ 1 =
+        one-rank p (stateIn p b .tasks) q (slot (lineIn b q) 0) (holderIn b q) x in
+        sym (sole (good q l .ranked) (slot (lineIn b q) 0) (holderIn b q) lt (omega arith))
         ∙ ap (taskRanked (p .tasks) (rank p (stateIn p b .tasks) q (slot (lineIn b q) 0))) r)
 
-    is-holder : (q : ℕ) → q < p .resources → (lineIn b q .queued ≡ 0 → ⊥) → holderAt b q ≡ holderOf p (stateIn p b .tasks) q (lineIn b q)
+    is-holder : (q : ℕ) → q < p .resources → (lineIn b q .queued ≡ 0 → ⊥) → holderIn b q ≡ holderOf p (stateIn p b .tasks) q (lineIn b q)
         → holderTest p b q ≡ true
     unfolding holderTest
     is-holder q l ne e =
@@ -90,7 +90,7 @@ module _ (p : Plan) (v : Valid p) (b : List ℕ) where
 
     -- so a number that is read off what the image shows passes it
     pub holder-passes : (q : ℕ) → q < p .resources
-        → holderAt b q ≡ cond (eqb (lineIn b q .queued) 0) absent (holderOf p (stateIn p b .tasks) q (lineIn b q)) → holderTest p b q ≡ true
+        → holderIn b q ≡ cond (eqb (lineIn b q .queued) 0) absent (holderOf p (stateIn p b .tasks) q (lineIn b q)) → holderTest p b q ≡ true
     unfolding holderTest
     holder-passes q l e =
         on-eq (holderTest p b q ≡ true) (lineIn b q .queued) 0
@@ -108,8 +108,8 @@ module _ (p : Plan) (v : Valid p) (b : List ℕ) where
     free-filled : (q : ℕ) → q < p .resources → holderTest p b q ≡ true → freeFilled p b q ≡ true
     unfolding holderTest
     free-filled q l t =
-        by-eq (λ (z : Bool). cond z (eqb (holderAt b q) absent) (cond (ltb (holderAt b q) (p .tasks)) (first q (slot (lineIn b q) 0) (standingIn p b (holderAt b q)) (processorOf p (holderAt b q))) false) ≡ true
-        → (not z || (eqb (holderAt b q) absent && eqb (lineIn b q .«hold_left») 0 && eqb (lineIn b q .«budget_left») 0)) ≡ true) (lineIn b q .queued) 0
+        by-eq (λ (z : Bool). cond z (eqb (holderIn b q) absent) (cond (ltb (holderIn b q) (p .tasks)) (first q (slot (lineIn b q) 0) (standingIn p b (holderIn b q)) (processorOf p (holderIn b q))) false) ≡ true
+        → (not z || (eqb (holderIn b q) absent && eqb (lineIn b q .«hold_left») 0 && eqb (lineIn b q .«budget_left») 0)) ≡ true) (lineIn b q .queued) 0
         (λ e u. let x = good q l .timed .idle e in both (both u (eq-eqb _ _ (x .0))) (eq-eqb _ _ (x .1)))
         (λ ne u. refl)
         t
@@ -153,8 +153,8 @@ module _ (p : Plan) (v : Valid p) (b : List ℕ) where
       on-eq (holderTest p b q ≡ true) (lineIn b q .queued) 0
       (λ z. let x = rw (eq-eqb (lineIn b q .queued) 0 z) at free in
       rw (eq-eqb (lineIn b q .queued) 0 z)
-      (and-parts (eqb (holderAt b q) absent) (eqb (lineIn b q .«hold_left») 0)
-      (and-parts (eqb (holderAt b q) absent && eqb (lineIn b q .«hold_left») 0) (eqb (lineIn b q .«budget_left») 0) x .0) .0))
+      (and-parts (eqb (holderIn b q) absent) (eqb (lineIn b q .«hold_left») 0)
+      (and-parts (eqb (holderIn b q) absent && eqb (lineIn b q .«hold_left») 0) (eqb (lineIn b q .«budget_left») 0) x .0) .0))
       (λ ne. is-holder h q l ne (eqb-true _ _ (rw (ne-eqb (lineIn b q .queued) 0 ne) at fits)))
 
   -- the tests are the definition
@@ -176,7 +176,7 @@ module _ (p : Plan) (v : Valid p) (b : List ℕ) where
           (all-from (p .tasks) (taskFilled p b) (rows-filled (x .1)))))
           (both (all-from (p .tasks) (placeFits p b) (places-fit (x .1)))
           (both (all-from (p .resources) (holderFits p b)
-          (λ q l. by-eq (λ (z : Bool). (z || eqb (holderAt b q) (holderOf p (s .tasks) q (lineIn b q))) ≡ true) (lineIn b q .queued) 0
+          (λ q l. by-eq (λ (z : Bool). (z || eqb (holderIn b q) (holderOf p (s .tasks) q (lineIn b q))) ≡ true) (lineIn b q .queued) 0
           (λ z. refl) (λ ne. eq-eqb _ _ (holder-is (x .1) q l ne (held q l)))))
           (x .1)))
 

@@ -14,13 +14,13 @@ use Rattle.machine_state.specs.declared.LineRow.{LineRow}
 use Rattle.machine_state.specs.declared.State.{State}
 use Rattle.machine_state.specs.Shows.{slot, freshState, shows}
 use Rattle.machine_state.specs.Rows.{lineOf, standingOf}
-use Rattle.image.specs.Layout.{headWidths, lineWidths, standingWidths, linesFrom, standingsFrom, imageLength}
+use Rattle.image.specs.Layout.{headWidths, lineWidths, standingWidths, lineRowsAt, standingRowsAt, imageLength}
 
 -- ── the image of what a state shows ──
 
 -- the numbers of the first four bytes
 abbrev pub headNumbers : Plan → List ℕ
-headNumbers p = p .tasks ∷ p .resources ∷ linesFrom ∷ standingsFrom p ∷ []
+headNumbers p = p .tasks ∷ p .resources ∷ lineRowsAt ∷ standingRowsAt p ∷ []
 
 -- of a resource row, with the holder's task number
 abbrev pub lineNumbers : LineRow → ℕ → List ℕ
@@ -43,14 +43,14 @@ unfoldable pub standingBytes : Standing → List ℕ
 standingBytes s = rowBytes standingWidths (standingNumbers s)
 
 -- "the holder's task number": the first task of the head. "255 fills what is absent"
-abbrev pub holderIn : Rules.Line → ℕ
-holderIn (Rules.line h b []) = absent
-holderIn (Rules.line h b (turn k u us ∷ rest)) = u
+abbrev pub holderNumber : Rules.Line → ℕ
+holderNumber (Rules.line h b []) = absent
+holderNumber (Rules.line h b (turn k u us ∷ rest)) = u
 
 -- the image of a state that shows these lines: the first bytes, the resource rows, the task rows
 unfoldable pub imageOf : Plan → View → List ℕ
 imageOf p s =
-    (headBytes p ++ bytesBelow (p .resources) (λ q. lineBytes (lineOf (s .lines q)) (holderIn (s .lines q))))
+    (headBytes p ++ bytesBelow (p .resources) (λ q. lineBytes (lineOf (s .lines q)) (holderNumber (s .lines q))))
     ++ bytesBelow (p .tasks) (λ i. standingBytes (standingOf p s i))
 
 -- lent bytes with it at their front. "Bytes behind the image stay."
@@ -69,15 +69,15 @@ standingFrom vs = record { resource = getD vs 0 0; place = getD vs 1 0 }
 
 -- the row of resource q in an image
 unfoldable pub lineIn : List ℕ → ℕ → LineRow
-lineIn b q = lineFrom (rowAt lineWidths (drop linesFrom b) q)
+lineIn b q = lineFrom (rowAt lineWidths (drop lineRowsAt b) q)
 
 -- the holder's number in it
-unfoldable pub holderAt : List ℕ → ℕ → ℕ
-holderAt b q = getD (rowAt lineWidths (drop linesFrom b) q) 1 0
+unfoldable pub holderIn : List ℕ → ℕ → ℕ
+holderIn b q = getD (rowAt lineWidths (drop lineRowsAt b) q) 1 0
 
 -- the row of task i
 unfoldable pub standingIn : Plan → List ℕ → ℕ → Standing
-standingIn p b i = standingFrom (rowAt standingWidths (drop (standingsFrom p) b) i)
+standingIn p b i = standingFrom (rowAt standingWidths (drop (standingRowsAt p) b) i)
 
 -- the state: an image has rows for the plan's resources and tasks, and past these a state is as a fresh one
 abbrev pub stateIn : Plan → List ℕ → State

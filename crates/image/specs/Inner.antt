@@ -15,8 +15,8 @@ use Rattle.machine_state.specs.declared.LineRow.{LineRow}
 use Rattle.machine_state.specs.declared.State.{State}
 use Rattle.machine_state.specs.Shows.{noLine, lineAt, standing, slot}
 use Rattle.machine_state.specs.Sound.{sound}
-use Rattle.image.specs.Layout.{linesFrom, imageLength}
-use Rattle.image.specs.Image.{lineBytes, standingBytes, lineIn, holderAt, standingIn}
+use Rattle.image.specs.Layout.{lineRowsAt, imageLength}
+use Rattle.image.specs.Image.{lineBytes, standingBytes, lineIn, holderIn, standingIn}
 use Rattle.image.specs.Sound.{countsFit}
 
 -- the width of a resource row as a number
@@ -28,8 +28,8 @@ abbrev pub standingWidth : ℕ
 standingWidth = 2
 
 -- where the task rows begin at the most
-abbrev pub standingsFar : ℕ
-standingsFar = 228
+abbrev pub standingRowsFar : ℕ
+standingRowsFar = 228
 
 -- a task of processor j with this row is the first of processor k in line for q
 abbrev pub first : ℕ → ℕ → Standing → ℕ → Bool
@@ -38,8 +38,8 @@ first q k s j = eqb (s .resource) q && eqb (s .place) 0 && eqb j k
 -- the holder's number in row q: that of a first task of the head, or none where the resource is free
 unfoldable pub holderTest : Plan → List ℕ → ℕ → Bool
 holderTest p b q =
-    cond (eqb (lineIn b q .queued) 0) (eqb (holderAt b q) absent)
-    (cond (ltb (holderAt b q) (p .tasks)) (first q (slot (lineIn b q) 0) (standingIn p b (holderAt b q)) (processorOf p (holderAt b q))) false)
+    cond (eqb (lineIn b q .queued) 0) (eqb (holderIn b q) absent)
+    (cond (ltb (holderIn b q) (p .tasks)) (first q (slot (lineIn b q) 0) (standingIn p b (holderIn b q)) (processorOf p (holderIn b q))) false)
 
 -- what is tested of an image beside the state that it shows
 unfoldable pub fitTest : Plan → List ℕ → Bool
@@ -64,21 +64,21 @@ pub record Lent (f b : List ℕ) : Type 0 where
 -- bytes with room for the row of resource q, and for those of n resources
 pub record LineRoom (q : ℕ) (b : List ℕ) : Type 0 where
   pub few : q < mostResources
-  pub room : linesFrom + q * lineWidth + lineWidth ≤ length b
+  pub room : lineRowsAt + q * lineWidth + lineWidth ≤ length b
 
 pub record LinesRoom (n : ℕ) (b : List ℕ) : Type 0 where
   pub few : n ≤ mostResources
-  pub room : linesFrom + n * lineWidth ≤ length b
+  pub room : lineRowsAt + n * lineWidth ≤ length b
 
 -- for the row of task i where these begin at `from`, and for those of n tasks
 pub record StandingRoom (from i : ℕ) (b : List ℕ) : Type 0 where
   pub few : i < mostTasks
-  pub low : from ≤ standingsFar
+  pub low : from ≤ standingRowsFar
   pub room : from + i * standingWidth + standingWidth ≤ length b
 
 pub record StandingsRoom (from n : ℕ) (b : List ℕ) : Type 0 where
   pub few : n ≤ mostTasks
-  pub low : from ≤ standingsFar
+  pub low : from ≤ standingRowsFar
   pub room : from + n * standingWidth ≤ length b
 
 -- such bytes, and a resource of the plan

@@ -19,13 +19,13 @@ abbrev pub standingWidths : List ℕ
 standingWidths = 1 ∷ 1 ∷ []
 
 -- where the resource rows begin
-abbrev pub linesFrom : ℕ
-linesFrom = width headWidths
+abbrev pub lineRowsAt : ℕ
+lineRowsAt = width headWidths
 
 -- and the task rows
-abbrev pub standingsFrom : Plan → ℕ
-standingsFrom p = linesFrom + p .resources * width lineWidths
+abbrev pub standingRowsAt : Plan → ℕ
+standingRowsAt p = lineRowsAt + p .resources * width lineWidths
 
 -- the length of a plan's image
 abbrev pub imageLength : Plan → ℕ
-imageLength p = standingsFrom p + p .tasks * width standingWidths
+imageLength p = standingRowsAt p + p .tasks * width standingWidths

@@ -11,13 +11,13 @@ use Rattle.folds.specs.Below.{allBelow}
 use Rattle.plan_reading.specs.Plan.{Plan}
 use Rattle.machine_state.specs.Shows.{slot, isIdle}
 use Rattle.machine_state.specs.Sound.{alone, backed, holderOf, sound}
-use Rattle.image.specs.Layout.{linesFrom, standingsFrom}
-use Rattle.image.specs.Image.{lineIn, holderAt, standingIn, stateIn}
+use Rattle.image.specs.Layout.{lineRowsAt, standingRowsAt}
+use Rattle.image.specs.Image.{lineIn, holderIn, standingIn, stateIn}
 
 module _ (p : Plan) (b : List ℕ) where
   -- "counts and offsets fit the plan"
   unfoldable pub countsFit : Bool
-  countsFit = eqb (getD b 0 0) (p .tasks) && eqb (getD b 1 0) (p .resources) && eqb (getD b 2 0) linesFrom && eqb (getD b 3 0) (standingsFrom p)
+  countsFit = eqb (getD b 0 0) (p .tasks) && eqb (getD b 1 0) (p .resources) && eqb (getD b 2 0) lineRowsAt && eqb (getD b 3 0) (standingRowsAt p)
 
   -- "255 fills what is absent": the processors of row q past the count
   abbrev pub absentFilled : ℕ → Bool
@@ -27,7 +27,7 @@ module _ (p : Plan) (b : List ℕ) where
   abbrev pub freeFilled : ℕ → Bool
   freeFilled q =
       not (eqb (lineIn b q .queued) 0)
-      || (eqb (holderAt b q) absent && eqb (lineIn b q .«hold_left») 0 && eqb (lineIn b q .«budget_left») 0)
+      || (eqb (holderIn b q) absent && eqb (lineIn b q .«hold_left») 0 && eqb (lineIn b q .«budget_left») 0)
 
   -- a task that is in line for nothing has neither resource nor place, one in line has both
   abbrev pub taskFilled : ℕ → Bool
@@ -39,7 +39,7 @@ module _ (p : Plan) (b : List ℕ) where
 
   -- the holder's number is that of the head's first task, who holds in the state that it shows
   abbrev pub holderFits : ℕ → Bool
-  holderFits q = eqb (lineIn b q .queued) 0 || eqb (holderAt b q) (holderOf p (stateIn p b .tasks) q (lineIn b q))
+  holderFits q = eqb (lineIn b q .queued) 0 || eqb (holderIn b q) (holderOf p (stateIn p b .tasks) q (lineIn b q))
 
   -- what is absent or free, for all rows
   abbrev pub filled : Bool

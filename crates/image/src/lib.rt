@@ -12,7 +12,7 @@ ghost use Rattle.folds.specs.Below.{allBelow};
 ghost use Rattle.folds.specs.Bytes.{fields, rowAt, bytesBelow, placedBelow};
 ghost use Rattle.plan_reading.specs.Plan.{planOf, Checked};
 ghost use Rattle.machine_state.specs.Shows.{freshState, shows};
-ghost use Rattle.image.specs.Layout.{lineWidths, standingWidths, linesFrom, standingsFrom, imageLength};
+ghost use Rattle.image.specs.Layout.{lineWidths, standingWidths, lineRowsAt, standingRowsAt, imageLength};
 ghost use Rattle.image.specs.Image.{headBytes, lineBytes, standingBytes, imageWith, lineFrom, standingFrom, lineIn, stateIn};
 ghost use Rattle.image.specs.Sound.{countsFit};
 ghost use Rattle.image.specs.Inner.{lineWidth, standingWidth, holderTest, fitTest, holderKey, holderTable, lineRow, standingRow};
@@ -29,9 +29,9 @@ const STANDING_ROW: usize = 2;
 const RESOURCES: u8 = sizes::RESOURCES as u8;
 
 // Where the task rows of a plan's image begin.
-fn standings_from(file: &[u8]) -> usize
+fn standing_rows_at(file: &[u8]) -> usize
     requires { ⌜ Checked (now file) ⌝ }
-    ensures { λ r. ⌜ r ≡ standingsFrom (planOf (now (file .entry))) ⌝ }
+    ensures { λ r. ⌜ r ≡ standingRowsAt (planOf (now (file .entry))) ⌝ }
 {
     let counts = plan_reading::checked::counts(file);
     HEAD + folds::wide(counts.resources) * LINE_ROW
@@ -43,7 +43,7 @@ pub fn image_length(file: &[u8]) -> usize
     ensures { λ r. ⌜ r ≡ imageLength (planOf (now (file .entry))) ⌝ }
 {
     let counts = plan_reading::checked::counts(file);
-    standings_from(file) + folds::wide(counts.tasks) * STANDING_ROW
+    standing_rows_at(file) + folds::wide(counts.tasks) * STANDING_ROW
 }
 
 // Two bytes as a number, low byte first.
@@ -148,7 +148,7 @@ pub fn load(file: &[u8], image: &[u8]) -> State
     ensures { λ r. ⌜ r ≡ stateIn (planOf (now (file .entry))) (now (image .entry)) ⌝ }
 {
     let counts = plan_reading::checked::counts(file);
-    let at = standings_from(file);
+    let at = standing_rows_at(file);
     State {
         lines: load_lines(image, folds::wide(counts.resources)),
         tasks: load_standings(image, at, folds::wide(counts.tasks)),
@@ -161,7 +161,7 @@ fn counts_ok(file: &[u8], image: &[u8]) -> bool
     ensures { λ r. ⌜ r ≡ countsFit (planOf (now (file .entry))) (now (image .entry)) ⌝ }
 {
     let counts = plan_reading::checked::counts(file);
-    let at = standings_from(file);
+    let at = standing_rows_at(file);
     let tasks = image[0] == counts.tasks;
     let resources = image[1] == counts.resources;
     tasks & resources & (folds::wide(image[2]) == HEAD) & (folds::wide(image[3]) == at)
@@ -184,7 +184,7 @@ fn holder_ok(file: &[u8], image: &[u8], q: usize) -> bool
     }
     let i = folds::wide(holder);
     let task = plan_reading::checked::task(file, i);
-    let s = standing_at(image, standings_from(file), i);
+    let s = standing_at(image, standing_rows_at(file), i);
     let queue = line.queue;
     (folds::wide(s.resource) == q) & (s.place == 0) & (task.processor == queue[0])
 }
@@ -219,11 +219,11 @@ pub fn fits(file: &[u8], image: &[u8]) -> bool
 
 // The first four bytes, at the front of the buffer.
 fn put_head(buf: &mut [u8], file: &[u8])
-    requires { ⌜ (Checked (now file)) × (linesFrom ≤ length (now buf)) ⌝ }
-    ensures { λ r. ⌜ now (buf .exit) ≡ headBytes (planOf (now (file .entry))) ++ drop linesFrom (now (buf .entry)) ⌝ }
+    requires { ⌜ (Checked (now file)) × (lineRowsAt ≤ length (now buf)) ⌝ }
+    ensures { λ r. ⌜ now (buf .exit) ≡ headBytes (planOf (now (file .entry))) ++ drop lineRowsAt (now (buf .entry)) ⌝ }
 {
     let counts = plan_reading::checked::counts(file);
-    let at = standings_from(file);
+    let at = standing_rows_at(file);
     let row = [counts.tasks, counts.resources, HEAD as u8, at as u8];
     folds::put_bytes(buf, &row);
 }
@@ -333,7 +333,7 @@ pub fn store(file: &[u8], image: &mut [u8], state: State)
     ensures { λ r. ⌜ (length (state .lines) ≡ mostResources) × (length (state .tasks) ≡ mostTasks) ⌝ }
 {
     let counts = plan_reading::checked::counts(file);
-    let at = standings_from(file);
+    let at = standing_rows_at(file);
     let holders = holders_of(file, state);
     let lines = state.lines;
     let tasks = state.tasks;

@@ -1,6 +1,6 @@
 -- The three outcomes of the test: a free resource, a number past the tasks, and the row of the task.
 use Rattle.image.proofs.Ground.{List, ℕ, _≡_, ap, _∙_, getD, drop, arith, needs, planOf, Valid, valid-plan, rowAt, lineWidths}
-use Rattle.image.proofs.Ground.{standingWidths, standingFrom, lineIn, holderAt, standingIn}
+use Rattle.image.proofs.Ground.{standingWidths, standingFrom, lineIn, holderIn, standingIn}
 use Rattle.image.proofs.Rows.{row-part}
 use Rattle.image.proofs.Tested.{free-test, past-test, first-test}
 use Rattle.image.proofs.holder_ok.Statement.{statement}
@@ -16,8 +16,8 @@ valid g = valid-plan _ (begun g .pre .lent .plan)
 line : (g : tie.After-get-holder) → g .before .before .line-at .result ≡ lineIn (begun g .args .image .now) (begun g .args .q)
 line g = g .before .before .line-at .ensures
 
-holder : (g : tie.After-get-holder) → g .get-holder .result ≡ holderAt (begun g .args .image .now) (begun g .args .q)
-unfolding holderAt
+holder : (g : tie.After-get-holder) → g .get-holder .result ≡ holderIn (begun g .args .image .now) (begun g .args .q)
+unfolding holderIn
 holder g =
     g .get-holder .ensures ∙ ap (λ (vs : List ℕ). getD vs 1 0) (row-part lineWidths (begun g .args .image .now) 4 (begun g .args .q))
 
@@ -25,7 +25,7 @@ holder g =
 abbrev read : tie.After-counts → tie.After-get-holder
 read c = c .before .before .before
 
-abbrev counted : tie.After-standings-from → tie.After-counts
+abbrev counted : tie.After-standing-rows-at → tie.After-counts
 counted c = let w = c .before .before in w .before .before .before
 
 line-at-requires : tie.Need-line-at-requires
@@ -50,7 +50,7 @@ standing-at-requires c κs =
     let v = valid g in
     let i = c .before .before .wide .ensures .same in
     let small = c .before .before .before .if2 .left in
-    let from = c .standings-from .ensures in
+    let from = c .standing-rows-at .ensures in
     let room = begun g .pre .lent .room in
     record {
       few = omega (arith, v .tasks, i, small, n .counts .ensures .tasks);
@@ -67,7 +67,7 @@ returns-3 c =
     let g = read n in
     let b = begun g .args .image .now in
     let i = f .before .before .wide in
-    let row = s .standing-at .ensures ∙ ap (λ (k : ℕ). standingFrom (rowAt standingWidths (drop k b) (i .result))) (f .standings-from .ensures) in
+    let row = s .standing-at .ensures ∙ ap (λ (k : ℕ). standingFrom (rowAt standingWidths (drop k b) (i .result))) (f .standing-rows-at .ensures) in
     rw (c .before .before .wide2 .ensures .same, f .before .task .ensures)
     (first-test _ b _ (line g) (holder g) (n .before .if1 .left)
     (omega (arith, f .before .before .before .if2 .left, n .counts .ensures .tasks)) (i .ensures .same) row)

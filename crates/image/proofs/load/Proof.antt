@@ -5,7 +5,7 @@ use Rattle.image.proofs.load.Statement.{statement}
 use Rattle.image.proofs.load.Tie as tie
 
 -- the beginning, seen from where the offset is known
-abbrev begun : tie.After-standings-from → tie.Start
+abbrev begun : tie.After-standing-rows-at → tie.Start
 begun c = let n = c .before in n .before .before .before
 
 load-lines-requires : tie.Need-load-lines-requires
@@ -24,7 +24,7 @@ load-standings-requires c κs =
     let v = valid-plan _ (a .pre .plan) in
     let n = c .wide2 .ensures .same in
     let t = f .before .counts .ensures .tasks in
-    let from = f .standings-from .ensures in
+    let from = f .standing-rows-at .ensures in
     record { few = omega (arith, n, t, v .tasks); low = omega (arith, from, v .resources); room = omega (arith, n, t, from, a .pre .room) }
 
 returns : tie.Need-returns
@@ -37,7 +37,7 @@ returns c =
     ap₂ (λ (ls : List LineRow) (ts : List Standing). record { lines = ls; tasks = ts })
     (c .before .before .load-lines .ensures ∙ ap (λ (k : ℕ). placedBelow k (lineIn b) (freshState .lines)) r)
     (c .load-standings .ensures
-    ∙ ap₂ (λ (k from : ℕ). placedBelow k (λ i. standingFrom (rowAt standingWidths (drop from b) i)) (freshState .tasks)) n (f .standings-from .ensures))
+    ∙ ap₂ (λ (k from : ℕ). placedBelow k (λ i. standingFrom (rowAt standingWidths (drop from b) i)) (freshState .tasks)) n (f .standing-rows-at .ensures))
 
 pub load-spec : {M : Type 1} → statement M
 load-spec =

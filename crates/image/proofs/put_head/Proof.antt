@@ -6,7 +6,7 @@ use Rattle.image.proofs.put_head.Tie as tie
 cast-t7 : tie.Need-cast-t7
 cast-t7 c =
     let v = valid-plan _ (c .before .before .before .before .pre .0) in
-    omega (arith, v .resources, c .standings-from .ensures)
+    omega (arith, v .resources, c .standing-rows-at .ensures)
 
 returns : tie.Need-returns
 unfolding headBytes rowBytes digits

@@ -48,7 +48,7 @@ put-standings-requires c κs =
     let v = valid h in
     let n = c .wide2 .ensures .same in
     let t = h .before .before .counts .ensures .tasks in
-    let from = h .before .standings-from .ensures in
+    let from = h .before .standing-rows-at .ensures in
     let room = begun h .pre .lent .room in
     record { few = omega (arith, n, t, v .tasks); room = simp (length-take, length-drop) (omega (arith, n, t, from, room)) }
 
@@ -61,7 +61,7 @@ returns c =
     let h = tabled p in
     let a = begun h in
     let counts = h .before .before .counts .ensures in
-    let from = h .before .standings-from in
+    let from = h .before .standing-rows-at in
     let room = a .pre .lent .room in
     let n = l .before .wide .ensures .same ∙ counts .resources in
     let m = w .wide2 .ensures .same ∙ counts .tasks in
