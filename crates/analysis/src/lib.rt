@@ -1,5 +1,7 @@
 // The questions about a plan file: hold time, longest wait, budget, wait time, requirement and admission. Each takes any bytes and refuses by
 // number what it does not accept.
+#![tactic(auto)]
+
 ghost use Rattle.std.specs.Prelude.{◌≡◌, cond, not, ◌||◌, [], ◌∷◌, length, get_or, replicate};
 ghost use Rattle.refusals.specs.Outcomes.{outcome};
 ghost use Rattle.folds.specs.Bytes.{placed_below};

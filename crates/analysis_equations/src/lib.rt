@@ -1,1 +1,2 @@
 // The definitions of the analysis (specs/) with their laws (proofs/).
+#![tactic(auto)]

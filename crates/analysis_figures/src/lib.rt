@@ -1,6 +1,8 @@
 // All hold times and budgets of a plan in one table, and what is read off it: which resources are global, who may ask for what, and wait
 // times. The functions here are for the crates above, and rely on a file that passed every check, or on the table; each says
 // so in its `requires`. Crate `analysis_hold_times` fills the table in.
+#![tactic(auto)]
+
 ghost use Rattle.std.specs.Prelude.{◌≡◌, ◌≤◌, ◌<◌, get_or};
 ghost use Rattle.sizes.specs.Sizes.{most_processors, most_tasks, most_resources};
 ghost use Rattle.plan_reading.specs.Plan.{plan_of, Checked};

@@ -1,6 +1,8 @@
 // The requirement of a task: B1, B2, the waiting side, the tolerance and the slack, from a checked file and two tables that are filled in for
 // all its tasks at once: the terms of B1 and B2, and the waiting sides. Every function here is for the crates above, and says in its
 // `requires` what it relies on.
+#![tactic(auto)]
+
 ghost use Rattle.std.specs.Prelude.{◌≡◌, ◌+◌, ◌-◌, ◌<◌, pos, ◌-ℤ◌};
 ghost use Rattle.std.specs.Int.Signed.{mag};
 ghost use Rattle.folds.specs.Signed.{greatest_to};

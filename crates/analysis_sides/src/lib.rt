@@ -1,5 +1,7 @@
 // The waiting sides of all tasks, from a checked file and the tables of its figures and totals: each section's wait is added where its task
 // stands. Every function here is for the crates above, and says in its `requires` what it relies on.
+#![tactic(auto)]
+
 ghost use Rattle.std.specs.Prelude.{◌≡◌, replicate};
 ghost use Rattle.sizes.specs.Sizes.{most_tasks};
 ghost use Rattle.plan_reading.specs.Plan.{plan_of};

@@ -1,5 +1,7 @@
 // The terms of B1 and B2 of all tasks, in one table, from a checked file and the table of its figures. Every function here is for the crates
 // above, and says in its `requires` what it relies on.
+#![tactic(auto)]
+
 ghost use Rattle.std.specs.Prelude.{◌≡◌, ◌<◌, length, get_or, replicate};
 ghost use Rattle.sizes.specs.Sizes.{most_tasks, most_resources};
 ghost use Rattle.plan_reading.specs.Plan.{plan_of, Checked};

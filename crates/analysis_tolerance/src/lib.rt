@@ -1,5 +1,7 @@
 // The tolerance of a task, from a checked file and the terms of its tasks. Nothing here divides: the periods that have begun are counted as t
 // rises. Every function is for the crates above, and says in its `requires` what it relies on.
+#![tactic(auto)]
+
 ghost use Rattle.std.specs.Prelude.{◌≡◌, ◌+◌, ◌-◌, pos, ◌-ℤ◌};
 ghost use Rattle.folds.specs.Signed.{greatest_to};
 ghost use Rattle.plan_reading.specs.Plan.{plan_of};

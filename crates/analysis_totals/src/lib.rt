@@ -1,6 +1,8 @@
 // What the figures of a plan add up to for each processor and resource, and what is read off that: wait times, and the fellows of a task.
 // The functions here are for the crates above, and rely on a file that passed every check and the table of its figures; each says so in its
 // `requires`.
+#![tactic(auto)]
+
 ghost use Rattle.std.specs.Prelude.{◌≡◌, cond, ◌≤◌, get_or, replicate};
 ghost use Rattle.folds.specs.Below.{count_below};
 ghost use Rattle.sizes.specs.Sizes.{most_resources};

@@ -1,5 +1,7 @@
 // The longest wait of a task for a resource, from a checked file and the tables of its figures and totals. The function is for the crates
 // above, and says in its `requires` what it relies on.
+#![tactic(auto)]
+
 ghost use Rattle.std.specs.Prelude.{◌≡◌, length};
 ghost use Rattle.plan_reading.specs.Plan.{plan_of};
 ghost use Rattle.analysis_totals.specs.Totals.{SharingTask};

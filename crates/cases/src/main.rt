@@ -1,5 +1,7 @@
 // Runs the cases that are not for proof, as standard input lists them, and prints what each gives.
 // Standard input is a sequence of records: 4 bytes of length, then a kind, a label and the case.
+#![tactic(auto)]
+
 mod asked;
 mod called;
 mod given;

@@ -1,5 +1,7 @@
 // The datasheet program: reads a plan file on standard input, and prints its sheet, or "refused N". What is printed is the work of
 // `print_sheet` and `print_lines`; here bytes are only read and written.
+#![tactic(auto)]
+
 use libc::STDOUT_FILENO;
 
 fn main() {

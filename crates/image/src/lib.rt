@@ -1,5 +1,7 @@
 // The image of a state: document 02 §3. How it is laid out, loaded into a state by value, tested, and stored again. The functions here
 // are for the crates above: each says in its `requires` what it relies on.
+#![tactic(auto)]
+
 ghost use Rattle.std.specs.Prelude.{◌≡◌, ◌++◌, ◌+◌, ◌*◌, ◌≤◌, length, get_or, drop};
 ghost use Rattle.sizes.specs.Sizes.{most_tasks, most_resources};
 ghost use Rattle.folds.specs.Below.{all_below};

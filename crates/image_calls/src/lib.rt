@@ -1,5 +1,7 @@
 // The machine on a plan file and an image that is lent: document 02 §3. Each function takes any bytes, and refuses by number what it does
 // not accept.
+#![tactic(auto)]
+
 ghost use Rattle.std.specs.Prelude.{◌≡◌};
 ghost use Rattle.machine_calls.specs.Calls.{call_width, call_in, calls_of};
 ghost use Rattle.image_calls.specs.Replies.{lent_refusal, image_reply, NextImage, StartedImage, AfterLent};

@@ -1,5 +1,7 @@
 // The machine: start, request, release, give-up and tick, each on a plan file and a state by value. Each takes any bytes and any state, and
 // refuses by number what it does not accept.
+#![tactic(auto)]
+
 ghost use Rattle.std.specs.Prelude.{◌≡◌, true};
 ghost use Rattle.plan.specs.Acceptance.{refusal};
 ghost use Rattle.plan_reading.specs.Plan.{plan_of};

@@ -1,5 +1,7 @@
 // Calls as bytes: document 01, "The printing program", and document 02 §1. A call is a letter, a tag and a resource. Where each of its bytes stands is said
 // here and nowhere else.
+#![tactic(auto)]
+
 ghost use Rattle.std.specs.Prelude.{◌≡◌, ◌+◌, ◌*◌, length};
 ghost use Rattle.machine_calls.specs.Calls.{call_of, decoded_calls, tag_at, bytes_at};
 ghost use Rattle.machine_calls.specs.Inner.{CallIn};

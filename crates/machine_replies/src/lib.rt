@@ -1,5 +1,7 @@
 // What a call is refused for on a sound state, and what it does and is answered where it is not. The crates above look at the plan and
 // the state first, and hand on the tables that this relies on.
+#![tactic(auto)]
+
 ghost use Rattle.std.specs.Prelude.{◌≡◌, ℕ};
 ghost use Rattle.plan_reading.specs.Plan.{plan_of};
 ghost use Rattle.machine_rules.specs.declared.Call.TheVariants.{Request, Release, GiveUp, Tick};

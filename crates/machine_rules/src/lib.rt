@@ -1,4 +1,5 @@
 // The calls of the machine and what it answers. The rules are in specs/, the bound on waiting for whole lists of calls in proofs/.
+#![tactic(auto)]
 
 // A request, a release or a give-up, each of a tag and a resource, or a tick.
 #[derive(Drop)]

@@ -1,5 +1,7 @@
 // The state of the machine by value, the test whether it is sound, and the tables by which a call looks it up. The functions here
 // are for the crates above: each says in its `requires` what it relies on.
+#![tactic(auto)]
+
 ghost use Rattle.std.specs.Prelude.{◌≡◌, not, ◌≤◌, replicate, eqb};
 ghost use Rattle.sizes.specs.Sizes.{most_processors, absent};
 ghost use Rattle.folds.specs.Below.{all_below};

@@ -1,5 +1,7 @@
 // What a request, a release, a give-up and a tick make of a sound state, by the tables of its plan. Every function here is for the
 // machine: each says in its `requires` what it relies on.
+#![tactic(auto)]
+
 ghost use Rattle.std.specs.Prelude.{◌≡◌, ◌&&◌, ◌<◌, ◌≤◌, eqb, ltb, length};
 ghost use Rattle.folds.specs.Words.{bit_of};
 ghost use Rattle.machine_state.specs.Shows.{line_at};

@@ -1,6 +1,8 @@
 // The meters of the service menu (document 02 §5): of each resource how many grants and cuts there were, and the longest wait that ended in a
 // grant. A call tells what it did to each resource by a mark; here marks are counted, by value and where the meters are. All numbers have 32
 // bits and stay at their top.
+#![tactic(auto)]
+
 ghost use Rattle.std.specs.Prelude.{◌≡◌, ◌<◌, get_or};
 ghost use Rattle.sizes.specs.Sizes.{most_resources};
 ghost use Rattle.meters.specs.Meters.{one_more, longer, no_mark, counted, counted_each, no_meters};

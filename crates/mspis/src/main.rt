@@ -1,5 +1,7 @@
 // The printing program: reads a plan file and then calls on standard input, and prints what each call does. What a
 // line says is the work of `print_calls`; here bytes are only read and written.
+#![tactic(auto)]
+
 ghost use Rattle.std.specs.Prelude.{◌-◌, ◌≤◌, length};
 
 use libc::{STDIN_FILENO, STDOUT_FILENO};

@@ -1,6 +1,8 @@
 // The functions for C: document 02 §3. Each takes the plan, the image and, as far as it needs them, a tag and a resource, in this order, and
 // returns a word of 64 bits. None relies on anything: what they are given is checked, and refused by its number. include/mspis.h
 // declares them.
+#![tactic(auto)]
+
 ghost use Rattle.std.specs.Prelude.{◌≡◌};
 ghost use Rattle.machine_rules.specs.declared.Call.TheVariants.{Request, Release, GiveUp, Tick};
 ghost use Rattle.image_calls.specs.Replies.{lent_refusal, image_reply, NextImage, StartedImage};

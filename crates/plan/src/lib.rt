@@ -1,4 +1,6 @@
 // The plan file as users have it: reading it, and the names in it. A plan is accepted by what crate `plan_reading` checks.
+#![tactic(auto)]
+
 ghost use Rattle.std.specs.Prelude.{◌≡◌, ◌≤◌, length};
 ghost use Rattle.plan.specs.Acceptance.{refusal};
 ghost use Rattle.plan.specs.Reading.{reading, read_outcome, reading_outcome, name_refusal, name_of, refused_with, plan_length};

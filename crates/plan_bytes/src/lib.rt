@@ -1,5 +1,7 @@
 // How a plan's values become bytes at the front of a lent buffer. `put_file` is for the crates above, and says in its `requires` what it
 // relies on.
+#![tactic(auto)]
+
 ghost use Rattle.std.specs.Prelude.{◌≡◌, ◌++◌, ◌*◌, ◌≤◌, ◌<◌, length, drop};
 ghost use Rattle.sizes.specs.Sizes.{most_resources, most_sections};
 ghost use Rattle.folds.specs.Bytes.{row_bytes, bytes_below};

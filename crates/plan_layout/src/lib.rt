@@ -1,5 +1,7 @@
 // Where the parts of a plan file are, and what their rows hold. These functions are for the crates that read and write
 // plans: those with a `requires` rely on what earlier checks gave.
+#![tactic(auto)]
+
 ghost use Rattle.std.specs.Prelude.{◌≡◌, true, ◌+◌, ◌*◌, ◌≤◌, ◌<◌, length};
 ghost use Rattle.sizes.specs.Sizes.{most_tasks, most_resources, most_sections};
 ghost use Rattle.folds.specs.Bytes.{number};

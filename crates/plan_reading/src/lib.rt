@@ -1,4 +1,6 @@
 // A plan file's checks, 1 to 9, in order, and its rows by value. What users call is in crate `plan`, above the hold times.
+#![tactic(auto)]
+
 ghost use Rattle.std.specs.Prelude.{◌≡◌, ◌≤◌, length};
 ghost use Rattle.plan_layout.specs.Editions.{header_length};
 ghost use Rattle.plan_layout.specs.Layout.{rows_of};

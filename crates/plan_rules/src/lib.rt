@@ -1,4 +1,6 @@
 // A plan's rows by value, and the rules that they keep, whether they come from a file or go into one.
+#![tactic(auto)]
+
 ghost use Rattle.std.specs.Prelude.{◌≡◌};
 ghost use Rattle.plan_rules.specs.Rules.{counts_ok, task_ok, section_ok};
 

@@ -1,4 +1,6 @@
 // Writing a plan file at the front of a lent buffer, and both round trips.
+#![tactic(auto)]
+
 ghost use Rattle.std.specs.Prelude.{◌≡◌, ◌≤◌, length};
 ghost use Rattle.sizes.specs.Sizes.{most_tasks};
 ghost use Rattle.plan_rules.specs.Rules.{tags_ok};

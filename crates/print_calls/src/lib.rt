@@ -1,4 +1,6 @@
 // What a call does, as a line of text in a lent buffer: document 01, "The printing program".
+#![tactic(auto)]
+
 ghost use Rattle.std.specs.Prelude.{◌≡◌, length};
 ghost use Rattle.machine.specs.Replies.{state_refusal, AfterBytes};
 ghost use Rattle.machine_calls.specs.Calls.{call_in};

@@ -1,6 +1,8 @@
 // The lines of the printing programs, put into a lent buffer from a place on; each function returns where its text ends. They are for
 // the crates above this one: each says in its `requires` how much room it takes. The line of a refusal, which both programs print, is
 // there for any buffer too.
+#![tactic(auto)]
+
 ghost use Rattle.std.specs.Prelude.{◌≡◌, cond, [], ◌+◌, ◌≤◌, length};
 ghost use Rattle.print_text.specs.Text.{PutIn};
 ghost use Rattle.print_text.specs.Buffers.{handed, buffer_with};

@@ -1,4 +1,6 @@
 // The datasheet of a plan: what its analysis says, and the longest wait of each task for each resource, one fact a line.
+#![tactic(auto)]
+
 ghost use Rattle.std.specs.Prelude.{◌≡◌, ◌+◌, ◌≤◌, length};
 ghost use Rattle.print_text.specs.Text.{PutIn};
 ghost use Rattle.plan_reading.specs.Plan.{plan_of, Checked};

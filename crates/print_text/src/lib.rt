@@ -1,5 +1,7 @@
 // Text put into a lent buffer, from a place on; each function returns where the text ends. They are for the crates above this one,
 // which know how much room there is: each says in its `requires` how much it takes.
+#![tactic(auto)]
+
 ghost use Rattle.std.specs.Prelude.{◌≡◌, ◌+◌, ◌≤◌, true, pos, nat_abs, length};
 ghost use Rattle.std.specs.Int.Signed.{lt_z};
 ghost use Rattle.print_text.specs.Text.{most_digits, most_signed, decimal, signed, Put, PutIn};

@@ -1,4 +1,5 @@
 // The numbers by which operations refuse: document 01, "What each operation refuses, in order". 0 stands for no refusal.
+#![tactic(auto)]
 
 // Reading and writing a plan.
 pub const WRONG_LENGTH: u8 = 1;

@@ -1,4 +1,6 @@
 // The greatest counts of a plan: document 01, "The plan file". Arrays and tables are as long as these say.
+#![tactic(auto)]
+
 pub const PROCESSORS: usize = 8;
 
 pub const TASKS: usize = 64;

@@ -1,4 +1,6 @@
 // Standard input and output for the programs: a plan that is read, and the line of a refusal.
+#![tactic(auto)]
+
 ghost use Rattle.std.specs.Prelude.{◌≤◌, ◌≡◌, length, take};
 ghost use Rattle.plan.specs.Reading.{plan_length};
 ghost use Rattle.streams.specs.Streams.{most_plan_bytes, Came};
