@@ -13,13 +13,15 @@ HERE = os.path.dirname(os.path.realpath(__file__))
 with open(os.path.join(HERE, "respell.tsv"), encoding="utf-8") as f:
     TABLE = dict(line.rstrip("\n").split("\t") for line in f)
 WORD = re.compile(r"""(\.?)([^\s(){}.;,@"«»`]+)""")
+CLAUSE = re.compile("-|[a-z][A-Z]")
 COMMENT = {".antt": re.compile(r"(?<![^\s(){}.;,@\"«»])--[^\n]*"), ".rt": re.compile(r'//[^\n]*|b?"(?:\\.|[^"\\])*"')}
 
 
-def turned(match):
+def turned(match, kind):
     dot, word = match[1], match[2]
     new = TABLE.get(word)
-    if new is None:
+    # a word that Rust can name too stays in .rt: it is a function there
+    if new is None or (kind == ".rt" and not CLAUSE.search(word)):
         return match[0]
     if dot and new.endswith("_lem"):
         return dot + new[:-4]
@@ -34,12 +36,15 @@ def in_prose(match):
 
 
 def respelled(text, kind):
+    def code(match):
+        return turned(match, kind)
+
     out, at = [], 0
     for aside in COMMENT[kind].finditer(text):
-        out.append(WORD.sub(turned, text[at:aside.start()]))
+        out.append(WORD.sub(code, text[at:aside.start()]))
         out.append(WORD.sub(in_prose, aside[0]) if aside[0].startswith(("--", "//")) else aside[0])
         at = aside.end()
-    out.append(WORD.sub(turned, text[at:]))
+    out.append(WORD.sub(code, text[at:]))
     return "".join(out)
 
 

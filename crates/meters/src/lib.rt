@@ -24,7 +24,7 @@ pub struct Mark {
 }
 
 // n, or one more where it is counted, up to the top.
-fn one_more_lem(on: bool, n: u32) -> u32
+fn one_more(on: bool, n: u32) -> u32
     ensures { result ≡ one_more on n }
 {
     if on & (n < u32::MAX) {
@@ -48,8 +48,8 @@ pub fn counted(meter: Meter, mark: Mark) -> Meter
     ensures { result ≡ counted meter mark }
 {
     Meter {
-        grants: one_more_lem(mark.granted, meter.grants),
-        cuts: one_more_lem(mark.cut, meter.cuts),
+        grants: one_more(mark.granted, meter.grants),
+        cuts: one_more(mark.cut, meter.cuts),
         longest: longer(mark.granted, mark.waited, meter.longest),
     }
 }

@@ -56,7 +56,7 @@ fn bytes_ok(names: &[u8]) -> bool
 }
 
 // Whether the len bytes at a and those at b are the same.
-fn same_bytes_lem(names: &[u8], a: usize, b: usize, len: usize) -> bool
+fn same_bytes(names: &[u8], a: usize, b: usize, len: usize) -> bool
     requires { (a + len ≤ length names.now) × (b + len ≤ length names.now) }
     ensures { result ≡ same_bytes names.now a b len }
 {

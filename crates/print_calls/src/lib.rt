@@ -91,7 +91,7 @@ pub fn plan_line(counts: Counts, out: &mut [u8]) -> Handed
 }
 
 // No line, and the call not made.
-fn no_line_lem(refusal: u8, state: State) -> CallLine
+fn no_line(refusal: u8, state: State) -> CallLine
     ensures { result ≡ record { line = record { refusal = refusal; length = 0 }; state = state } }
 {
     let line = Handed { refusal, length: 0 };
@@ -110,7 +110,7 @@ pub fn call_line(file: &[u8], state: State, bytes: CallBytes, out: &mut [u8]) ->
     let code = machine::surveyed::look(file, &mut figures);
     let first = machine::surveyed::state_refusal(file, code, &figures, state);
     if first != 0 {
-        return no_line_lem(first, state);
+        return no_line(first, state);
     }
     let mut buf = [0u8; LINE];
     let step = put_call(&mut buf, 0, file, &figures, state, bytes);
