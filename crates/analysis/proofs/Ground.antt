@@ -1,5 +1,5 @@
 -- The names that the proofs of this crate share, by one module: a definition that moves is named anew here alone.
-pub use Rattle.folds.proofs.Ground.{List, ◌-◌, ◌<◌, ◌||◌, ◌∙◌, ◌≡◌, ◌≤◌, ap, arith, get_or, needs, not, refl, replicate, sym, true, ℕ}
+pub use Rattle.folds.proofs.Ground.{List, ◌-◌, ◌<◌, ◌||◌, ◌∙◌, ◌≡◌, ◌≤◌, ap, arith, get_or, rules, not, refl, replicate, sym, true, ℕ}
 unfoldable pub use Rattle.folds.specs.Bytes.{placed_below}
 pub use Rattle.plan_reading.specs.Plan.{Plan}
 unfoldable pub use Rattle.plan_reading.specs.Plan.{plan_of}

@@ -1,5 +1,5 @@
 -- The names that the proofs of this crate share, by one module: a definition that moves is named anew here alone.
-pub use Rattle.folds.proofs.Ground.{List, ◌*◌, ◌+◌, ◌-◌, ◌<◌, ◌∙◌, ◌≡◌, ◌≤◌, arith, cond, eq-eqb, eqb, get_or, needs, not, refl, sym, true, ℕ}
+pub use Rattle.folds.proofs.Ground.{List, ◌*◌, ◌+◌, ◌-◌, ◌<◌, ◌∙◌, ◌≡◌, ◌≤◌, arith, cond, eq-eqb, eqb, get_or, rules, not, refl, sym, true, ℕ}
 unfoldable pub use Rattle.folds.specs.Below.{all_below, sum_below}
 pub use Rattle.folds.proofs.Figures.{sum_step}
 pub use Rattle.folds.proofs.Tests.{all_more}

@@ -1,6 +1,6 @@
 -- The names that the proofs of this crate share, by one module: a definition that moves is named anew here alone.
 pub use Rattle.folds.proofs.Ground.{Bool, List, ◌&&◌, ◌*◌, ◌+◌, ◌-◌, ◌<◌, ◌∙◌, ◌≡◌, ◌≤◌, ap, arith, cond, eq-eqb, eqb, false, get_or, le-ltb, length}
-pub use Rattle.folds.proofs.Ground.{length-replicate, lt-ltb, ltb, max, ne_eqb, needs, not-suc-le-zero, refl, replicate, suc, sym, true, zero, ℕ}
+pub use Rattle.folds.proofs.Ground.{length-replicate, lt-ltb, ltb, max, ne_eqb, rules, not-suc-le-zero, refl, replicate, suc, sym, true, zero, ℕ}
 pub use Rattle.folds.proofs.Arrays.{by_eq, stamped_length}
 unfoldable pub use Rattle.folds.proofs.Arrays.{stamped_below}
 pub use Rattle.plan_reading.specs.Plan.{Plan, Valid}

@@ -4,7 +4,7 @@ unfoldable pub use Rattle.folds.specs.Signed.{greatest_to}
 pub use Rattle.folds.proofs.SignedLaws.{back}
 pub use Rattle.folds.proofs.Ground.{Bool, List, ◌&&◌, ◌*◌, ◌+◌, ◌-◌, ◌<◌, ◌∙◌, ◌≡◌, ◌≤◌, ap, arith, cond}
 pub use Rattle.folds.proofs.Ground.{false, get_or, length}
-pub use Rattle.folds.proofs.Ground.{lt-ltb, ltb, ltb-true, min, mul-le-mul, needs}
+pub use Rattle.folds.proofs.Ground.{lt-ltb, ltb, ltb-true, min, mul-le-mul, rules}
 pub use Rattle.folds.proofs.Ground.{refl, replicate, set, sym, true, ℕ, ⊎_elim}
 unfoldable pub use Rattle.folds.specs.Below.{count_below, sum_below}
 pub use Rattle.folds.proofs.Figures.{sum_bound, sum_done, sum_step}

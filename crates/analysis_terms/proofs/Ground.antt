@@ -2,7 +2,7 @@
 pub use Rattle.folds.proofs.Ranges.{cond_bound}
 pub use Rattle.folds.proofs.Ground.{Bool, List, ◌%◌, ◌&&◌, ◌*◌, ◌+◌, ◌-◌, ◌/◌, ◌<◌, ◌∙◌, ◌≡◌, ◌≤◌, and-false, ap, arith, cond}
 pub use Rattle.folds.proofs.Ground.{eq-eqb, eqb, false, get_or, get_or-replicate, length}
-pub use Rattle.folds.proofs.Ground.{length-replicate, length-set, lt-ltb, ltb, ltb-true, max, ne_eqb, needs, not}
+pub use Rattle.folds.proofs.Ground.{length-replicate, length-set, lt-ltb, ltb, ltb-true, max, ne_eqb, rules, not}
 pub use Rattle.folds.proofs.Ground.{not-false, not-true, refl, replicate, set, sym, true, ℕ, ⊎_elim}
 unfoldable pub use Rattle.folds.specs.Below.{count_below, max_below}
 pub use Rattle.folds.proofs.Figures.{count_bound, count_step, max_step}

@@ -2,7 +2,7 @@
 unfoldable pub use Rattle.folds.specs.Signed.{greatest_to}
 pub use Rattle.folds.proofs.SignedLaws.{back}
 pub use Rattle.folds.proofs.Ground.{Bool, List, ◌&&◌, ◌*◌, ◌+◌, ◌-◌, ◌/◌, ◌%◌, ◌<◌, ◌∙◌, ◌≡◌, ◌≤◌, ap, arith, cond, eqb}
-pub use Rattle.folds.proofs.Ground.{eq-eqb, false, get_or, get_or-replicate, length, length-replicate, lt-ltb, ltb, ltb-true, mul-le-mul, needs}
+pub use Rattle.folds.proofs.Ground.{eq-eqb, false, get_or, get_or-replicate, length, length-replicate, lt-ltb, ltb, ltb-true, mul-le-mul, rules}
 pub use Rattle.folds.proofs.Ground.{refl, replicate, set, suc, suc-mul, sym, true, zero, ℕ, ⊎_elim}
 unfoldable pub use Rattle.folds.specs.Below.{count_below, sum_below}
 pub use Rattle.folds.proofs.Figures.{sum_bound, sum_step}

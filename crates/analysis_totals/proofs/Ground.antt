@@ -1,7 +1,7 @@
 -- The names that the proofs of this crate share, by one module: a definition that moves is named anew here alone.
 pub use Rattle.folds.proofs.Ground.{Bool, List, ◌&&◌, ◌*◌, ◌+◌, ◌-◌, ◌<◌, ◌∙◌, ◌≡◌, ◌≤◌, and-false, and-true, ap, arith, cond, eq-eqb, eqb}
 pub use Rattle.folds.proofs.Ground.{false, get_or, get_or-replicate, get_or-set_other, le-ltb, length, length-replicate, length-set, lt-ltb, ltb, ne_eqb}
-pub use Rattle.folds.proofs.Ground.{needs, not, refl, replicate, set, sym, true, true≢false, ℕ}
+pub use Rattle.folds.proofs.Ground.{rules, not, refl, replicate, set, sym, true, true≢false, ℕ}
 pub use Rattle.folds.proofs.Searches.{stored}
 unfoldable pub use Rattle.folds.specs.Below.{count_below, sum_below}
 pub use Rattle.sizes.specs.Sizes.{most_processors, most_resources, most_tasks}

@@ -2,7 +2,7 @@
 pub use Rattle.folds.proofs.Ground.{Bool, List, [], ◌%◌, ◌&&◌, ◌*◌, ◌++◌, ◌+◌, ◌-◌, ◌<◌, ◌||◌, ◌∙◌, ◌∷◌, ◌≡◌, ◌≤◌, ap, append_assoc}
 pub use Rattle.folds.proofs.Ground.{ap₂, arith, cond, drop, drop_at, drop-drop, eq-eqb, eqb, eqb-true, ext_get_or, false, fun_ext, get_or}
 pub use Rattle.folds.proofs.Ground.{get_or-replicate, le-ltb, length, length-append, length-drop, length-replicate}
-pub use Rattle.folds.proofs.Ground.{length-take, lt-ltb, ltb, ltb-true, ne_eqb, needs, not, or-true, refl, replicate, suc, sym}
+pub use Rattle.folds.proofs.Ground.{length-take, lt-ltb, ltb, ltb-true, ne_eqb, rules, not, or-true, refl, replicate, suc, sym}
 pub use Rattle.folds.proofs.Ground.{take, true, zero, ℕ, ⊎_elim}
 pub use Rattle.folds.proofs.Tests.{all_at, all_done, all_from, all_left, all_more, and_parts, same_test}
 pub use Rattle.folds.proofs.Searches.{on_eq, on_le}

@@ -1,6 +1,6 @@
 -- The names that the proofs of this crate share, by one module: a definition that moves is named anew here alone.
 pub use Rattle.folds.proofs.Ground.{Bool, List, ◌*◌, ◌+◌, ◌-◌, ◌<◌, ◌∙◌, ◌≡◌, ◌≢◌, ◌≤◌, ap, arith, cond, eq-eqb, eqb, false}
-pub use Rattle.folds.proofs.Ground.{get_or, length, ne_eqb, needs, not-false, not-true, refl, sym, true, ℕ}
+pub use Rattle.folds.proofs.Ground.{get_or, length, ne_eqb, rules, not-false, not-true, refl, sym, true, ℕ}
 pub use Rattle.folds.proofs.Tests.{first_zero, then_zero}
 pub use Rattle.plan_reading.specs.Plan.{Plan, Valid}
 unfoldable pub use Rattle.plan_reading.specs.Plan.{plan_of}

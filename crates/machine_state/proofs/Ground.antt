@@ -2,7 +2,7 @@
 pub use Rattle.folds.proofs.Ground.{Bool, List, List·getD-eq-default, ◌%◌, ◌&&◌, ◌*◌, ◌+◌, ◌-◌, ◌/◌, ◌<◌, ◌||◌, ◌∙◌, ◌≡◌, ◌≢◌, ◌≤◌, ◌⊎◌}
 pub use Rattle.folds.proofs.Ground.{add-zero, and_assoc, and-true, ap, ap₂, arith, cond, eq-eqb, eqb, eqb-true, false, get_or, get_or-replicate}
 pub use Rattle.folds.proofs.Ground.{get_or-set_other, get_or-set_same, inl, inr, le-leb, le-ltb, leb, leb-true, length, length-replicate}
-pub use Rattle.folds.proofs.Ground.{lt-leb, lt-ltb, ltb, ltb-true, ne_eqb, needs, not, not-true, or-true, refl, replicate, set, suc, sym}
+pub use Rattle.folds.proofs.Ground.{lt-leb, lt-ltb, ltb, ltb-true, ne_eqb, rules, not, not-true, or-true, refl, replicate, set, suc, sym}
 pub use Rattle.folds.proofs.Ground.{true, true≢false, zero, ℕ, ⊎_elim}
 pub use Rattle.folds.proofs.Tests.{all_at, all_done, all_from, all_more, all_same, all_step, and_parts, any_at, any_none, any_out}
 pub use Rattle.folds.proofs.Tests.{find_none, is_not_true, or_out, same_test}

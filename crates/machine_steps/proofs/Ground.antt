@@ -1,7 +1,7 @@
 -- The names that the proofs of this crate share, by one module: a definition that moves is named anew here alone.
 pub use Rattle.folds.proofs.Ground.{Bool, List, List·getD-eq-default, ◌&&◌, ◌||◌, ◌*◌, ◌+◌, ◌-◌, ◌/◌, ◌<◌, ◌∙◌, ◌≡◌, ◌≢◌, ◌≤◌, ◌⊎◌}
 pub use Rattle.folds.proofs.Ground.{and-false, ap, ap₂, arith, cond, eq-eqb, eqb, eqb-true, false, get_or, get_or-set_other, get_or-set_same, inl}
-pub use Rattle.folds.proofs.Ground.{inr, le-leb, length, lt-leb, lt-ltb, ltb, ne_eqb, needs, not, refl, replicate, set, suc, sym, true}
+pub use Rattle.folds.proofs.Ground.{inr, le-leb, length, lt-leb, lt-ltb, ltb, ne_eqb, rules, not, refl, replicate, set, suc, sym, true}
 pub use Rattle.folds.proofs.Ground.{zero, ℕ, ⊎_elim}
 unfoldable pub use Rattle.folds.specs.Below.{any_below, max_below, sum_below}
 pub use Rattle.folds.proofs.Tests.{and_parts, any_at, any_out, find_none, same_test}

@@ -1,5 +1,5 @@
 -- The names that the proofs of this crate share, by one module: a definition that moves is named anew here alone.
-pub use Rattle.folds.proofs.Ground.{◌<◌, ◌∙◌, ◌≡◌, ap, arith, eq-eqb, le-ltb, lt-ltb, ne_eqb, needs, sym}
+pub use Rattle.folds.proofs.Ground.{◌<◌, ◌∙◌, ◌≡◌, ap, arith, eq-eqb, le-ltb, lt-ltb, ne_eqb, rules, sym}
 pub use Rattle.plan_rules.specs.declared.Counts.{Counts}
 unfoldable pub use Rattle.plan_layout.specs.Layout.{counts_of}
 pub use Rattle.plan_reading.proofs.Laws.{whole_facts}

@@ -1,5 +1,5 @@
 -- The names that the proofs of this crate share, by one module: a definition that moves is named anew here alone.
-pub use Rattle.folds.proofs.Ground.{List, ◌*◌, ◌++◌, ◌+◌, ◌-◌, ◌<◌, ◌∙◌, ◌≡◌, ◌≤◌, ap, arith, drop, length, length-drop, length-take, needs}
+pub use Rattle.folds.proofs.Ground.{List, ◌*◌, ◌++◌, ◌+◌, ◌-◌, ◌<◌, ◌∙◌, ◌≡◌, ◌≤◌, ap, arith, drop, length, length-drop, length-take, rules}
 pub use Rattle.folds.proofs.Ground.{refl, take, ℕ}
 unfoldable pub use Rattle.folds.specs.Bytes.{digits, row_bytes}
 pub use Rattle.folds.proofs.Fronts.{Front, Rowed, part_more, put_front, rows_all, rows_more, rows_none, rows_part}

@@ -1,6 +1,6 @@
 -- The names that the proofs of this crate share, by one module: a definition that moves is named anew here alone.
 pub use Rattle.folds.proofs.Ground.{Bool, List, ◌%◌, ◌&&◌, ◌*◌, ◌+◌, ◌-◌, ◌<◌, ◌∙◌, ◌≡◌, ◌≤◌, ap, ap₂, arith, cond, eqb, false, get_or}
-pub use Rattle.folds.proofs.Ground.{length, needs, not-false, not-true, refl, replicate, sym, true, ℕ}
+pub use Rattle.folds.proofs.Ground.{length, rules, not-false, not-true, refl, replicate, sym, true, ℕ}
 unfoldable pub use Rattle.folds.specs.Bytes.{fields, number, row_at}
 pub use Rattle.folds.proofs.RowLaws.{Bytes}
 unfoldable pub use Rattle.folds.specs.Below.{all_below, sum_below}

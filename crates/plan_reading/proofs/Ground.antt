@@ -1,5 +1,5 @@
 -- The names that the proofs of this crate share, by one module: a definition that moves is named anew here alone.
-pub use Rattle.folds.proofs.Ground.{◌+◌, ◌∙◌, ◌≡◌, ◌≤◌, ap, arith, eq-eqb, length, length-drop, ne_eqb, needs, sym, ℕ}
+pub use Rattle.folds.proofs.Ground.{◌+◌, ◌∙◌, ◌≡◌, ◌≤◌, ap, arith, eq-eqb, length, length-drop, ne_eqb, rules, sym, ℕ}
 pub use Rattle.folds.proofs.Parts.{part_rest}
 pub use Rattle.plan_rules.specs.Rules.{counts_ok}
 pub use Rattle.plan_rules.specs.declared.Counts.{Counts}

@@ -1,6 +1,6 @@
 -- The names that the proofs of this crate share, by one module: a definition that moves is named anew here alone.
 pub use Rattle.folds.proofs.Ground.{Bool, List, ◌&&◌, ◌*◌, ◌+◌, ◌-◌, ◌<◌, ◌∙◌, ◌≡◌, ◌≤◌, add_assoc, arith, eq-eqb, eqb, get_or, leb, length}
-pub use Rattle.folds.proofs.Ground.{ne_eqb, needs, not, refl, replicate, sym, true, ℕ}
+pub use Rattle.folds.proofs.Ground.{ne_eqb, rules, not, refl, replicate, sym, true, ℕ}
 pub use Rattle.folds.proofs.Tests.{all_done}
 unfoldable pub use Rattle.folds.specs.Below.{all_below, sum_below}
 unfoldable pub use Rattle.folds.specs.Bytes.{number}

@@ -1,6 +1,6 @@
 -- The names that the proofs of this crate share, by one module: a definition that moves is named anew here alone.
 pub use Rattle.folds.proofs.Ground.{List, ◌&&◌, ◌++◌, ◌+◌, ◌-◌, ◌<◌, ◌∙◌, ◌≡◌, ◌≤◌, ap, append_assoc, ap₂, arith, drop, drop_at, eq-eqb}
-pub use Rattle.folds.proofs.Ground.{get_or, le-leb, leb, length, length-append, length-drop, needs, refl, sym, take, true, ℕ}
+pub use Rattle.folds.proofs.Ground.{get_or, le-leb, leb, length, length-append, length-drop, rules, refl, sym, take, true, ℕ}
 pub use Rattle.folds.proofs.Tests.{all_same, code_zero}
 unfoldable pub use Rattle.folds.specs.Bytes.{bytes_below, row_at, row_bytes}
 pub use Rattle.folds.proofs.Figures.{sum_same}

@@ -1,6 +1,6 @@
 -- The names that the proofs of this crate share, by one module: a definition that moves is named anew here alone.
 pub use Rattle.folds.proofs.Ground.{List, [], ◌&&◌, ◌++◌, ◌+◌, ◌-◌, ◌<◌, ◌∙◌, ◌∷◌, ◌≡◌, ◌≤◌, arith, eq-eqb, false, inl, inr, length, ne_eqb}
-pub use Rattle.folds.proofs.Ground.{needs, refl, sym, true, ℕ}
+pub use Rattle.folds.proofs.Ground.{rules, refl, sym, true, ℕ}
 pub use Rattle.folds.proofs.Tests.{first_zero, then_zero}
 pub use Rattle.machine_state.specs.declared.State.{State}
 pub use Rattle.machine_calls.specs.declared.CallBytes.{CallBytes}

@@ -1,5 +1,5 @@
 -- The names that the proofs of this crate share, by one module: a definition that moves is named anew here alone.
-pub use Rattle.folds.proofs.Ground.{Bool, List, ◌&&◌, ◌-◌, ◌<◌, ◌∙◌, ◌≡◌, arith, eqb, false, needs, not, refl, sym, true, ℕ}
+pub use Rattle.folds.proofs.Ground.{Bool, List, ◌&&◌, ◌-◌, ◌<◌, ◌∙◌, ◌≡◌, arith, eqb, false, rules, not, refl, sym, true, ℕ}
 pub use Rattle.plan_reading.specs.Plan.{Valid}
 unfoldable pub use Rattle.plan_reading.specs.Plan.{plan_of}
 pub use Rattle.print_text.proofs.TextLaws.{put_in_then, put_wider}

@@ -1,6 +1,6 @@
 -- The names that the proofs of this crate share, by one module: a definition that moves is named anew here alone.
 pub use Rattle.folds.proofs.Ground.{Bool, List, T, [], ◌%◌, ◌*◌, ◌++◌, ◌+◌, ◌-◌, ◌/◌, ◌<◌, ◌^◌, ◌∙◌, ◌∷◌, ◌≡◌, ◌≤◌, add-one, add-zero, ap}
-pub use Rattle.folds.proofs.Ground.{append_assoc, arith, cond, drop, false, length, length-set, ltb-true, needs, not-suc-le-zero, refl, suc}
+pub use Rattle.folds.proofs.Ground.{append_assoc, arith, cond, drop, false, length, length-set, ltb-true, rules, not-suc-le-zero, refl, suc}
 pub use Rattle.folds.proofs.Ground.{sym, take, take-append-drop, true, zero, zero-add, ℕ}
 pub use Rattle.print_text.specs.Text.{Put, PutIn, decimal, quoted, signed}
 unfoldable pub use Rattle.print_text.specs.Text.{decimals, places_to}

@@ -1,5 +1,5 @@
 -- A processor that is queued is kept until it is head: at most its wait time.
-use Rattle.queue_rules.proofs.Ground.{ℕ, Bool, true, false, cond, ◌||◌, true≢false, ◌≡◌, refl, sym, ◌∙◌, List, ◌∷◌, [], arith}
+use Rattle.queue_rules.proofs.Ground.{ℕ, Bool, true, false, cond, ◌||◌, true≢false, ◌≡◌, refl, sym, ◌∙◌, List, ◌∷◌, [], ◌++◌, arith}
 use Rattle.queue_rules.proofs.Ground.{eqb-false, by_eq, Terms, Turn, turn, Line, line, queue_of, among, has_turn, tasks_of, all_but}
 use Rattle.queue_rules.specs.Rules.{is_head, queued}
 use Rattle.queue_rules.proofs.Sound.{Fits, Sound}
@@ -21,12 +21,18 @@ some_of : (us : List ℕ) {n : ℕ} → is_some us ≡ true → Some us n
 some_of [] s = absurd (true≢false (sym s))
 some_of (u ∷ us) s = some
 
+grown : (v : ℕ) {n : ℕ} {us : List ℕ} → Some us n → Some (us ++ (v ∷ [])) n
+grown v some = some
+
+there : {n : ℕ} {us : List ℕ} → Some us n → is_some us ≡ true
+there some = refl
+
 pub core_kept : (t : Terms) (k : ℕ) → Kept t k (is_head k) is_some Some
 core_kept t k = record {
   some = λ o. elim o [ ];
-  grows = λ v o. elim o [ some ↦ some ];
+  grows = grown;
   next = λ {h} {b} {j} e o nh. absurd (eqb-false j k nh e);
-  own_there = λ o. elim o [ some ↦ refl ];
+  own_there = there;
   there_behind = λ _. refl;
   there_next = λ {h} {b} {j} e s nh. absurd (eqb-false j k nh e);
   shrinks = λ v {n} {us} o s. some_of (all_but v us) s;

@@ -99,6 +99,7 @@ module _ (t : Terms) (k : ℕ) (done : Line → Bool) (there : List ℕ → Bool
       pub kept_there : {n : ℕ} {l : Line} → Sound t known procs l → Waiting n l → there (tasks_of k (queue_of l)) ≡ true
       kept_there (is_held c pr) (behind {j = j} e a) = rw (eq-eqb j k e) (kept.there_behind (kept.own_there a.own))
       kept_there (is_held c (stands lt a o r)) (beyond f le) = rw (far_apart (stands lt a o r) f) (far_there r f)
+      kept_there {n = n} is_free x3 = elim x3 [ ]
 
       far_but : (v : ℕ) {n : ℕ} {q : List Turn} → Proper t known procs q → Far q n → there (all_but v (tasks_of k q)) ≡ true → Far (turns_but v q) n
       far_but v pr (here {j = j} {u = u} {m = m} {us = us} {rest = q} e o le) h =
@@ -112,6 +113,7 @@ module _ (t : Terms) (k : ℕ) (done : Line → Bool) (there : List ℕ → Bool
       kept_withdrawn v (is_held c pr) (behind {j = j} {u = u} {us = us} e a) n h nd =
           behind e (record { rest = a.rest; own = kept.shrinks v a.own (kept.there_next e (rw (eq-eqb j k e, n) at h) nd); sum = a.sum })
       kept_withdrawn v (is_held c (stands lt x o r)) (beyond f le) n h nd = beyond (far_but v r f (rw (far_apart (stands lt x o r) f) at h)) le
+      kept_withdrawn v is_free x9 n h nd = elim x9 [ ]
 
     -- ── the moves ──
 
@@ -151,13 +153,16 @@ module _ (t : Terms) (k : ℕ) (done : Line → Bool) (there : List ℕ → Bool
           by_test (λ l. done l ≡ false → Waiting (n - 1) l) (cut (line h b (turn j u us ∷ rest)))
           (λ _ nd. kept_leave (h - 1) _ j u (n - 1) us rest pr (kept_pass (omega arith) (omega arith) w) nd)
           (λ _ _. kept_pass (omega arith) (omega arith) w)
+      kept_ticked {n = n} is_free w = elim w [ ]
 
       pub kept_released : {n : ℕ} {l : Line} → Sound t known procs l → Waiting n l → done (released t l) ≡ false → Waiting n (released t l)
       kept_released {n} (is_held {h = h} {b = b} {k = j} {u = u} {us = us} {rest = rest} c pr) w = kept_leave h b j u n us rest pr w
+      kept_released {n = n} is_free w = elim w [ ]
 
       pub kept_some : {n : ℕ} {l : Line} → Sound t known procs l → Waiting n l → 1 ≤ n
       kept_some (is_held c pr) (behind e a) = omega (arith, a.sum)
       kept_some (is_held c pr) (beyond f le) = omega arith
+      kept_some {n = n} is_free x3 = elim x3 [ ]
 
       -- ── whoever is in line and not done has such a bound: its own behind a round of the other processors ──
 

@@ -1,5 +1,5 @@
 -- The invariant: each task below `i` passes.
-use Rattle.analysis.proofs.Ground.{ℕ, ◌≤◌, ◌-◌, true, not, ◌||◌, ◌≡◌, sym, ◌∙◌, List, arith, needs, plan_of, asks, met, admitted}
+use Rattle.analysis.proofs.Ground.{ℕ, ◌≤◌, ◌-◌, true, not, ◌||◌, ◌≡◌, sym, ◌∙◌, List, arith, rules, plan_of, asks, met, admitted}
 use Rattle.analysis.proofs.Ground.{Prepared}
 use Rattle.folds.specs.Below.{all_below}
 use Rattle.folds.proofs.Tests.{all_more, all_left, all_done, held, failed}
@@ -22,7 +22,7 @@ loop_holds : tie.Need-loop-init invariant-loop decreases-loop
 unfolding all_below
 loop_holds c =
     let all = c.wide.ensures.same ∙ c.before.counts.ensures.tasks in
-    search needs
+    search rules
 
 returns : tie.Need-returns invariant-loop decreases-loop
 unfolding admitted
@@ -33,7 +33,7 @@ returns c =
 loop_again : tie.Need-loop-preserved invariant-loop decreases-loop
 loop_again c =
     let told = all_more _ _ c.before.before.before.loop.invariant.told (held c.before.passes.ensures c.if1.false) in
-    search needs
+    search rules
 
 returns_2 : tie.Need-returns-2 invariant-loop decreases-loop
 unfolding admitted
@@ -43,5 +43,5 @@ pub all_pass_spec : {M : Type 1} → statement M
 all_pass_spec =
     tie.close
     (tie.spec
-    invariant-loop decreases-loop (λ c κs. search needs) (λ c κs. search needs) loop_holds
-    (λ c κs. search needs) returns (λ c. omega arith) (λ c. omega arith) loop_again returns_2)
+    invariant-loop decreases-loop (λ c κs. search rules) (λ c κs. search rules) loop_holds
+    (λ c κs. search rules) returns (λ c. omega arith) (λ c. omega arith) loop_again returns_2)

@@ -1,5 +1,5 @@
 -- The figure stands in the table, at the place of the task and the resource.
-use Rattle.analysis.proofs.Ground.{◌∙◌, arith, needs}
+use Rattle.analysis.proofs.Ground.{◌∙◌, arith, rules}
 use Rattle.analysis.proofs.Told.{figure_given, figure_refused}
 use Rattle.analysis.proofs.Users.{user_hold}
 use Rattle.analysis.proofs.hold_time.Statement.{statement}
@@ -13,7 +13,7 @@ hold_at_requires : tie.Need-hold-at-requires
 hold_at_requires c κs =
     let e = c.before.before in
     let u = (found e).user-of.ensures.user e.if1.false in
-    search needs
+    search rules
 
 returns_2 : tie.Need-returns-2
 returns_2 c =
@@ -25,5 +25,5 @@ pub hold_time_spec : {M : Type 1} → statement M
 hold_time_spec =
     tie.close
     (tie.spec
-    (λ c. search needs) (λ c κs. search needs) (λ c. figure_refused _ c.before.before.before.user-of.ensures.code c.if1.true)
-    (λ c. search needs) (λ c κs. search needs) hold_at_requires (λ c. omega arith) returns_2)
+    (λ c. search rules) (λ c κs. search rules) (λ c. figure_refused _ c.before.before.before.user-of.ensures.code c.if1.true)
+    (λ c. search rules) (λ c κs. search rules) hold_at_requires (λ c. omega arith) returns_2)

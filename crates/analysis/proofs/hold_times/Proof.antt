@@ -1,5 +1,5 @@
 -- A table of each hold time is the list of them.
-use Rattle.analysis.proofs.Ground.{refl, needs}
+use Rattle.analysis.proofs.Ground.{refl, rules}
 use Rattle.analysis.proofs.Told.{checked_file, times_refused, times_given}
 use Rattle.analysis.proofs.hold_times.Statement.{statement}
 use Rattle.analysis.proofs.hold_times.Tie as tie
@@ -19,5 +19,5 @@ pub hold_times_spec : {M : Type 1} → statement M
 hold_times_spec =
     tie.close
     (tie.spec
-    (λ c κs. search needs) (λ c. times_refused _ c.before.check.ensures c.if1.true) (λ c. search needs) fill_figures_requires
-    (λ c. search needs) (λ c κs. search needs) returns_2)
+    (λ c κs. search rules) (λ c. times_refused _ c.before.check.ensures c.if1.true) (λ c. search rules) fill_figures_requires
+    (λ c. search rules) (λ c κs. search rules) returns_2)

@@ -1,5 +1,5 @@
 -- The formula's figure, of the task and the resource that were asked about.
-use Rattle.analysis.proofs.Ground.{refl, ◌∙◌, needs}
+use Rattle.analysis.proofs.Ground.{refl, ◌∙◌, rules}
 use Rattle.analysis.proofs.Told.{figure_given, figure_refused}
 use Rattle.analysis.proofs.longest_wait.Statement.{statement}
 use Rattle.analysis.proofs.longest_wait.Tie as tie
@@ -31,7 +31,7 @@ pub longest_wait_spec : {M : Type 1} → statement M
 longest_wait_spec =
     tie.close
     (tie.spec
-    (λ c. search needs) (λ c κs. search needs) (λ c. figure_refused _ c.before.before.before.user-of.ensures.code c.if1.true)
-    (λ c. search needs) (λ c. search needs)
+    (λ c. search rules) (λ c κs. search rules) (λ c. figure_refused _ c.before.before.before.user-of.ensures.code c.if1.true)
+    (λ c. search rules) (λ c. search rules)
     (λ c κs. let e = c.before.before in (((found e).user-of.ensures.user e.if1.false).known, refl))
-    (λ c. search needs) (λ c. search needs) (λ c κs. search needs) longest_of_requires returns_2)
+    (λ c. search rules) (λ c. search rules) (λ c κs. search rules) longest_of_requires returns_2)

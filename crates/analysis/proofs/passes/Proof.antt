@@ -1,5 +1,5 @@
 -- The table of terms tells whether the task asks.
-use Rattle.analysis.proofs.Ground.{◌≡◌, needs, plan_of, global_count, asks_not}
+use Rattle.analysis.proofs.Ground.{◌≡◌, rules, plan_of, global_count, asks_not}
 use Rattle.analysis.proofs.Told.{task_low, count_told, passes_met}
 use Rattle.analysis.proofs.passes.Statement.{statement}
 use Rattle.analysis.proofs.passes.Tie as tie
@@ -15,5 +15,5 @@ passes_spec =
     tie.close
     (tie.spec
     (λ c κs. let h = c.before.before.before.requires in (h.prepared.terms.long, task_low h.prepared h.task))
-    (λ c. rw (asks_not _ _ (counted c.before) c.if1.true)) (λ c κs. search needs)
+    (λ c. rw (asks_not _ _ (counted c.before) c.if1.true)) (λ c κs. search rules)
     (λ c. passes_met _ _ (counted c.before.before) c.before.if1.false c.requirement-of.ensures))

@@ -1,5 +1,5 @@
 -- The number of the reading, then the answer of the checked plan.
-use Rattle.analysis.proofs.Ground.{needs}
+use Rattle.analysis.proofs.Ground.{rules}
 use Rattle.analysis.specs.Answers.{requirement_refusal}
 use Rattle.analysis.proofs.Told.{checked_file, reading_fails, reading_requirement, requirement_refused, requirement_told}
 use Rattle.analysis.proofs.requirement.Statement.{statement}
@@ -17,6 +17,6 @@ returns_2 c =
 
 pub requirement_spec : {M : Type 1} → statement M
 requirement_spec = tie.close (tie.spec
-    (λ c κs. search needs) returns
+    (λ c κs. search rules) returns
     (λ c κs. checked_file c.before.check.ensures c.if1.false (λ i. (c.before.before.shared-slice-known.given i).fits))
     returns_2)

@@ -1,5 +1,5 @@
 -- The task found decides 11, the count of its global sections 17.
-use Rattle.analysis.proofs.Ground.{◌<◌, ◌≡◌, ap, ◌∙◌, arith, needs, Plan, plan_of, global_count, requirement_of}
+use Rattle.analysis.proofs.Ground.{◌<◌, ◌≡◌, ap, ◌∙◌, arith, rules, Plan, plan_of, global_count, requirement_of}
 use Rattle.analysis.proofs.Told.{requirement_given_lem, requirement_refused, task_low, count_told, no_task_asked, not_asked, task_asked}
 use Rattle.analysis.proofs.requirement_question.Statement.{statement}
 use Rattle.analysis.proofs.requirement_question.Tie as tie
@@ -43,8 +43,8 @@ pub requirement_question_spec : {M : Type 1} → statement M
 requirement_question_spec =
     tie.close
     (tie.spec
-    (λ c κs. search needs) (λ c κs. search needs) (λ c κs. search needs)
-    (λ c. requirement_refused _ (no_task_asked _ _ (omega arith)) (λ e. omega arith)) (λ c. search needs) (λ c. search needs) (λ c κs. search needs)
-    (λ c. search needs)
+    (λ c κs. search rules) (λ c κs. search rules) (λ c κs. search rules)
+    (λ c. requirement_refused _ (no_task_asked _ _ (omega arith)) (λ e. omega arith)) (λ c. search rules) (λ c. search rules) (λ c κs. search rules)
+    (λ c. search rules)
     (λ c κs. let t = c.before.before.before in (t.prepare.ensures.terms.long, task_low t.prepare.ensures (below t)))
-    returns_2 (λ c. search needs) (λ c. search needs) (λ c κs. search needs) returns_3)
+    returns_2 (λ c. search rules) (λ c. search rules) (λ c κs. search rules) returns_3)

@@ -1,5 +1,5 @@
 -- The number of the reading, then that of the checked plan.
-use Rattle.analysis.proofs.Ground.{sym, ◌∙◌, needs, share_refusal}
+use Rattle.analysis.proofs.Ground.{sym, ◌∙◌, rules, share_refusal}
 use Rattle.analysis.proofs.Told.{checked_file, reading_fails, reading_holds}
 use Rattle.analysis.proofs.share_refusal.Statement.{statement}
 use Rattle.analysis.proofs.share_refusal.Tie as tie
@@ -14,6 +14,6 @@ returns_2 c = c.processor-code.ensures ∙ sym (reading_holds _ _ c.before.befor
 
 pub share_refusal_spec : {M : Type 1} → statement M
 share_refusal_spec = tie.close (tie.spec
-    (λ c κs. search needs) returns
+    (λ c κs. search rules) returns
     (λ c κs. checked_file c.before.check.ensures c.if1.false (λ i. (c.before.before.shared-slice-known.given i).fits))
     returns_2)

@@ -1,5 +1,5 @@
 -- The budget stands in the table that was filled.
-use Rattle.analysis.proofs.Ground.{ap, ◌∙◌, needs}
+use Rattle.analysis.proofs.Ground.{ap, ◌∙◌, rules}
 use Rattle.analysis_equations.specs.HoldTimes.{wait_time}
 use Rattle.analysis_figures.proofs.Cells.{budget_of_lem}
 use Rattle.analysis.proofs.shares_of.Statement.{statement}
@@ -21,5 +21,5 @@ pub shares_of_spec : {M : Type 1} → statement M
 shares_of_spec =
     tie.close
     (tie.spec
-    (λ c. search needs) (λ c κs. search needs) (λ c κs. search needs) (λ c. search needs) (λ c κs. search needs) (λ c κs. search needs)
-    (λ c. search needs) (λ c κs. search needs) returns)
+    (λ c. search rules) (λ c κs. search rules) (λ c κs. search rules) (λ c. search rules) (λ c κs. search rules) (λ c κs. search rules)
+    (λ c. search rules) (λ c κs. search rules) returns)

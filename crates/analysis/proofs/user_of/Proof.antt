@@ -1,5 +1,5 @@
 -- The number of the reading, then what is asked of the checked plan.
-use Rattle.analysis.proofs.Ground.{needs}
+use Rattle.analysis.proofs.Ground.{rules}
 use Rattle.analysis.proofs.Told.{checked_file}
 use Rattle.analysis.proofs.Users.{user_unread, user_read}
 use Rattle.analysis.proofs.user_of.Statement.{statement}
@@ -21,5 +21,5 @@ pub user_of_spec : {M : Type 1} → statement M
 user_of_spec =
     tie.close
     (tie.spec
-    (λ c κs. search needs) (λ c. user_unread _ _ _ c.before.check.ensures c.if1.true) fill_figures_requires
-    (λ c κs. search needs) (λ c. search needs) returns_2)
+    (λ c κs. search rules) (λ c. user_unread _ _ _ c.before.check.ensures c.if1.true) fill_figures_requires
+    (λ c κs. search rules) (λ c. search rules) returns_2)

@@ -1,5 +1,5 @@
 -- The invariant: no task passed has a hold time of the resource.
-use Rattle.analysis_figures.proofs.Ground.{◌<◌, ◌≤◌, ◌-◌, true, ◌≡◌, refl, sym, ◌∙◌, eqb, arith, eq-eqb, needs, all_below, all_more}
+use Rattle.analysis_figures.proofs.Ground.{◌<◌, ◌≤◌, ◌-◌, true, ◌≡◌, refl, sym, ◌∙◌, eqb, arith, eq-eqb, rules, all_below, all_more}
 use Rattle.analysis_figures.proofs.Ground.{plan_of, valid_plan, hold_at}
 use Rattle.folds.proofs.Ground.{eqb-true}
 use Rattle.folds.proofs.Tests.{all_at}
@@ -45,7 +45,7 @@ pub is_global_spec : {M : Type 1} → statement M
 is_global_spec =
     tie.close
     (tie.spec
-    invariant-loop decreases-loop (λ c κs. c.before.before.requires.0.plan) (λ c κs. search needs) loop_holds
+    invariant-loop decreases-loop (λ c κs. c.before.before.requires.0.plan) (λ c κs. search rules) loop_holds
     (λ c κs. let h = (start c.before.before).pre in record { long = h.0.figures.long; row = low c; resource = h.1 })
     returns (λ c. omega arith) (λ c. omega arith)
     (λ c. (omega arith, all_more _ _ c.before.before.before.loop.invariant.1 (eq-eqb _ _ (sym (hold c.before) ∙ c.if1.false)))) returns_2)

@@ -1,5 +1,5 @@
 -- The invariant: `best` is the longest of the sections passed that count.
-use Rattle.analysis_figures.proofs.Ground.{◌≤◌, ◌-◌, cond, ◌≡◌, refl, arith, needs, plan_of}
+use Rattle.analysis_figures.proofs.Ground.{◌≤◌, ◌-◌, cond, ◌≡◌, refl, arith, rules, plan_of}
 use Rattle.folds.specs.Below.{max_below}
 use Rattle.folds.proofs.Figures.{max_step, max_done}
 use Rattle.analysis_equations.specs.Sharing.{section_on}
@@ -34,5 +34,5 @@ longest_on_spec =
     tie.close
     (tie.spec
     invariant-loop decreases-loop (λ c κs. c.before.requires) (λ c. omega arith) loop_holds
-    (λ c κs. let turn = c.before in (turn.before.before.before.before.requires, omega arith)) (λ c κs. search needs) (λ c κs. search needs)
-    (λ c κs. search needs) (λ c. omega arith) (λ c. omega arith) loop_again returns)
+    (λ c κs. let turn = c.before in (turn.before.before.before.before.requires, omega arith)) (λ c κs. search rules) (λ c κs. search rules)
+    (λ c κs. search rules) (λ c. omega arith) (λ c. omega arith) loop_again returns)

@@ -1,5 +1,5 @@
 -- The invariant: no task passed has the tag.
-use Rattle.analysis_figures.proofs.Ground.{◌≤◌, ◌-◌, true, not, ◌≡◌, refl, sym, ◌∙◌, eqb, arith, eq-eqb, needs, all_below, all_more}
+use Rattle.analysis_figures.proofs.Ground.{◌≤◌, ◌-◌, true, not, ◌≡◌, refl, sym, ◌∙◌, eqb, arith, eq-eqb, rules, all_below, all_more}
 use Rattle.analysis_figures.proofs.Ground.{plan_of}
 use Rattle.folds.proofs.Ground.{ne_eqb}
 use Rattle.folds.proofs.Tests.{find_at, find_none}
@@ -43,5 +43,5 @@ pub task_number_spec : {M : Type 1} → statement M
 task_number_spec =
     tie.close
     (tie.spec
-    invariant-loop decreases-loop (λ c κs. c.before.requires) (λ c κs. search needs) loop_holds (λ c κs. ((start c.before.before).pre, omega arith)) returns
+    invariant-loop decreases-loop (λ c κs. c.before.requires) (λ c κs. search rules) loop_holds (λ c κs. ((start c.before.before).pre, omega arith)) returns
     (λ c. omega arith) (λ c. omega arith) loop_again returns_2)

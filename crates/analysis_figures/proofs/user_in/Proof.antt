@@ -1,5 +1,5 @@
 -- The task found and the counts decide 11 and 12; the table's figure tells whether the task shares the resource.
-use Rattle.analysis_figures.proofs.Ground.{◌<◌, ◌≡◌, sym, ◌∙◌, arith, needs, Plan, Valid, plan_of, valid_plan, hold_at}
+use Rattle.analysis_figures.proofs.Ground.{◌<◌, ◌≡◌, sym, ◌∙◌, arith, rules, Plan, Valid, plan_of, valid_plan, hold_at}
 use Rattle.analysis_equations.proofs.Laws.{unknown_tag_lem, unknown_resource_lem, use_told, shared_use}
 use Rattle.analysis_figures.proofs.Cells.{hold_of_lem}
 use Rattle.analysis_figures.proofs.user_in.Statement.{statement}
@@ -64,9 +64,9 @@ pub user_in_spec : {M : Type 1} → statement M
 user_in_spec =
     tie.close
     (tie.spec
-    (λ c κs. c.before.before.requires.plan) (λ c κs. c.before.before.before.requires.plan) (λ c κs. search needs) returns
+    (λ c κs. c.before.before.requires.plan) (λ c κs. c.before.before.before.requires.plan) (λ c κs. search rules) returns
     (λ c. (unknown_resource_lem _ _ _ (omega arith) (omega arith), c.before.before.before.before.task-number.ensures))
-    (λ c κs. search needs) hold_at_requires
+    (λ c κs. search rules) hold_at_requires
     (λ c κs. let there = c.before.before.before in
     record { plan = (start (found there)).requires.plan; task = below there; zero = sym (hold c.before) ∙ c.if3.true })
     returns_3 returns_4)

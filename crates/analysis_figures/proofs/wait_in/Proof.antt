@@ -1,5 +1,5 @@
 -- The invariant: `sum` is that of the processors passed, each of at most 16 bits.
-use Rattle.analysis_figures.proofs.Ground.{ℕ, ◌*◌, ◌-◌, ◌≤◌, ◌≡◌, refl, arith, needs, sum_below, Plan, plan_of, valid_plan}
+use Rattle.analysis_figures.proofs.Ground.{ℕ, ◌*◌, ◌-◌, ◌≤◌, ◌≡◌, refl, arith, rules, sum_below, Plan, plan_of, valid_plan}
 use Rattle.analysis_equations.specs.Bounds.{most_budget}
 use Rattle.analysis_figures.proofs.Waits.{others_below, others_step, others_done}
 use Rattle.analysis_figures.proofs.wait_in.Statement.{statement}
@@ -38,7 +38,7 @@ pub wait_in_spec : {M : Type 1} → statement M
 wait_in_spec =
     tie.close
     (tie.spec
-    invariant-loop decreases-loop (λ c κs. c.before.before.requires.0.plan) (λ c κs. search needs) loop_holds (λ c κs. search needs)
+    invariant-loop decreases-loop (λ c κs. c.before.before.requires.0.plan) (λ c κs. search rules) loop_holds (λ c κs. search rules)
     (λ c κs. let h = (start c.before.before.before).pre in record { long = h.0.figures.long; row = omega arith; resource = h.1 })
-    (λ c κs. search needs) (λ c. search needs) (λ c. omega arith) (λ c. omega arith) (λ c. omega arith) loop_again
+    (λ c κs. search rules) (λ c. search rules) (λ c. omega arith) (λ c. omega arith) (λ c. omega arith) loop_again
     (λ c. let l = c.before.loop in (others_done _ _ _ l.l (omega arith) l.invariant.added, omega arith)))

@@ -1,5 +1,5 @@
 -- The invariant: the sums are in place at the resources below `q`.
-use Rattle.analysis_hold_times.proofs.Ground.{◌+◌, ◌-◌, ap, get_or, arith, needs, Made, row_none, row_next, row_done}
+use Rattle.analysis_hold_times.proofs.Ground.{◌+◌, ◌-◌, ap, get_or, arith, rules, Made, row_none, row_next, row_done}
 use Rattle.analysis_hold_times.proofs.above_row.Statement.{statement}
 use Rattle.analysis_hold_times.proofs.above_row.Tie as tie
 
@@ -15,8 +15,8 @@ above_row_spec =
     (tie.spec
     invariant-loop decreases-loop (λ c. row_none _ _) (λ c. omega arith) (λ c. omega arith)
     (λ c. omega (arith, c.before.before.requires.short, c.before.before.requires.low c.before.loop.q (omega arith)))
-    (λ c. omega arith) (λ c. omega arith) (λ c κs. search needs)
+    (λ c. omega arith) (λ c. omega arith) (λ c κs. search rules)
     (λ c. omega (arith, c.before.before.before.requires.within c.before.before.loop.q (omega arith), c.excess.ensures))
     (λ c. omega arith) (λ c. omega arith) (λ c. omega arith) (λ c. omega arith)
     (λ c. let l = c.before.before.loop in row_next l.q _ _ l.invariant (omega arith) (ap (◌-◌ _) c.excess.ensures))
-    (λ c. let l = c.before.loop in row_done l.q _ _ l.invariant (omega arith) (search needs)))
+    (λ c. let l = c.before.loop in row_done l.q _ _ l.invariant (omega arith) (search rules)))

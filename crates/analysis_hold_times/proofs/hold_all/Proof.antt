@@ -1,5 +1,5 @@
 -- The invariant: the processors passed have their hold times and budgets in the tables.
-use Rattle.analysis_hold_times.proofs.Ground.{ℕ, ◌-◌, ◌≤◌, sym, ◌∙◌, List, arith, needs, plan_of, valid_plan, Tops}
+use Rattle.analysis_hold_times.proofs.Ground.{ℕ, ◌-◌, ◌≤◌, sym, ◌∙◌, List, arith, rules, plan_of, valid_plan, Tops}
 use Rattle.analysis_sections.specs.Inner.{Flags, Ordered}
 use Rattle.analysis_hold_times.proofs.Tables.{TableBelow, table_none, table_begun, table_step, table_done}
 use Rattle.analysis_hold_times.proofs.hold_all.Statement.{statement}
@@ -60,7 +60,7 @@ pub hold_all_spec : {M : Type 1} → statement M
 hold_all_spec =
     tie.close
     (tie.spec
-    invariant-loop decreases-loop (λ c κs. search needs) (λ c κs. search needs) loop_holds hold_rows_requires (λ c. omega arith)
+    invariant-loop decreases-loop (λ c κs. search rules) (λ c κs. search rules) loop_holds hold_rows_requires (λ c. omega arith)
     (λ c κs. let long = (held c).hold-rows.ensures.1.long in
     (omega (arith, long, (valid_plan _ (turn (held c)).loop.inv.known.plan).processors), long))
     (λ c. omega arith) (λ c. omega arith) loop_again (λ c. let i = c.before.loop.invariant in i.table.long ∙ sym i.known.sections.long)

@@ -1,5 +1,5 @@
 -- The invariant: the tasks passed have their hold times in the rows, and the sums and maxima are over them.
-use Rattle.analysis_hold_times.proofs.Ground.{ℕ, ◌-◌, ◌<◌, ◌≤◌, sym, ◌∙◌, List, arith, needs, plan_of, valid_plan, Walk}
+use Rattle.analysis_hold_times.proofs.Ground.{ℕ, ◌-◌, ◌<◌, ◌≤◌, sym, ◌∙◌, List, arith, rules, plan_of, valid_plan, Walk}
 use Rattle.analysis_sections.proofs.Walks.{order_there, next_sits, last_sits, all_above}
 use Rattle.analysis_hold_times.proofs.Holding.{HeldBelow, Next, low, first_high, held_none, held_done, above_high, product_high}
 use Rattle.analysis_hold_times.proofs.Holding.{own_high, own_top, held_step}
@@ -80,11 +80,11 @@ pub hold_rows_spec : {M : Type 1} → statement M
 hold_rows_spec =
     tie.close
     (tie.spec
-    invariant-loop decreases-loop (λ c κs. c.before.before.before.before.requires.plan) (λ c κs. search needs) loop_holds
+    invariant-loop decreases-loop (λ c κs. c.before.before.before.before.requires.plan) (λ c κs. search rules) loop_holds
     (λ c. omega (arith, c.before.loop.invariant.walk.processor))
     (λ c. omega (arith, c.before.loop.invariant.walk.processor, (valid_plan _ c.before.loop.invariant.walk.plan).tasks))
     (λ c. let l = c.before.before.loop in let w = l.invariant.walk in order_there _ l.x w.plan w.tasks w.processor (omega arith))
-    (λ c κs. search needs)
+    (λ c κs. search rules)
     (λ c. let i = c.before.before.before.before.loop.invariant in i.held.long ∙ sym i.walk.long) returns (λ c. omega arith)
     (λ c κs. let n = next c.before in record { long = n.held.long; task = low n; low = product_high n })
     (λ c κs. let own = c.before in let n = next own.before.before in λ q l. (own_high n own.shared-row.ensures q l, above_high n q l))

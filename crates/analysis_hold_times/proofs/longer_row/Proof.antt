@@ -1,5 +1,5 @@
 -- The invariant: the greater figures are in place at the resources below `q`.
-use Rattle.analysis_hold_times.proofs.Ground.{◌-◌, max, get_or, arith, needs, cell, Made, row_none, row_next, row_done}
+use Rattle.analysis_hold_times.proofs.Ground.{◌-◌, max, get_or, arith, rules, cell, Made, row_none, row_next, row_done}
 use Rattle.analysis_hold_times.proofs.longer_row.Statement.{statement}
 use Rattle.analysis_hold_times.proofs.longer_row.Tie as tie
 
@@ -14,6 +14,6 @@ longer_row_spec =
     tie.close
     (tie.spec
     invariant-loop decreases-loop (λ c. row_none _ _) (λ c. omega arith) (λ c. omega arith) (λ c. omega arith) (λ c. omega arith) (λ c. omega arith) (λ c. omega arith)
-    (λ c κs. search needs) (λ c. omega arith) (λ c. omega arith) (λ c. omega arith) (λ c. omega arith)
+    (λ c κs. search rules) (λ c. omega arith) (λ c. omega arith) (λ c. omega arith) (λ c. omega arith)
     (λ c. let l = c.before.before.before.loop in row_next l.q _ _ l.invariant (omega arith) c.longer.ensures)
-    (λ c. let l = c.before.loop in row_done l.q _ _ l.invariant (omega arith) (search needs)))
+    (λ c. let l = c.before.loop in row_done l.q _ _ l.invariant (omega arith) (search rules)))

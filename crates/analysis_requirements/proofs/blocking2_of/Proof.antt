@@ -1,5 +1,5 @@
 -- The invariant: the sum over the tasks below `j`, each term in its range.
-use Rattle.analysis_requirements.proofs.Ground.{ℕ, ◌*◌, ◌≤◌, ◌-◌, ◌≡◌, refl, ◌∙◌, List, arith, needs, sum_below, sum_step, sum_done}
+use Rattle.analysis_requirements.proofs.Ground.{ℕ, ◌*◌, ◌≤◌, ◌-◌, ◌≡◌, refl, ◌∙◌, List, arith, rules, sum_below, sum_step, sum_done}
 use Rattle.analysis_requirements.proofs.Ground.{plan_of, blocking2, most_blocking1, count_cell}
 use Rattle.analysis_requirements.proofs.Blocking.{term, Term, Over, over, term_is}
 use Rattle.analysis_requirements.proofs.blocking2_of.Statement.{statement}
@@ -61,11 +61,11 @@ pub blocking2_of_spec : {M : Type 1} → statement M
 blocking2_of_spec =
     tie.close
     (tie.spec
-    invariant-loop decreases-loop (λ c κs. search needs) (λ c κs. search needs)
+    invariant-loop decreases-loop (λ c κs. search rules) (λ c κs. search rules)
     (λ c. omega arith) (λ c. omega arith) (λ c. omega arith) (λ c. omega arith) (λ c. omega arith) (λ c. omega arith) (λ c. omega arith)
     (λ c. omega arith) loop_holds
-    (λ c. omega arith) (λ c. omega arith) (λ c. omega arith) (λ c. omega arith) (λ c. omega arith) (λ c κs. search needs)
+    (λ c. omega arith) (λ c. omega arith) (λ c. omega arith) (λ c. omega arith) (λ c. omega arith) (λ c κs. search rules)
     (λ c. omega arith) (λ c. omega arith) (λ c. omega arith)
     (λ c. let l = c.before.before.before.before in omega (arith, (c.shared-slice-known7.given (count_cell l.before.loop.j)).fits))
-    (λ c κs. search needs) (λ c. omega arith) (λ c. omega (arith, (a_term c).high)) (λ c. omega (arith, (a_term c).high))
+    (λ c κs. search rules) (λ c. omega arith) (λ c. omega (arith, (a_term c).high)) (λ c. omega (arith, (a_term c).high))
     (λ c. omega arith) (λ c. omega arith) loop_again returns)

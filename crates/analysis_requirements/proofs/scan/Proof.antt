@@ -1,5 +1,5 @@
 -- The invariant: `best` is the greatest for the times up to t.
-use Rattle.analysis_requirements.proofs.Ground.{ℕ, ◌≤◌, ◌-◌, ◌≡◌, ◌∙◌, List, arith, needs, Scanned, greatest_to, back}
+use Rattle.analysis_requirements.proofs.Ground.{ℕ, ◌≤◌, ◌-◌, ◌≡◌, ◌∙◌, List, arith, rules, Scanned, greatest_to, back}
 use mir.Syntax.{w64}
 use mir.Val.{to_z}
 use Rattle.analysis_requirements.proofs.Demand.{left_of, left_first, left_step, left_done}
@@ -25,14 +25,14 @@ loop_again c =
     let x = back _ c.before.difference2.type-inv ∙ c.before.difference2.ensures in
     let told = back _ c.greater.type-inv
     ∙ left_step _ _ _ _ l.t i.low i.told c.before.before.demand-of2.ensures.told x c.greater.ensures in
-    search needs
+    search rules
 
 pub scan_spec : {M : Type 1} → statement M
 scan_spec =
     tie.close
     (tie.spec
-    invariant-loop decreases-loop (λ c κs. search needs) (λ c. omega arith) (λ c κs. omega arith)
-    (λ c. let told = back _ c.difference.type-inv ∙ left_first _ _ _ _ c.before.demand-of.ensures.told c.difference.ensures in search needs)
-    (λ c. omega arith) (λ c κs. search needs)
+    invariant-loop decreases-loop (λ c κs. search rules) (λ c. omega arith) (λ c κs. omega arith)
+    (λ c. let told = back _ c.difference.type-inv ∙ left_first _ _ _ _ c.before.demand-of.ensures.told c.difference.ensures in search rules)
+    (λ c. omega arith) (λ c κs. search rules)
     (λ c. omega arith) (λ c. omega arith) (λ c κs. omega arith) (λ c κs. tt) (λ c. omega arith) loop_again
     (λ c. let l = c.before.loop in left_done _ _ _ _ _ l.t (omega arith) l.invariant.told))

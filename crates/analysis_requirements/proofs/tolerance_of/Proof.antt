@@ -1,5 +1,5 @@
 -- The tasks above are all there, and in their ranges.
-use Rattle.analysis_requirements.proofs.Ground.{◌∙◌, needs, valid_plan, back}
+use Rattle.analysis_requirements.proofs.Ground.{◌∙◌, rules, valid_plan, back}
 use Rattle.analysis_requirements.proofs.Demand.{higher_scanned, higher_tolerance}
 use Rattle.analysis_requirements.proofs.tolerance_of.Statement.{statement}
 use Rattle.analysis_requirements.proofs.tolerance_of.Tie as tie
@@ -27,5 +27,5 @@ pub tolerance_of_spec : {M : Type 1} → statement M
 tolerance_of_spec =
     tie.close
     (tie.spec
-    (λ c κs. search needs) (λ c κs. search needs) (λ c. search needs) (λ c. search needs) (λ c. search needs) (λ c. search needs) scan_requires
+    (λ c κs. search rules) (λ c κs. search rules) (λ c. search rules) (λ c. search rules) (λ c. search rules) (λ c. search rules) scan_requires
     returns)

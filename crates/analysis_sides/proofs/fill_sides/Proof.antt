@@ -1,5 +1,5 @@
 -- The invariant: the table holds the sides of the sections below `s`.
-use Rattle.folds.proofs.Ground.{ℕ, ◌≤◌, ◌-◌, ◌≡◌, sym, List, arith, needs, length-replicate}
+use Rattle.folds.proofs.Ground.{ℕ, ◌≤◌, ◌-◌, ◌≡◌, sym, List, arith, rules, length-replicate}
 use Rattle.folds.proofs.Arrays.{gathered_below}
 use Rattle.sizes.specs.Sizes.{most_tasks, most_sections}
 use Rattle.plan_reading.specs.Plan.{plan_of}
@@ -44,7 +44,7 @@ abbrev file : Read → List ℕ
 file r = (start (turn r).before.before).args.file.now
 
 read : (r : Read) → SectionRead (plan_of (file r)) (turn r).loop.s r.before.wide.result r.wide2.result r.before.before.section.result
-read r = search needs
+read r = search rules
 
 named : (r : Read) → Names (plan_of (file r)) r.before.wide.result r.wide2.result
 named r = names (valid_plan _ (turn r).loop.inv.added.known.plan) (read r)
@@ -54,14 +54,14 @@ loop_again c =
     let r = c.before.before in
     let i = (turn r).loop.invariant in
     let told = sides_more _ (read r) i.told c.before.section-wait.ensures.told in
-    search needs
+    search rules
 
 pub fill_sides_spec : {M : Type 1} → statement M
 fill_sides_spec =
     tie.close
     (tie.spec
     invariant-loop decreases-loop (λ c κs. c.before.before.before.before.requires.0.known.plan) (λ c. omega arith) loop_holds
-    (λ c κs. let i = c.before.loop.invariant in (i.added.known.plan, omega (arith, i.all))) (λ c κs. search needs) (λ c κs. search needs)
+    (λ c κs. let i = c.before.loop.invariant in (i.added.known.plan, omega (arith, i.all))) (λ c κs. search rules) (λ c κs. search rules)
     (λ c κs. let n = named c in
     record { added = (turn c).loop.invariant.added; task = n.task; resource = n.there; used = n.used })
     (λ c. let n = named c.before in omega arith)

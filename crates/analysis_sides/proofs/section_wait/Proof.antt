@@ -1,5 +1,5 @@
 -- A hold time of 0 tells of a local resource; else the calls give the numbers of the wait, a budget of at least a tick among them.
-use Rattle.folds.proofs.Ground.{◌∙◌, arith, needs}
+use Rattle.folds.proofs.Ground.{◌∙◌, arith, rules}
 use Rattle.plan_reading.specs.Plan.{plan_of}
 use Rattle.analysis_totals.specs.Totals.{SharingTask}
 use Rattle.analysis_totals.proofs.Laws.{share_of, wait_of_lem}
@@ -50,7 +50,7 @@ section_wait_spec =
     (λ c κs. let h = c.before.before.before.requires in
     record { long = h.added.known.figures.long; row = task_low h; resource = resource_low h })
     (λ c. wait_none (start c.before).requires c.before.hold_at.ensures c.if1.true)
-    (λ c κs. search needs) (λ c κs. search needs)
+    (λ c κs. search rules) (λ c κs. search rules)
     (λ c κs. let h = (start (some c).before).requires in
     record {
       long = h.added.known.figures.long;
@@ -62,5 +62,5 @@ section_wait_spec =
     share_of (asked e) (processor_is (start e.before).requires (asked e) w.before.task.ensures w.wide.ensures.same))
     (λ c κs. asked (some c.before.before))
     (λ c. let h = known c in omega arith) (λ c. let h = known c in omega arith) (λ c. let h = known c in omega arith) (λ c. (known c).low)
-    (λ c. let h = known c in omega arith) (λ c. let h = known c in omega arith) (λ c. search needs) (λ c. let h = known c in omega arith)
-    (λ c. search needs) (λ c. let h = known c in omega arith) returns_2)
+    (λ c. let h = known c in omega arith) (λ c. let h = known c in omega arith) (λ c. search rules) (λ c. let h = known c in omega arith)
+    (λ c. search rules) (λ c. let h = known c in omega arith) returns_2)

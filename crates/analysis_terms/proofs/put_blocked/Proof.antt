@@ -1,5 +1,5 @@
 -- The invariant: what blocks each task is gathered of the sections below `s`.
-use Rattle.analysis_terms.proofs.Ground.{ℕ, ◌+◌, ◌*◌, ◌/◌, ◌<◌, ◌≤◌, ◌-◌, ◌≡◌, sym, ◌∙◌, ⊎_elim, List, arith, needs, most_resources}
+use Rattle.analysis_terms.proofs.Ground.{ℕ, ◌+◌, ◌*◌, ◌/◌, ◌<◌, ◌≤◌, ◌-◌, ◌≡◌, sym, ◌∙◌, ⊎_elim, List, arith, rules, most_resources}
 use Rattle.analysis_terms.proofs.Ground.{get_or, plan_of, valid_plan, Filling, precedence_cell, ceiling_cell}
 use Rattle.analysis_equations.proofs.Rows.{SectionRead}
 use Rattle.analysis_terms.proofs.Terms.{Cells}
@@ -32,7 +32,7 @@ abbrev file : Read → List ℕ
 file r = (counted r).before.before.before.args.file.now
 
 read : (r : Read) → SectionRead (plan_of (file r)) (turn r).loop.s r.before.wide.result r.wide2.result r.before.before.section.result
-read r = search needs
+read r = search rules
 
 cells : (r : Read) → Cells (plan_of (file r)) (turn r).loop.terms r.before.wide.result r.wide2.result
 cells r = let t = (turn r).loop.inv.table in there _ (valid_plan _ t.plan) (read r) _ t.terms
@@ -67,10 +67,10 @@ pub put_blocked_spec : {M : Type 1} → statement M
 put_blocked_spec =
     tie.close
     (tie.spec
-    invariant-loop decreases-loop (λ c κs. search needs) (λ c. omega arith)
+    invariant-loop decreases-loop (λ c κs. search rules) (λ c. omega arith)
     (λ c. let h = c.before.before.before.before.requires in
     record { within = omega arith; all = c.before.counts.ensures.sections; table = record { plan = h.0; terms = h.1 } })
-    (λ c κs. search needs) (λ c κs. search needs) (λ c κs. search needs)
+    (λ c κs. search rules) (λ c κs. search rules) (λ c κs. search rules)
     (λ c. omega arith) (λ c. omega arith) (λ c. let h = cells c.before in omega arith)
     (λ c. omega arith) (λ c. omega arith) (λ c. let h = cells c.before.before.before in omega arith)
     (λ c. omega (arith, low c.before.before.before))

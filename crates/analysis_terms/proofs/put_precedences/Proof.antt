@@ -1,5 +1,5 @@
 -- The invariant: the precedences of the tasks below `j` are there.
-use Rattle.analysis_terms.proofs.Ground.{ℕ, ◌≤◌, ◌-◌, ◌≡◌, sym, ◌∙◌, List, arith, needs, most_tasks, most_resources, plan_of}
+use Rattle.analysis_terms.proofs.Ground.{ℕ, ◌≤◌, ◌-◌, ◌≡◌, sym, ◌∙◌, List, arith, rules, most_tasks, most_resources, plan_of}
 use Rattle.analysis_terms.proofs.Ground.{valid_plan, Filling}
 use Rattle.analysis_terms.proofs.Terms.{terms_precedence}
 use Rattle.analysis_terms.proofs.put_precedences.Statement.{statement}
@@ -45,9 +45,9 @@ pub put_precedences_spec : {M : Type 1} → statement M
 put_precedences_spec =
     tie.close
     (tie.spec
-    invariant-loop decreases-loop (λ c κs. search needs) (λ c κs. search needs)
-    (λ c. let v = valid_plan _ (start c).requires.plan in search needs)
-    (λ c κs. search needs) (λ c κs. search needs) (λ c. omega arith) (λ c κs. search needs)
+    invariant-loop decreases-loop (λ c κs. search rules) (λ c κs. search rules)
+    (λ c. let v = valid_plan _ (start c).requires.plan in search rules)
+    (λ c κs. search rules) (λ c κs. search rules) (λ c. omega arith) (λ c κs. search rules)
     (λ c. omega arith) (λ c. omega arith) (λ c. omega arith)
     (λ c. omega (arith, c.before.before.before.before.loop.invariant.table.terms.long)) (λ c. omega arith) (λ c. omega arith)
     loop_again (λ c. c.before.loop.invariant.table.terms.long ∙ sym (start c.before.before).pre.terms.long) returns)

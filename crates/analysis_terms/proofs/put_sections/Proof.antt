@@ -1,5 +1,5 @@
 -- The invariant: the table tells of the sections below `s`.
-use Rattle.analysis_terms.proofs.Ground.{ℕ, ◌≤◌, ◌-◌, ◌≡◌, refl, sym, ◌∙◌, List, length-set, arith, needs, most_resources}
+use Rattle.analysis_terms.proofs.Ground.{ℕ, ◌≤◌, ◌-◌, ◌≡◌, refl, sym, ◌∙◌, List, length-set, arith, rules, most_resources}
 use Rattle.analysis_terms.proofs.Ground.{plan_of, valid_plan, Filling}
 use Rattle.analysis_equations.proofs.Rows.{SectionRead}
 use Rattle.analysis_terms.proofs.Terms.{Cells, cells, count_low, terms_section, terms_done}
@@ -31,7 +31,7 @@ abbrev file : Read → List ℕ
 file r = (counted r).before.before.before.args.file.now
 
 read : (r : Read) → SectionRead (plan_of (file r)) (turn r).loop.s r.before.wide.result r.wide2.result r.before.before.section.result
-read r = search needs
+read r = search rules
 
 there : (r : Read) → Cells (plan_of (file r)) (turn r).loop.terms r.before.wide.result r.wide2.result
 there r = let t = (turn r).loop.inv.table in cells _ (valid_plan _ t.plan) (read r) _ t.terms
@@ -49,7 +49,7 @@ loop_again c =
     let t = (turn r).loop.inv.table in
     let terms = terms_section _ (valid_plan _ t.plan) (read r) _ t.terms
     (known c).before.chosen.ensures (known c).longer.ensures refl c.longer2.ensures in
-    search needs
+    search rules
 
 returns : tie.Need-returns invariant-loop decreases-loop
 returns c =
@@ -60,17 +60,17 @@ pub put_sections_spec : {M : Type 1} → statement M
 put_sections_spec =
     tie.close
     (tie.spec
-    invariant-loop decreases-loop (λ c κs. search needs) (λ c. omega arith)
-    (λ c. search needs) (λ c κs. search needs) (λ c κs. search needs) (λ c κs. search needs)
+    invariant-loop decreases-loop (λ c κs. search rules) (λ c. omega arith)
+    (λ c. search rules) (λ c κs. search rules) (λ c κs. search rules) (λ c κs. search rules)
     (λ c. omega arith) (λ c. omega arith) (λ c. let h = there c.before in omega arith) (λ c. omega arith)
     (λ c. let h = there c.before.before in omega arith)
-    (λ c κs. search needs) (λ c κs. search needs) (λ c. omega arith) (λ c. omega arith)
+    (λ c κs. search rules) (λ c κs. search rules) (λ c. omega arith) (λ c. omega arith)
     (λ c. let h = there (longest c.before) in omega arith)
     (λ c. let r = longest c.before in let t = (turn r).loop.inv.table in
     omega (arith, count_low _ (valid_plan _ t.plan) (read r) _ t.terms))
     (λ c. omega arith) (λ c. omega arith) (λ c. let h = there (longest c.before.before) in omega arith)
     (λ c. omega arith) (λ c. omega arith) (λ c. let h = there (longest c.before.before.before) in omega arith)
-    (λ c κs. search needs) (λ c. omega arith) (λ c. let h = there (longest (known c)) in omega arith) (λ c. omega arith) (λ c. omega arith)
+    (λ c κs. search rules) (λ c. omega arith) (λ c. let h = there (longest (known c)) in omega arith) (λ c. omega arith) (λ c. omega arith)
     (λ c. let h = there (longest (known c)) in rw length-set (omega arith)) (λ c. omega arith) (λ c. omega arith)
     (λ c. let h = there (longest (known c)) in rw (length-set, length-set) (omega arith)) (λ c. omega arith) (λ c. omega arith) loop_again
     (λ c. let b = c.before.before.before.before in c.before.loop.invariant.table.terms.long ∙ sym b.before.before.requires.terms.long)

@@ -1,5 +1,5 @@
 -- The invariant: the flags of the resources below `q` are in place.
-use Rattle.analysis_terms.proofs.Ground.{ℕ, ◌≤◌, ◌-◌, Bool, List, cond, ◌≡◌, sym, ap, ◌∙◌, length-replicate, arith, needs}
+use Rattle.analysis_terms.proofs.Ground.{ℕ, ◌≤◌, ◌-◌, Bool, List, cond, ◌≡◌, sym, ap, ◌∙◌, length-replicate, arith, rules}
 use Rattle.analysis_terms.proofs.Ground.{most_resources, plan_of, term_count, TermsBelow}
 use Rattle.analysis_figures.specs.Figures.{Known}
 use Rattle.analysis_terms.proofs.Terms.{terms_none, terms_shared}
@@ -22,7 +22,7 @@ loop_again c =
     let l = c.before.before.before.loop in
     let e = c.chosen.ensures ∙ ap (λ (b : Bool). cond b 1 0) c.before.is_global.ensures in
     let terms = terms_shared _ l.q l.terms l.invariant.terms (omega arith) e in
-    search needs
+    search rules
 
 pub put_shared_spec : {M : Type 1} → statement M
 put_shared_spec =
@@ -30,7 +30,7 @@ put_shared_spec =
     (tie.spec
     invariant-loop decreases-loop
     (λ c. let h = c.before.before.before.requires in record { within = omega arith; known = h.0; terms = terms_none _ h.1 })
-    (λ c κs. search needs) (λ c κs. search needs) (λ c. omega arith) (λ c. omega arith)
+    (λ c κs. search rules) (λ c κs. search rules) (λ c. omega arith) (λ c. omega arith)
     (λ c. omega (arith, c.before.before.before.loop.invariant.terms.long)) (λ c. omega arith) (λ c. omega arith) loop_again
     (λ c. let l = c.before in
     l.loop.invariant.terms.long ∙ sym (rw l.before.before.before.before.requires.1 (length-replicate {A = ℕ} term_count 0)))

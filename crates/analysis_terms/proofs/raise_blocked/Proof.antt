@@ -1,5 +1,5 @@
 -- The invariant: the tasks below `i` are raised.
-use Rattle.analysis_terms.proofs.Ground.{ℕ, ◌≤◌, ◌-◌, List, ◌≡◌, ◌∙◌, length, arith, needs, most_tasks, term_count, TasksRaised}
+use Rattle.analysis_terms.proofs.Ground.{ℕ, ◌≤◌, ◌-◌, List, ◌≡◌, ◌∙◌, length, arith, rules, most_tasks, term_count, TasksRaised}
 use Rattle.analysis_terms.proofs.Raising.{raised_none, raised_more}
 use Rattle.analysis_terms.proofs.raise_blocked.Statement.{statement}
 use Rattle.analysis_terms.proofs.raise_blocked.Tie as tie
@@ -30,6 +30,6 @@ raise_blocked_spec =
     (tie.spec
     invariant-loop decreases-loop (λ c. record { within = omega arith; long = c.before.requires; raised = raised_none _ _ _ _ })
     (λ c. omega arith) (λ c. omega arith) (λ c. omega arith) (λ c. omega arith) (λ c. omega arith) (λ c. omega arith)
-    (λ c κs. search needs) (λ c κs. search needs) (λ c. omega arith) (λ c. omega arith) (λ c. omega arith) (λ c. omega arith) (λ c. omega arith)
+    (λ c κs. search rules) (λ c κs. search rules) (λ c. omega arith) (λ c. omega arith) (λ c. omega arith) (λ c. omega arith) (λ c. omega arith)
     loop_again (λ c. c.before.loop.invariant.raised.long)
     (λ c. let l = c.before.loop in let all : l.i ≡ most_tasks = omega arith in rw all at l.invariant.raised))

@@ -1,5 +1,5 @@
 -- The invariant: the tasks below j that are above task i are counted and packed.
-use Rattle.analysis_tolerance.proofs.Ground.{ℕ, ◌+◌, ◌*◌, ◌≤◌, ◌-◌, ◌≡◌, sym, ap, ◌∙◌, List, ⊎_elim, arith, needs, TaskRow, plan_of}
+use Rattle.analysis_tolerance.proofs.Ground.{ℕ, ◌+◌, ◌*◌, ◌≤◌, ◌-◌, ◌≡◌, sym, ap, ◌∙◌, List, ⊎_elim, arith, rules, TaskRow, plan_of}
 use Rattle.analysis_tolerance.proofs.Ground.{valid_plan, processor_of, HigherTasks}
 use Rattle.analysis_tolerance.proofs.Precedences.{table_above}
 use Rattle.analysis_terms.proofs.Over.{Over, over}
@@ -63,10 +63,10 @@ pub higher_tasks_spec : {M : Type 1} → statement M
 higher_tasks_spec =
     tie.close
     (tie.spec
-    invariant-loop decreases-loop (λ c κs. search needs) (λ c κs. tt) (λ c κs. search needs) (λ c. omega arith)
+    invariant-loop decreases-loop (λ c κs. search rules) (λ c κs. tt) (λ c κs. search rules) (λ c. omega arith)
     (λ c. omega arith) (λ c. omega arith) (λ c κs. tt) (λ c. omega arith) mul_top loop_holds
     (λ c. omega arith) (λ c. omega arith) (λ c. omega arith)
-    (λ c κs. search needs)
+    (λ c κs. search rules)
     (λ c. omega arith) (λ c. omega arith) (λ c. omega arith) (λ c. omega arith) (λ c. omega arith) (λ c. omega arith) (λ c. omega arith)
     (λ c. omega arith) (λ c. omega arith) loop_again
     (λ c. let i = c.before.loop.invariant in higher_done i.packed (omega (arith, i.over.all))))

@@ -1,5 +1,5 @@
 -- The invariant: the tasks below k are counted.
-use Rattle.analysis_tolerance.proofs.Ground.{◌-◌, ⊎_elim, arith, needs}
+use Rattle.analysis_tolerance.proofs.Ground.{◌-◌, ⊎_elim, arith, rules}
 use Rattle.analysis_tolerance.proofs.Demand.{Passing, passing_none, passing_high, passing_end, passing_begun, passing_left, passing_done}
 use Rattle.analysis_tolerance.proofs.pass.Statement.{statement}
 use Rattle.analysis_tolerance.proofs.pass.Tie as tie
@@ -28,5 +28,5 @@ pass_spec =
     (λ c. let s = c.before.before.before.before in
     let l = s.before.before.loop in
     omega (arith, passing_end l.invariant (omega arith), l.invariant.counted.tasks.period l.k (omega arith)))
-    (λ c. omega arith) (λ c. omega arith) (λ c. omega arith) loop_again (λ c. search needs)
+    (λ c. omega arith) (λ c. omega arith) (λ c. omega arith) loop_again (λ c. search rules)
     (λ c. passing_done c.before.loop.invariant (omega arith)))

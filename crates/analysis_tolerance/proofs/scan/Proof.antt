@@ -1,5 +1,5 @@
 -- The invariant: `demand` is that of t with `own`, and `best` the greatest for the times up to t.
-use Rattle.analysis_tolerance.proofs.Ground.{ℕ, ◌+◌, ◌≤◌, ◌-◌, ◌≡◌, ◌∙◌, List, arith, needs, Scanned, Counted, demand_of, greatest_to, back, most_period, most_demand}
+use Rattle.analysis_tolerance.proofs.Ground.{ℕ, ◌+◌, ◌≤◌, ◌-◌, ◌≡◌, ◌∙◌, List, arith, rules, Scanned, Counted, demand_of, greatest_to, back, most_period, most_demand}
 use mir.Syntax.{w64}
 use mir.Val.{to_z}
 use Rattle.analysis_tolerance.proofs.Demand.{left_of, left_first, left_step, left_done}
@@ -77,8 +77,8 @@ pub scan_spec : {M : Type 1} → statement M
 scan_spec =
     tie.close
     (tie.spec
-    invariant-loop decreases-loop (λ c. search needs) first_requires (λ c. omega arith) (λ c. let p = c.before.pass.ensures in omega arith)
+    invariant-loop decreases-loop (λ c. search rules) first_requires (λ c. omega arith) (λ c. let p = c.before.pass.ensures in omega arith)
     (λ c κs. let p = c.before.pass.ensures in omega arith) loop_holds
-    (λ c. omega arith) (λ c. search needs) (λ c κs. c.before.before.loop.invariant.counted) (λ c. omega arith)
+    (λ c. omega arith) (λ c. search rules) (λ c κs. c.before.before.loop.invariant.counted) (λ c. omega arith)
     (λ c. omega (arith, high c)) (λ c. omega arith) (λ c κs. omega (arith, high c)) (λ c κs. tt) (λ c. omega arith) loop_again
     (λ c. let l = c.before.loop in left_done _ _ _ _ _ l.t (omega arith) l.invariant.told))

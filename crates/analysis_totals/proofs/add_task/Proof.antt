@@ -1,5 +1,5 @@
 -- The invariant: the task is added at the resources below `q`.
-use Rattle.analysis_totals.proofs.Ground.{◌-◌, ◌≡◌, length-set, arith, needs, most_resources}
+use Rattle.analysis_totals.proofs.Ground.{◌-◌, ◌≡◌, length-set, arith, rules, most_resources}
 use Rattle.analysis_totals.proofs.Adding.{Turn, added_none, few, low, added_step}
 use Rattle.analysis_totals.proofs.add_task.Statement.{statement}
 use Rattle.analysis_totals.proofs.add_task.Tie as tie
@@ -18,7 +18,7 @@ pub add_task_spec : {M : Type 1} → statement M
 add_task_spec =
     tie.close
     (tie.spec
-    invariant-loop decreases-loop (λ c. added_none c.before.before.requires) (λ c κs. search needs) (λ c κs. tt)
+    invariant-loop decreases-loop (λ c. added_none c.before.before.requires) (λ c κs. search rules) (λ c κs. tt)
     (λ c. omega arith) (λ c. omega arith) (λ c. omega arith) (λ c. omega arith)
     (λ c. omega (arith, few (turn c.before).loop.inv (omega arith))) (λ c. omega arith)
     (λ c. omega arith) (λ c. omega arith) (λ c. omega arith) (λ c. omega arith) (λ c. omega arith) (λ c. rw length-set (omega arith))

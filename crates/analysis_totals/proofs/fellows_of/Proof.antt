@@ -1,5 +1,5 @@
 -- The users of the processor are the fellows and the task itself.
-use Rattle.analysis_totals.proofs.Ground.{◌≡◌, ap, ◌∙◌, arith, needs, plan_of, valid_plan, processor_of, TotalPlace}
+use Rattle.analysis_totals.proofs.Ground.{◌≡◌, ap, ◌∙◌, arith, rules, plan_of, valid_plan, processor_of, TotalPlace}
 use Rattle.plan_rules.specs.declared.TaskRow.{TaskRow}
 use Rattle.analysis_totals.proofs.Laws.{share_of, users_of, holds_of}
 use Rattle.analysis_totals.proofs.fellows_of.Statement.{statement}
@@ -32,6 +32,6 @@ fellows_of_spec =
     (λ c. let s = there c.before in omega arith) (λ c. let s = there c.before.before in omega arith)
     (λ c. let w = c.before.before in omega (arith, users_of (start w).requires (own w)))
     (λ c. let s = there c.before.before in omega arith) (λ c. let s = there c.before.before in omega arith)
-    (λ c. let s = there c.before.before.before in omega arith) (λ c. search needs)
+    (λ c. let s = there c.before.before.before in omega arith) (λ c. search rules)
     (λ c. let h = c.before.before in let w = h.before in omega (arith, holds_of (start w).requires (own w) h.hold_at.ensures))
     returns)

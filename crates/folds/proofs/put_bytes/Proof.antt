@@ -12,31 +12,31 @@ record Copied (bytes before now : List ℕ) (k : ℕ) : Type 0 where
   front : now ≡ take k bytes ++ drop k before
   kept : length now ≡ length before
 
-abbrev invariant-loop : tie.invariant-loop
-invariant-loop buf₀ bytes k₀ buf k = Copied bytes buf₀ buf k
+abbrev invariant-loop-k : tie.invariant-loop-k
+invariant-loop-k buf₀ bytes k₀ buf k = Copied bytes buf₀ buf k
 
-abbrev decreases-loop : tie.decreases-loop
-decreases-loop buf₀ bytes k₀ buf k = length bytes - k
+abbrev decreases-loop-k : tie.decreases-loop-k
+decreases-loop-k buf₀ bytes k₀ buf k = length bytes - k
 
-loop_again : tie.Need-loop-preserved invariant-loop decreases-loop
+loop_again : tie.Need-loop-k-preserved invariant-loop-k decreases-loop-k
 loop_again c =
     let a = c.before.before.before in
-    let l = c.before.before.loop in
+    let l = c.before.before.loop-k in
     record {
       below = omega arith;
       front = rw l.invariant.front (one_more_lem a.args.buf.now a.args.bytes.now l.k (omega arith) (omega arith));
       kept = simp length-set l.invariant.kept;
     }
 
-returns : tie.Need-returns invariant-loop decreases-loop
+returns : tie.Need-returns invariant-loop-k decreases-loop-k
 returns c =
     let a = c.before.before in
-    let e : c.before.loop.k ≡ length a.args.bytes.now = omega arith in
-    rw (c.before.loop.invariant.front, e, take-length)
+    let e : c.before.loop-k.k ≡ length a.args.bytes.now = omega arith in
+    rw (c.before.loop-k.invariant.front, e, take-length)
 
 pub put_bytes_spec : {M : Type 1} → statement M
 put_bytes_spec =
     tie.close
     (tie.spec
-    invariant-loop decreases-loop (λ c. record { below = omega arith; front = refl; kept = refl }) (λ c. omega arith) (λ c. omega arith)
-    (λ c. omega arith) (λ c. omega arith) loop_again (λ c. c.before.loop.invariant.kept) returns)
+    invariant-loop-k decreases-loop-k (λ c. record { below = omega arith; front = refl; kept = refl }) (λ c. omega arith) (λ c. omega arith)
+    (λ c. omega arith) (λ c. omega arith) loop_again (λ c. c.before.loop-k.invariant.kept) returns)

@@ -1,5 +1,5 @@
 -- Two tests, the second where the first is passed.
-use Rattle.image.proofs.Ground.{needs, fit_test}
+use Rattle.image.proofs.Ground.{rules, fit_test}
 use Rattle.folds.proofs.Tests.{held, failed}
 use Rattle.image.proofs.fits.Statement.{statement}
 use Rattle.image.proofs.fits.Tie as tie
@@ -13,4 +13,4 @@ unfolding fit_test
 returns_2 c = rw (held c.before.before.counts-ok.ensures c.before.if1.false) c.holders-ok.ensures
 
 pub fits_spec : {M : Type 1} → statement M
-fits_spec = tie.close (tie.spec (λ c κs. search needs) returns (λ c κs. search needs) returns_2)
+fits_spec = tie.close (tie.spec (λ c κs. search rules) returns (λ c κs. search rules) returns_2)

@@ -1,5 +1,5 @@
 -- The row by the numbers of its bytes.
-use Rattle.image.proofs.Ground.{needs, fields, number}
+use Rattle.image.proofs.Ground.{rules, fields, number}
 use Rattle.image.proofs.get_line.Statement.{statement}
 use Rattle.image.proofs.get_line.Tie as tie
 
@@ -11,6 +11,6 @@ pub get_line_spec : {M : Type 1} → statement M
 get_line_spec =
     tie.close
     (tie.spec
-    (λ c. search needs) (λ c. search needs) (λ c. search needs) (λ c. search needs) (λ c. search needs) (λ c. search needs)
-    (λ c. search needs) (λ c. search needs) (λ c. search needs) (λ c. search needs) (λ c. search needs) (λ c κs. search needs)
-    (λ c. search needs) (λ c. search needs) (λ c κs. search needs) returns)
+    (λ c. search rules) (λ c. search rules) (λ c. search rules) (λ c. search rules) (λ c. search rules) (λ c. search rules)
+    (λ c. search rules) (λ c. search rules) (λ c. search rules) (λ c. search rules) (λ c. search rules) (λ c κs. search rules)
+    (λ c. search rules) (λ c. search rules) (λ c κs. search rules) returns)

@@ -1,5 +1,5 @@
 -- One test, and the resource or none.
-use Rattle.image.proofs.Ground.{◌&&◌, eqb, get_or, arith, needs, holder_key}
+use Rattle.image.proofs.Ground.{◌&&◌, eqb, get_or, arith, rules, holder_key}
 use Rattle.image.proofs.Holding.{key_low}
 use Rattle.image.proofs.holder_key.Statement.{statement}
 use Rattle.image.proofs.holder_key.Tie as tie
@@ -18,4 +18,4 @@ unfolding holder_key
 returns_2 c = (rw c.if1.false, omega arith)
 
 pub holder_key_spec : {M : Type 1} → statement M
-holder_key_spec = tie.close (tie.spec (λ c. search needs) (λ c κs. search needs) returns returns_2)
+holder_key_spec = tie.close (tie.spec (λ c. search rules) (λ c κs. search rules) returns returns_2)

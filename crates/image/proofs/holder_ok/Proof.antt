@@ -1,5 +1,5 @@
 -- The three outcomes of the test: a free resource, a number past the tasks, and the row of the task.
-use Rattle.image.proofs.Ground.{List, ℕ, ◌≡◌, ap, ◌∙◌, get_or, drop, arith, needs, plan_of, Valid, valid_plan, row_at, line_widths}
+use Rattle.image.proofs.Ground.{List, ℕ, ◌≡◌, ap, ◌∙◌, get_or, drop, arith, rules, plan_of, Valid, valid_plan, row_at, line_widths}
 use Rattle.image.proofs.Ground.{standing_widths, standing_from, line_in, holder_in, standing_in}
 use Rattle.image.proofs.Rows.{row_part}
 use Rattle.image.proofs.Tested.{free_test_lem, past_test, first_test}
@@ -76,6 +76,6 @@ pub holder_ok_spec : {M : Type 1} → statement M
 holder_ok_spec =
     tie.close
     (tie.spec
-    line_at_requires (λ c. search needs) (λ c. search needs) (λ c. search needs) (λ c. search needs) (λ c. search needs)
-    (λ c κs. search needs) returns (λ c κs. search needs) returns_2 (λ c κs. search needs) (λ c κs. search needs)
-    (λ c κs. search needs) standing_at_requires (λ c κs. search needs) (λ c. search needs) returns_3)
+    line_at_requires (λ c. search rules) (λ c. search rules) (λ c. search rules) (λ c. search rules) (λ c. search rules)
+    (λ c κs. search rules) returns (λ c κs. search rules) returns_2 (λ c κs. search rules) (λ c κs. search rules)
+    (λ c κs. search rules) standing_at_requires (λ c κs. search rules) (λ c. search rules) returns_3)

@@ -1,5 +1,5 @@
 -- The invariant: the tasks below `u` are in the table.
-use Rattle.image.proofs.Ground.{ℕ, ◌+◌, ◌%◌, ◌≤◌, ◌-◌, ◌≡◌, refl, ap, ap₂, ◌∙◌, get_or, replicate, arith, needs, most_resources, absent}
+use Rattle.image.proofs.Ground.{ℕ, ◌+◌, ◌%◌, ◌≤◌, ◌-◌, ◌≡◌, refl, ap, ap₂, ◌∙◌, get_or, replicate, arith, rules, most_resources, absent}
 use Rattle.image.proofs.Ground.{plan_of, Valid, valid_plan, no_line, standing, key_at, holder_key, holder_table}
 use Rattle.folds.proofs.Arrays.{stamped_below, stamped_step}
 use Rattle.plan_rules.specs.declared.TaskRow.{TaskRow}
@@ -53,9 +53,9 @@ pub holders_of_spec : {M : Type 1} → statement M
 holders_of_spec =
     tie.close
     (tie.spec
-    invariant-loop decreases-loop (λ c κs. search needs) (λ c κs. search needs) loop_holds
+    invariant-loop decreases-loop (λ c κs. search rules) (λ c κs. search rules) loop_holds
     (λ c. omega (arith, count c.before, (valid c.before).tasks)) (λ c. omega (arith, count c.before, (valid c.before).tasks))
-    (λ c κs. search needs) (λ c. omega arith) (λ c. omega arith)
-    (λ c κs. let l = c.before.before.before.before in ((start l).requires, omega (arith, count l))) (λ c κs. search needs)
+    (λ c κs. search rules) (λ c. omega arith) (λ c. omega arith)
+    (λ c κs. let l = c.before.before.before.before in ((start l).requires, omega (arith, count l))) (λ c κs. search rules)
     (λ c. omega (arith, count (turn c), (valid (turn c)).tasks)) (λ c. omega (arith, c.holder-key.ensures.1)) (λ c. omega arith)
     (λ c. omega arith) loop_again returns)

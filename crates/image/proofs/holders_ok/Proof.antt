@@ -1,5 +1,5 @@
 -- The invariant: the rows passed have their holder.
-use Rattle.image.proofs.Ground.{◌≤◌, ◌-◌, true, ◌≡◌, refl, sym, arith, needs, all_below, all_more, all_done, all_left, plan_of, holder_test}
+use Rattle.image.proofs.Ground.{◌≤◌, ◌-◌, true, ◌≡◌, refl, sym, arith, rules, all_below, all_more, all_done, all_left, plan_of, holder_test}
 use Rattle.folds.proofs.Tests.{held, failed}
 use Rattle.image.proofs.holders_ok.Statement.{statement}
 use Rattle.image.proofs.holders_ok.Tie as tie
@@ -42,5 +42,5 @@ pub holders_ok_spec : {M : Type 1} → statement M
 holders_ok_spec =
     tie.close
     (tie.spec
-    invariant-loop decreases-loop (λ c κs. search needs) (λ c κs. search needs) loop_holds holder_ok_requires returns (λ c. omega arith)
+    invariant-loop decreases-loop (λ c κs. search rules) (λ c κs. search rules) loop_holds holder_ok_requires returns (λ c. omega arith)
     (λ c. omega arith) loop_again returns_2)

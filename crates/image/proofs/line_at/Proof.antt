@@ -1,5 +1,5 @@
 -- The part that begins at the row.
-use Rattle.image.proofs.Ground.{ap, ◌∙◌, needs, line_widths, line_from, line_in}
+use Rattle.image.proofs.Ground.{ap, ◌∙◌, rules, line_widths, line_from, line_in}
 use Rattle.image.proofs.Rows.{row_part}
 use Rattle.image.proofs.line_at.Statement.{statement}
 use Rattle.image.proofs.line_at.Tie as tie
@@ -14,4 +14,4 @@ pub line_at_spec : {M : Type 1} → statement M
 line_at_spec =
     tie.close
     (tie.spec
-    (λ c. search needs) (λ c. search needs) (λ c. search needs) (λ c. search needs) (λ c. search needs) (λ c κs. search needs) returns)
+    (λ c. search rules) (λ c. search rules) (λ c. search rules) (λ c. search rules) (λ c. search rules) (λ c κs. search rules) returns)

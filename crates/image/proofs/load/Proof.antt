@@ -1,5 +1,5 @@
 -- The rows of both kinds, as many as the plan has.
-use Rattle.image.proofs.Ground.{List, ℕ, ap, ap₂, ◌∙◌, drop, arith, needs, valid_plan, row_at, placed_below, LineRow, Standing}
+use Rattle.image.proofs.Ground.{List, ℕ, ap, ap₂, ◌∙◌, drop, arith, rules, valid_plan, row_at, placed_below, LineRow, Standing}
 use Rattle.image.proofs.Ground.{fresh_state, standing_widths, standing_from, line_in, standing_in}
 use Rattle.image.proofs.load.Statement.{statement}
 use Rattle.image.proofs.load.Tie as tie
@@ -43,5 +43,5 @@ pub load_spec : {M : Type 1} → statement M
 load_spec =
     tie.close
     (tie.spec
-    (λ c κs. search needs) (λ c κs. search needs) (λ c κs. search needs) load_lines_requires (λ c κs. search needs)
+    (λ c κs. search rules) (λ c κs. search rules) (λ c κs. search rules) load_lines_requires (λ c κs. search rules)
     load_standings_requires returns)

@@ -1,5 +1,5 @@
 -- The invariant: the rows below `q` are loaded.
-use Rattle.image.proofs.Ground.{◌≤◌, ◌-◌, ◌≡◌, refl, length, arith, needs, most_resources, placed_below, placed_step, placed_done, fresh_state, line_in}
+use Rattle.image.proofs.Ground.{◌≤◌, ◌-◌, ◌≡◌, refl, length, arith, rules, most_resources, placed_below, placed_step, placed_done, fresh_state, line_in}
 use Rattle.folds.proofs.Ground.{length-set}
 use Rattle.image.proofs.load_lines.Statement.{statement}
 use Rattle.image.proofs.load_lines.Tie as tie
@@ -30,5 +30,5 @@ pub load_lines_spec : {M : Type 1} → statement M
 load_lines_spec =
     tie.close
     (tie.spec
-    invariant-loop decreases-loop (λ c κs. search needs) loop_holds line_at_requires (λ c. omega arith) (λ c. omega arith) (λ c. omega arith)
+    invariant-loop decreases-loop (λ c κs. search rules) loop_holds line_at_requires (λ c. omega arith) (λ c. omega arith) (λ c. omega arith)
     (λ c. omega arith) loop_again returns)

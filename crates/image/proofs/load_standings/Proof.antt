@@ -1,5 +1,5 @@
 -- The invariant: the rows below `i` are loaded.
-use Rattle.image.proofs.Ground.{◌≤◌, ◌-◌, ◌≡◌, refl, length, drop, arith, needs, most_tasks, row_at, placed_below, placed_step, placed_done, fresh_state}
+use Rattle.image.proofs.Ground.{◌≤◌, ◌-◌, ◌≡◌, refl, length, drop, arith, rules, most_tasks, row_at, placed_below, placed_step, placed_done, fresh_state}
 use Rattle.image.proofs.Ground.{standing_widths, standing_from}
 use Rattle.folds.proofs.Ground.{length-set}
 use Rattle.image.proofs.load_standings.Statement.{statement}
@@ -32,5 +32,5 @@ pub load_standings_spec : {M : Type 1} → statement M
 load_standings_spec =
     tie.close
     (tie.spec
-    invariant-loop decreases-loop (λ c κs. search needs) loop_holds standing_at_requires (λ c. omega arith) (λ c. omega arith) (λ c. omega arith)
+    invariant-loop decreases-loop (λ c κs. search rules) loop_holds standing_at_requires (λ c. omega arith) (λ c. omega arith) (λ c. omega arith)
     (λ c. omega arith) loop_again returns)

@@ -1,5 +1,5 @@
 -- The row is the bytes of the plan's counts and of the offsets.
-use Rattle.image.proofs.Ground.{arith, needs, row_bytes, digits, head_bytes, valid_plan}
+use Rattle.image.proofs.Ground.{arith, rules, row_bytes, digits, head_bytes, valid_plan}
 use Rattle.image.proofs.put_head.Statement.{statement}
 use Rattle.image.proofs.put_head.Tie as tie
 
@@ -16,5 +16,5 @@ pub put_head_spec : {M : Type 1} → statement M
 put_head_spec =
     tie.close
     (tie.spec
-    (λ c κs. search needs) (λ c κs. search needs) (λ c. search needs) cast_t7 (λ c. search needs) (λ c κs. search needs)
-    (λ c. search needs) returns)
+    (λ c κs. search rules) (λ c κs. search rules) (λ c. search rules) cast_t7 (λ c. search rules) (λ c κs. search rules)
+    (λ c. search rules) returns)

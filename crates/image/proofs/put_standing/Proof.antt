@@ -1,5 +1,5 @@
 -- The row is the bytes of its numbers.
-use Rattle.image.proofs.Ground.{needs, row_bytes, digits, standing_bytes}
+use Rattle.image.proofs.Ground.{rules, row_bytes, digits, standing_bytes}
 use Rattle.image.proofs.put_standing.Statement.{statement}
 use Rattle.image.proofs.put_standing.Tie as tie
 
@@ -8,4 +8,4 @@ unfolding standing_bytes row_bytes digits
 returns c = cc
 
 pub put_standing_spec : {M : Type 1} → statement M
-put_standing_spec = tie.close (tie.spec (λ c. search needs) (λ c κs. search needs) (λ c. search needs) returns)
+put_standing_spec = tie.close (tie.spec (λ c. search rules) (λ c κs. search rules) (λ c. search rules) returns)

@@ -1,5 +1,5 @@
 -- The part that begins at the row.
-use Rattle.image.proofs.Ground.{ap, ◌∙◌, needs, standing_widths, standing_from}
+use Rattle.image.proofs.Ground.{ap, ◌∙◌, rules, standing_widths, standing_from}
 use Rattle.image.proofs.Rows.{row_part}
 use Rattle.image.proofs.standing_at.Statement.{statement}
 use Rattle.image.proofs.standing_at.Tie as tie
@@ -13,4 +13,4 @@ pub standing_at_spec : {M : Type 1} → statement M
 standing_at_spec =
     tie.close
     (tie.spec
-    (λ c. search needs) (λ c. search needs) (λ c. search needs) (λ c. search needs) (λ c. search needs) (λ c κs. search needs) returns)
+    (λ c. search rules) (λ c. search rules) (λ c. search rules) (λ c. search rules) (λ c. search rules) (λ c κs. search rules) returns)

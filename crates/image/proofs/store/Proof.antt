@@ -1,5 +1,5 @@
 -- Each part is put behind those before it, and the rows are those of the image.
-use Rattle.image.proofs.Ground.{◌≡◌, ap, ◌∙◌, length, length-take, length-drop, arith, needs, plan_of, Valid, valid_plan}
+use Rattle.image.proofs.Ground.{◌≡◌, ap, ◌∙◌, length, length-take, length-drop, arith, rules, plan_of, Valid, valid_plan}
 use Rattle.image.proofs.Ground.{Front, put_front, rows_part, head_bytes, image_length, line_width, standing_width, line_row}
 use Rattle.image.proofs.Ground.{standing_row, most_tasks, most_resources}
 use Rattle.folds.proofs.Arrays.{length_mapped}
@@ -24,7 +24,7 @@ valid h = valid_plan _ (begun h).requires.lent.plan
 
 -- the lengths of the state's arrays
 long : (a : tie.Start) → (length a.args.state.lines ≡ most_resources) × (length a.args.state.tasks ≡ most_tasks)
-long a = (search (needs, length_mapped), search (needs, length_mapped))
+long a = (search (rules, length_mapped), search (rules, length_mapped))
 
 put_lines_requires : tie.Need-put-lines-requires
 put_lines_requires c κs =
@@ -81,6 +81,6 @@ pub store_spec : {M : Type 1} → statement M
 store_spec =
     tie.close
     (tie.spec
-    (λ c κs. search needs) (λ c κs. search needs) (λ c κs. search needs) (λ c κs. search needs) (λ c. search needs)
-    (λ c. search needs) (λ c. search needs) (λ c. search needs) (λ c κs. search needs) put_lines_requires (λ c. search needs)
-    (λ c. search needs) (λ c. search needs) (λ c κs. search needs) put_standings_requires (λ c. search needs) returns)
+    (λ c κs. search rules) (λ c κs. search rules) (λ c κs. search rules) (λ c κs. search rules) (λ c. search rules)
+    (λ c. search rules) (λ c. search rules) (λ c. search rules) (λ c κs. search rules) put_lines_requires (λ c. search rules)
+    (λ c. search rules) (λ c. search rules) (λ c κs. search rules) put_standings_requires (λ c. search rules) returns)

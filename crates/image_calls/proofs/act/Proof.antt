@@ -1,5 +1,5 @@
 -- The image is not sound, the call is refused, or it is made and what it leaves is stored.
-use Rattle.image_calls.proofs.Ground.{true, false, ◌≡◌, sym, ap, ◌∙◌, arith, needs, not-true, not-false, plan_of, Valid, valid_plan, State}
+use Rattle.image_calls.proofs.Ground.{true, false, ◌≡◌, sym, ap, ◌∙◌, arith, rules, not-true, not-false, plan_of, Valid, valid_plan, State}
 use Rattle.image_calls.proofs.Ground.{call_code, shows, sound, state_in, image_sound, image_tested, fit_test, lent_refusal, image_refusal}
 use Rattle.folds.proofs.Tests.{held, failed}
 use Rattle.image_calls.proofs.Made.{room_lent, unsound_image_lem, sound_image, image_first, own_code, refused, done}
@@ -34,7 +34,7 @@ seated e = e.before.before.before
 
 sound_is : (e : tie.Else2) → let a = (start (tested (seated e))).args in
     sound (plan_of a.file.now) (state_in (plan_of a.file.now) a.image.now) ≡ true
-sound_is e = sym (state_is (seated e)) ∙ not-false _ e.if2.false
+sound_is e = sym (state_is (seated e)) ∙ e.if2.false
 
 sound_loaded : (e : tie.Else2) → let a = (start (tested (seated e))).args in
     sound (plan_of a.file.now) (seated e).before.before.load.result ≡ true
@@ -70,7 +70,7 @@ returns_2 c =
     let f = tested s in
     let fit = held f.fits2.ensures s.before.before.before.before.if1.false in
     let e : image_sound (plan_of (start f).args.file.now) (start f).args.image.now ≡ false =
-    sym (image_tested _ (valid f) _) ∙ rw (fit, sym (state_is s) ∙ not-true _ c.if2.true) in
+    sym (image_tested _ (valid f) _) ∙ rw (fit, sym (state_is s) ∙ c.if2.true) in
     refused _ _ _ (image_first _ _ _ (unsound_image_lem _ _ (lent f) e) (λ z. omega arith)) (λ z. omega arith)
 
 returns_3 : tie.Need-returns-3
@@ -118,6 +118,6 @@ pub act_spec : {M : Type 1} → statement M
 act_spec =
     tie.close
     (tie.spec
-    (λ c κs. search needs) (λ c. search needs) returns (λ c κs. search needs) (λ c. search needs) (λ c κs. search needs)
-    (λ c. search needs) returns_2 (λ c. search needs) (λ c κs. let sound = sound_loaded c.before in search needs) (λ c. search needs)
-    returns_3 (λ c. search needs) (λ c. search needs) make_requires store_requires (λ c. search needs) returns_4)
+    (λ c κs. search rules) (λ c. search rules) returns (λ c κs. search rules) (λ c. search rules) (λ c κs. search rules)
+    (λ c. search rules) returns_2 (λ c. search rules) (λ c κs. let sound = sound_loaded c.before in search rules) (λ c. search rules)
+    returns_3 (λ c. search rules) (λ c. search rules) make_requires store_requires (λ c. search rules) returns_4)

@@ -1,5 +1,5 @@
 -- A look at the file, the length of the lent bytes, then the call.
-use Rattle.image_calls.proofs.Ground.{sym, ◌∙◌, arith, needs}
+use Rattle.image_calls.proofs.Ground.{sym, ◌∙◌, arith, rules}
 use Rattle.image_calls.proofs.Made.{plan_lent, short_lent, lent_first, image_first, refused}
 use Rattle.image_calls.proofs.call.Statement.{statement}
 use Rattle.image_calls.proofs.call.Tie as tie
@@ -35,6 +35,6 @@ pub call_spec : {M : Type 1} → statement M
 call_spec =
     tie.close
     (tie.spec
-    (λ c. search needs) (λ c κs. search needs) returns
-    (λ c κs. (c.before.before.look.ensures.0.known c.if1.false).plan) returns_2 (λ c. search needs) act_requires
-    (λ c. search needs) (λ c. let h = c.before.before.act.ensures in (h.answer, h.next)))
+    (λ c. search rules) (λ c κs. search rules) returns
+    (λ c κs. (c.before.before.look.ensures.0.known c.if1.false).plan) returns_2 (λ c. search rules) act_requires
+    (λ c. search rules) (λ c. let h = c.before.before.act.ensures in (h.answer, h.next)))

@@ -1,5 +1,5 @@
 -- The invariant: the image is what the calls passed leave.
-use Rattle.image_calls.proofs.Ground.{◌≤◌, ◌-◌, ◌≡◌, refl, length, arith, needs, LeftBy, begun}
+use Rattle.image_calls.proofs.Ground.{◌≤◌, ◌-◌, ◌≡◌, refl, length, arith, rules, LeftBy, begun}
 use Rattle.machine_calls.specs.Calls.{call_width, calls_below}
 use Rattle.image_calls.proofs.Bytes.{left_step, all_left}
 use Rattle.image_calls.proofs.Kept.{image_ran}
@@ -32,5 +32,5 @@ run_spec =
     tie.close
     (tie.spec
     invariant-loop decreases-loop (λ c. (omega arith, refl, begun)) (λ c. omega arith)
-    (λ c κs. record { least = omega arith; most = omega arith; whole = omega arith }) (λ c κs. search needs) (λ c. omega arith)
+    (λ c κs. record { least = omega arith; most = omega arith; whole = omega arith }) (λ c κs. search rules) (λ c. omega arith)
     (λ c. omega arith) loop_again (λ c. c.before.loop.invariant.1) returns)

@@ -1,5 +1,5 @@
 -- A plan that is refused, bytes that are too short, or a fresh state stored.
-use Rattle.image_calls.proofs.Ground.{◌≤◌, length, sym, ap, ◌∙◌, arith, needs, Accepted, accepted_checked, accepted_valid, plan_of, State, shows}
+use Rattle.image_calls.proofs.Ground.{◌≤◌, length, sym, ap, ◌∙◌, arith, rules, Accepted, accepted_checked, accepted_valid, plan_of, State, shows}
 use Rattle.image_calls.proofs.Ground.{fresh_sound, image_length, image_with}
 use Rattle.image_calls.proofs.Made.{plan_lent, short_lent, room_lent, start_refused, start_done}
 use Rattle.image_calls.proofs.start.Statement.{statement}
@@ -53,5 +53,5 @@ pub start_spec : {M : Type 1} → statement M
 start_spec =
     tie.close
     (tie.spec
-    (λ c κs. search needs) returns (λ c κs. accepted_checked (accepted c)) returns_2 (λ c κs. search needs) store_requires
-    (λ c. search needs) returns_3)
+    (λ c κs. search rules) returns (λ c κs. accepted_checked (accepted c)) returns_2 (λ c κs. search rules) store_requires
+    (λ c. search rules) returns_3)

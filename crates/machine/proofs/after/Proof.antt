@@ -1,10 +1,10 @@
 -- The call that is decoded, or none.
-use Rattle.machine.proofs.Ground.{refl, needs}
+use Rattle.machine.proofs.Ground.{refl, rules}
 use Rattle.machine_calls.proofs.Calls.{decoded_call, decoded_no_call}
 use Rattle.machine.proofs.after.Statement.{statement}
 use Rattle.machine.proofs.after.Tie as tie
 
 pub after_spec : {M : Type 1} → statement M
 after_spec = tie.close (tie.spec
-    (λ c κs. search needs) (λ c. rw (decoded_no_call _ c.before.before.decode.ensures c.if1.true) refl) (λ c κs. search needs)
+    (λ c κs. search rules) (λ c. rw (decoded_no_call _ c.before.before.decode.ensures c.if1.true) refl) (λ c κs. search rules)
     (λ c. let i = c.before.before in rw (decoded_call _ i.before.before.decode.ensures i.if1.false) c.before.call.ensures.1.0))

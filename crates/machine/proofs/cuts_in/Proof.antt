@@ -1,5 +1,5 @@
 -- Only the words of a tick have ones to count.
-use Rattle.machine.proofs.Ground.{sym, ap, needs, cuts_in}
+use Rattle.machine.proofs.Ground.{sym, ap, rules, cuts_in}
 use Rattle.machine.proofs.cuts_in.Statement.{statement}
 use Rattle.machine.proofs.cuts_in.Tie as tie
 
@@ -7,6 +7,6 @@ pub cuts_in_spec : {M : Type 1} → statement M
 cuts_in_spec =
     tie.close
     (tie.spec
-    (λ c. search needs) (λ c. search needs) (λ c. search needs) (λ c. search needs) (λ c. search needs) (λ c. search needs)
-    (λ c. search needs) (λ c. sym (ap cuts_in c.before.answer.given.1)) (λ c. search needs) (λ c. search needs) (λ c. search needs)
-    (λ c. search needs) (λ c. search needs) (λ c. search needs))
+    (λ c. search rules) (λ c. search rules) (λ c. search rules) (λ c. search rules) (λ c. search rules) (λ c. search rules)
+    (λ c. search rules) (λ c. sym (ap cuts_in c.before.answer.given.1)) (λ c. search rules) (λ c. search rules) (λ c. search rules)
+    (λ c. search rules) (λ c. search rules) (λ c. search rules))

@@ -1,5 +1,5 @@
 -- The invariant: the state is what the operations return after the calls passed.
-use Rattle.machine.proofs.Ground.{◌≤◌, ◌-◌, arith, needs, calls_below, Returned, started}
+use Rattle.machine.proofs.Ground.{◌≤◌, ◌-◌, arith, rules, calls_below, Returned, started}
 use Rattle.machine_calls.specs.Calls.{call_width}
 use Rattle.machine.proofs.Bytes.{returned_step, all_calls}
 use Rattle.machine.proofs.Kept.{ran}
@@ -23,7 +23,7 @@ returns c =
     let l = c.before.loop in
     let start = c.before.before.before in
     let file = start.shared-slice-known.given in
-    ran _ (λ i b. (file i).fits) start.before.args.start (search (needs, length_mapped)) _ l.state
+    ran _ (λ i b. (file i).fits) start.before.args.start (search (rules, length_mapped)) _ l.state
     (all_calls _ _ _ l.x (omega arith) l.invariant.1)
 
 pub run_from_spec : {M : Type 1} → statement M
@@ -32,4 +32,4 @@ run_from_spec =
     tie.close
     (tie.spec
     invariant-loop decreases-loop (λ c. (omega arith, started)) (λ c. omega arith) (λ c κs. record { least = omega arith; most = omega arith; whole = omega arith })
-    (λ c κs. search needs) (λ c. omega arith) (λ c. omega arith) loop_again returns)
+    (λ c κs. search rules) (λ c. omega arith) (λ c. omega arith) loop_again returns)

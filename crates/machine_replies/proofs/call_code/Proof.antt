@@ -1,5 +1,5 @@
 -- Each call has its own.
-use Rattle.machine_replies.proofs.Ground.{refl, needs}
+use Rattle.machine_replies.proofs.Ground.{refl, rules}
 use Rattle.machine_replies.proofs.call_code.Statement.{statement}
 use Rattle.machine_replies.proofs.call_code.Tie as tie
 
@@ -7,8 +7,8 @@ pub call_code_spec : {M : Type 1} → statement M
 call_code_spec =
     tie.close
     (tie.spec
-    (λ c. search needs) (λ c κs. search needs) (λ c. search needs) (λ c κs. search needs) (λ c. search needs) (λ c κs. search needs)
-    (λ c. search needs)
+    (λ c. search rules) (λ c κs. search rules) (λ c. search rules) (λ c κs. search rules) (λ c. search rules) (λ c κs. search rules)
+    (λ c. search rules)
     (λ c. rw c.before.before.call.given.1 c.request-code.ensures)
     (λ c. rw c.before.before.call2.given.1 c.release-code.ensures)
     (λ c. rw c.before.before.call3.given.1 c.give-up-code.ensures) (λ c. rw c.enum_told.given.1 refl))

@@ -1,5 +1,5 @@
 -- The tests in their order.
-use Rattle.machine_replies.proofs.Ground.{ℕ, cond, ◌≡◌, sym, ◌∙◌, not-true, not-false, arith, needs, plan_of, shows, valid_plan, whole_of}
+use Rattle.machine_replies.proofs.Ground.{ℕ, cond, ◌≡◌, sym, ◌∙◌, not-true, not-false, arith, rules, plan_of, shows, valid_plan, whole_of}
 use Rattle.refusals.specs.Numbers.{not_waiting}
 use Rattle.machine_rules.specs.Machine.{give_up_code}
 use Rattle.machine_replies.proofs.Freed.{line_refused, Passed, task_low, give_up_away, give_up_by}
@@ -13,7 +13,7 @@ found c = c.before.before
 passed : (c : tie.Else1) → let a = (found c).before.before.before.args in Passed (plan_of a.file.now) a.t3 a.tag a.q
 passed c =
     let named = sym (found c).task-named.ensures.code ∙ c.if1.false in
-    search (needs, valid_plan, whole_of)
+    search (rules, valid_plan, whole_of)
 
 row_in : tie.Need-element-copy-out-row
 row_in c = omega (arith, (found c).task-named.ensures.task, task_low (passed c))
@@ -34,7 +34,7 @@ pub give_up_code_spec : {M : Type 1} → statement M
 give_up_code_spec =
     tie.close
     (tie.spec
-    (λ c κs. search needs)
+    (λ c κs. search rules)
     (λ c. line_refused _ _ _ _ _ _ c.before.before.task-named.ensures.code c.if1.true)
     (λ c. omega (arith, row_in c)) row_in
     (λ c. let e = c.before.before.before in give_up_away (passed e) (found e).task-named.ensures.task c.if2.true)

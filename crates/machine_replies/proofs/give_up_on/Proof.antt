@@ -1,5 +1,5 @@
 -- The task waits, so it leaves its queue.
-use Rattle.machine_replies.proofs.Ground.{◌≡◌, ap, arith, needs, plan_of, valid_plan, whole_of}
+use Rattle.machine_replies.proofs.Ground.{◌≡◌, ap, arith, rules, plan_of, valid_plan, whole_of}
 use Rattle.folds.proofs.Arrays.{length_mapped}
 use Rattle.plan_rules.specs.declared.TaskRow.{TaskRow}
 use Rattle.analysis_equations.specs.Sharing.{processor_of}
@@ -12,7 +12,7 @@ start c = c.before.before.before.before
 
 quitting : (c : tie.After-task-number) → let a = (start c).args in
     Quitting (plan_of a.file.now) a.state a.tag a.q (start c).requires.figures a.keys.now a.seats.now
-quitting c = search (needs, length_mapped, valid_plan, whole_of)
+quitting c = search (rules, length_mapped, valid_plan, whole_of)
 
 -- ── once its row is read ──
 abbrev found : tie.After-wide → tie.After-task-number
@@ -26,8 +26,8 @@ pub give_up_on_spec : {M : Type 1} → statement M
 give_up_on_spec =
     tie.close
     (tie.spec
-    (λ c κs. search needs)
-    (λ c κs. ((start c).requires.on.known.plan, omega (arith, c.task-number.ensures, quit_task (quitting c)))) (λ c κs. search needs)
+    (λ c κs. search rules)
+    (λ c κs. ((start c).requires.on.known.plan, omega (arith, c.task-number.ensures, quit_task (quitting c)))) (λ c κs. search rules)
     (λ c κs. let f = found c in quit_ready (quitting f) c.wide.ensures.same f.task-number.ensures (processor c))
     (λ c. let w = c.before in let f = found w in
     quit_done (quitting f) w.wide.ensures.same f.task-number.ensures (processor w) c.withdraw.ensures))

@@ -1,5 +1,5 @@
 -- With somebody queued, the seat of the new head is taken by a task.
-use Rattle.machine_replies.proofs.Ground.{◌≤◌, eqb, arith, eq-eqb, needs, bool_byte, plan_of, slot, NewHead, granted_answer}
+use Rattle.machine_replies.proofs.Ground.{◌≤◌, eqb, arith, eq-eqb, rules, bool_byte, plan_of, slot, NewHead, granted_answer}
 use Rattle.machine_steps.proofs.Passing.{flag-low}
 use Rattle.machine_replies.proofs.Freed.{Seated, first_task, granted_next}
 use Rattle.machine_replies.proofs.granted.Statement.{statement}
@@ -39,6 +39,6 @@ unfolding granted_answer
 granted_spec =
     tie.close
     (tie.spec
-    (λ c. rw (eq-eqb _ _ c.if1.true)) (λ c. search needs) (λ c. search needs) (λ c κs. search needs) (λ c. search needs) (λ c. search needs)
-    (λ c. search needs) add_first_2 shared_slice_read_first (λ c κs. search needs) (λ c. (task c).some)
+    (λ c. rw (eq-eqb _ _ c.if1.true)) (λ c. search rules) (λ c. search rules) (λ c κs. search rules) (λ c. search rules) (λ c. search rules)
+    (λ c. search rules) add_first_2 shared_slice_read_first (λ c κs. search rules) (λ c. (task c).some)
     (λ c κs. let t = task c in ((start c.before.before.before.before).requires.plan, omega (arith, t.some, t.low))) returns_2)

@@ -1,5 +1,5 @@
 -- Who sits first in the head's queue.
-use Rattle.machine_replies.proofs.Ground.{refl, arith, needs}
+use Rattle.machine_replies.proofs.Ground.{refl, arith, rules}
 use Rattle.machine_replies.proofs.Freed.{free_holder, held_holder}
 use Rattle.machine_replies.proofs.holder.Statement.{statement}
 use Rattle.machine_replies.proofs.holder.Tie as tie
@@ -17,5 +17,5 @@ pub holder_spec : {M : Type 1} → statement M
 holder_spec =
     tie.close
     (tie.spec
-    (λ c. free_holder _ _ _ c.if1.true) (λ c. search needs) (λ c. search needs) (λ c κs. search needs) (λ c. search needs) (λ c. search needs)
+    (λ c. free_holder _ _ _ c.if1.true) (λ c. search rules) (λ c. search rules) (λ c κs. search rules) (λ c. search rules) (λ c. search rules)
     seat_in (λ c. let w = c.before in held_holder _ _ _ (held w).if1.false w.wide.ensures.same refl))

@@ -1,5 +1,5 @@
 -- The tests in their order.
-use Rattle.machine_replies.proofs.Ground.{ℕ, cond, ◌≡◌, sym, ◌∙◌, not-true, not-false, needs, not_held, plan_of, shows, valid_plan}
+use Rattle.machine_replies.proofs.Ground.{ℕ, cond, ◌≡◌, sym, ◌∙◌, not-true, not-false, rules, not_held, plan_of, shows, valid_plan}
 use Rattle.machine_replies.proofs.Ground.{whole_of}
 use Rattle.machine_rules.specs.Machine.{release_code}
 use Rattle.machine_replies.proofs.Freed.{line_refused, Passed, release_by}
@@ -13,7 +13,7 @@ found c = c.before.before
 passed : (c : tie.Else1) → let a = (found c).before.before.before.args in Passed (plan_of a.file.now) a.state a.tag a.q
 passed c =
     let named = sym (found c).task-named.ensures.code ∙ c.if1.false in
-    search (needs, valid_plan, whole_of)
+    search (rules, valid_plan, whole_of)
 
 held : (c : tie.Else1) {code : ℕ} → let a = (found c).before.before.before.args in code ≡ cond (found c).task-named.result.holds 0 not_held
     → code ≡ release_code (plan_of a.file.now) (shows (plan_of a.file.now) a.state) a.tag a.q
@@ -23,7 +23,7 @@ pub release_code_spec : {M : Type 1} → statement M
 release_code_spec =
     tie.close
     (tie.spec
-    (λ c κs. search needs)
+    (λ c κs. search rules)
     (λ c. line_refused _ _ _ _ _ _ c.before.before.task-named.ensures.code c.if1.true)
-    (λ c. let e = c.before.before in held e (rw (not-true (found e).task-named.result.holds c.if2.true)))
-    (λ c. let e = c.before.before in held e (rw (not-false (found e).task-named.result.holds c.if2.false))))
+    (λ c. let e = c.before.before in held e (rw (c.if2.true)))
+    (λ c. let e = c.before.before in held e (rw (c.if2.false))))

@@ -1,5 +1,5 @@
 -- The resource is held, so its holder leaves.
-use Rattle.machine_replies.proofs.Ground.{needs, plan_of, valid_plan, whole_of}
+use Rattle.machine_replies.proofs.Ground.{rules, plan_of, valid_plan, whole_of}
 use Rattle.folds.proofs.Arrays.{length_mapped}
 use Rattle.machine_replies.proofs.Freed.{Held, free_low, free_ready, free_next, free_done}
 use Rattle.machine_replies.proofs.release_on.Statement.{statement}
@@ -12,14 +12,14 @@ start c =
 
 held : (c : tie.After-wide) → let a = (start c).args in
     Held (plan_of a.file.now) a.t5 a.q c.wide.result a.figures.now a.keys.now a.seats.now
-held c = let same = c.wide.ensures.same in search (needs, length_mapped, valid_plan, whole_of)
+held c = let same = c.wide.ensures.same in search (rules, length_mapped, valid_plan, whole_of)
 
 pub release_on_spec : {M : Type 1} → statement M
 release_on_spec =
     tie.close
     (tie.spec
-    (λ c κs. search needs) (λ c. search needs) (λ c. free_low (held c)) (λ c κs. free_ready (held c.before.before))
-    (λ c. search needs) (λ c. free_low (held c.before.before.before)) (λ c. search needs)
+    (λ c κs. search rules) (λ c. search rules) (λ c. free_low (held c)) (λ c κs. free_ready (held c.before.before))
+    (λ c. search rules) (λ c. free_low (held c.before.before.before)) (λ c. search rules)
     (λ c κs. let h = held c.before.before.before.before in
-    let low = free_low h in let next = free_next h c.before.leave.ensures in search needs)
+    let low = free_low h in let next = free_next h c.before.leave.ensures in search rules)
     (λ c. let left = c.before.before in free_done (held left.before.before.before) left.leave.ensures c.granted.ensures))

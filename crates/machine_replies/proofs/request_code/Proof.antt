@@ -1,5 +1,5 @@
 -- What refuses the use comes first, then the row of the task.
-use Rattle.machine_replies.proofs.Ground.{ℕ, ◌<◌, cond, ◌≡◌, sym, ◌∙◌, arith, needs, most_tasks, already_in_line, plan_of, valid_plan, use_code}
+use Rattle.machine_replies.proofs.Ground.{ℕ, ◌<◌, cond, ◌≡◌, sym, ◌∙◌, arith, rules, most_tasks, already_in_line, plan_of, valid_plan, use_code}
 use Rattle.machine_replies.proofs.Ground.{use_clear, request_code, shows, whole_of}
 use Rattle.machine_replies.proofs.Asked.{use_refused, request_by}
 use Rattle.machine_replies.proofs.request_code.Statement.{statement}
@@ -32,6 +32,6 @@ pub request_code_spec : {M : Type 1} → statement M
 request_code_spec =
     tie.close
     (tie.spec
-    (λ c κs. search needs) (λ c. use_refused _ _ _ _ c.before.before.user-in.ensures.0 c.if1.true)
-    (λ c. omega (arith, low c)) (λ c. omega (arith, low c)) (λ c κs. search needs) (λ c. told c.before (rw c.if2.true))
+    (λ c κs. search rules) (λ c. use_refused _ _ _ _ c.before.before.user-in.ensures.0 c.if1.true)
+    (λ c. omega (arith, low c)) (λ c. omega (arith, low c)) (λ c κs. search rules) (λ c. told c.before (rw c.if2.true))
     (λ c. told c.before (rw c.if2.false)))

@@ -1,6 +1,6 @@
 -- A request that is not refused finds its task in line for nothing, with a hold time for the resource: it joins, and the tables tell
 -- its place and its limit.
-use Rattle.machine_replies.proofs.Ground.{◌+◌, ◌*◌, ◌<◌, ◌≤◌, ap, arith, needs, most_resources, TaskRow, plan_of, valid_plan, whole_of}
+use Rattle.machine_replies.proofs.Ground.{◌+◌, ◌*◌, ◌<◌, ◌≤◌, ap, arith, rules, most_resources, TaskRow, plan_of, valid_plan, whole_of}
 use Rattle.folds.proofs.Arrays.{length_mapped}
 use Rattle.machine_replies.proofs.Asked.{Accepted, Named, request_free, core_low, resource_low, ask_joins, ask_granted, ask_waits, waits_high}
 use Rattle.machine_replies.proofs.request_on.Statement.{statement}
@@ -12,7 +12,7 @@ start c = c.before.before.before.before
 
 accepted : (c : tie.After-task-number) → let a = (start c).args in
     Accepted (plan_of a.file.now) a.t4 a.tag a.q a.figures.now a.seats.now
-accepted c = search (needs, length_mapped, valid_plan, whole_of, request_free)
+accepted c = search (rules, length_mapped, valid_plan, whole_of, request_free)
 
 -- ── once its row is read ──
 abbrev found : tie.After-wide → tie.After-task-number
@@ -45,7 +45,7 @@ ahead_of_requires : tie.Need-ahead-of-requires
 ahead_of_requires c κs =
     let resource = low_resource c in
     let core = core_low (accepted (found c)) (named c) in
-    search needs
+    search rules
 
 join_requires : tie.Need-join-requires
 join_requires c κs =
@@ -71,10 +71,10 @@ pub request_on_spec : {M : Type 1} → statement M
 request_on_spec =
     tie.close
     (tie.spec
-    (λ c κs. search needs)
+    (λ c κs. search rules)
     (λ c κs. ((start c).requires.on.known.plan, omega (arith, c.task-number.ensures, (accepted c).free.task)))
-    (λ c κs. search needs) ahead_of_requires
-    (λ c. search needs) (λ c. low_resource c.before) join_requires returns
-    (λ c κs. let r = (counted (joined c)).before in ((start (found r)).requires.on.known, low_resource r)) (λ c. search needs)
-    (λ c. search needs) (λ c. omega (arith, most_wait_lem c.before))
+    (λ c κs. search rules) ahead_of_requires
+    (λ c. search rules) (λ c. low_resource c.before) join_requires returns
+    (λ c κs. let r = (counted (joined c)).before in ((start (found r)).requires.on.known, low_resource r)) (λ c. search rules)
+    (λ c. search rules) (λ c. omega (arith, most_wait_lem c.before))
     (λ c. let wait = c.before.before in omega (arith, (counted (joined wait.before)).ahead_of_lem.ensures.small, most_wait_lem wait)) returns_2)

@@ -1,5 +1,5 @@
 -- The two tests in their order; who holds is who sits first in the head's queue.
-use Rattle.machine_replies.proofs.Ground.{◌<◌, sym, ◌∙◌, arith, needs, plan_of, task_number, valid_plan, whole_of}
+use Rattle.machine_replies.proofs.Ground.{◌<◌, sym, ◌∙◌, arith, rules, plan_of, task_number, valid_plan, whole_of}
 use Rattle.machine_replies.proofs.Freed.{named_unknown, named_past, named_there, refused_holds, Passed, low, head_copy, holds_copy}
 use Rattle.machine_replies.proofs.task_named.Statement.{statement}
 use Rattle.machine_replies.proofs.task_named.Tie as tie
@@ -23,7 +23,7 @@ passed c =
     let r = (found (known c)).before.counts.ensures.resources in
     let q = (start (found (known c))).args.q in
     let named = sym (named_there _ _ q (task_low (known c)) (omega (arith, c.if2.false, r))) in
-    search (needs, valid_plan, whole_of)
+    search (rules, valid_plan, whole_of)
 
 -- ── once the holder is read ──
 abbrev clear : tie.After-wide3 → tie.Else2
@@ -57,8 +57,8 @@ pub task_named_spec : {M : Type 1} → statement M
 task_named_spec =
     tie.close
     (tie.spec
-    (λ c κs. search needs) (λ c κs. search needs) (λ c κs. search needs) returns returns_2
-    (λ c κs. search needs) (λ c. search needs) (λ c. omega (arith, c.wide2.ensures.same, low (passed c.before)))
+    (λ c κs. search rules) (λ c κs. search rules) (λ c κs. search rules) returns returns_2
+    (λ c κs. search rules) (λ c. search rules) (λ c. omega (arith, c.wide2.ensures.same, low (passed c.before)))
     (λ c κs. let h = c.before.before in
     head_copy (passed h) (start (found (known h))).requires.seated c.before.wide2.ensures.same)
-    (λ c κs. search needs) (λ c. search needs) returns_3)
+    (λ c κs. search rules) (λ c. search rules) returns_3)

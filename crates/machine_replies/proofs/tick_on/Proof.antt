@@ -1,5 +1,5 @@
 -- The tables of the state are at hand, so the tick does what the rules say.
-use Rattle.machine_replies.proofs.Ground.{needs, plan_of, Valid, valid_plan, Whole, whole_of, Tabled}
+use Rattle.machine_replies.proofs.Ground.{rules, plan_of, Valid, valid_plan, Whole, whole_of, Tabled}
 use Rattle.folds.proofs.Arrays.{length_mapped}
 use Rattle.machine_replies.proofs.Beaten.{beat_ready, beat_done}
 use Rattle.machine_replies.proofs.tick_on.Statement.{statement}
@@ -15,7 +15,7 @@ whole : (c : tie.Start) → Whole (plan_of c.args.file.now) c.args.state
 whole c = whole_of _ (valid c) _ c.requires.on.sound
 
 tables : (c : tie.Start) → let a = c.args in Tabled (plan_of a.file.now) a.state a.figures.now a.keys.now a.seats.now
-tables c = search (needs, length_mapped)
+tables c = search (rules, length_mapped)
 
 pub tick_on_spec : {M : Type 1} → statement M
 tick_on_spec =

@@ -1,5 +1,5 @@
 -- One outcome of the test at a time; a queue that is not empty has a head, and somebody has the first seat of its queue.
-use Rattle.machine_state.proofs.Ground.{◌≤◌, add-zero, arith, eq-eqb, ne_eqb, needs, most_tasks, Headed, clock_test}
+use Rattle.machine_state.proofs.Ground.{◌≤◌, add-zero, arith, eq-eqb, ne_eqb, rules, most_tasks, Headed, clock_test}
 use Rattle.machine_state.proofs.Passing.{head_low}
 use Rattle.machine_state.proofs.clock_ok.Statement.{statement}
 use Rattle.machine_state.proofs.clock_ok.Tie as tie
@@ -47,6 +47,6 @@ pub clock_ok_spec : {M : Type 1} → statement M
 clock_ok_spec =
     tie.close
     (tie.spec
-    returns (λ c. search needs) (λ c κs. search needs) (λ c. search needs) (λ c. search needs) (λ c. search needs)
-    (λ c. omega (arith, (start c.before.before.before).requires.tables, headed c.before.before.before)) (λ c κs. search needs)
+    returns (λ c. search rules) (λ c κs. search rules) (λ c. search rules) (λ c. search rules) (λ c. search rules)
+    (λ c. omega (arith, (start c.before.before.before).requires.tables, headed c.before.before.before)) (λ c κs. search rules)
     (λ c. (first c).0) hold_at_requires budget_at_requires returns_2)

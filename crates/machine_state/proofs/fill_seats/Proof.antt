@@ -1,5 +1,5 @@
 -- The invariant: the tasks below `u` sit in `seats`.
-use Rattle.machine_state.proofs.Ground.{◌≤◌, ◌<◌, ◌-◌, ◌≡◌, refl, get_or, length-replicate, arith, needs, stamped_below, stamped_length}
+use Rattle.machine_state.proofs.Ground.{◌≤◌, ◌<◌, ◌-◌, ◌≡◌, refl, get_or, length-replicate, arith, rules, stamped_below, stamped_length}
 use Rattle.machine_state.proofs.Ground.{stamped_step, plan_of, Valid, valid_plan, seat_count}
 use Rattle.machine_state.proofs.Tables.{seats_below, seat_high, seats_done}
 use Rattle.machine_state.proofs.fill_seats.Statement.{statement}
@@ -32,7 +32,7 @@ pub fill_seats_spec : {M : Type 1} → statement M
 fill_seats_spec =
     tie.close
     (tie.spec
-    invariant-loop decreases-loop (λ c κs. search needs) (λ c κs. search needs) loop_holds (λ c. omega arith)
+    invariant-loop decreases-loop (λ c κs. search rules) (λ c κs. search rules) loop_holds (λ c. omega arith)
     (λ c. omega (arith, (valid (counted c.before)).tasks, (start (counted c.before)).pre.keyed.long))
     (λ c. omega (arith, sits c.before)) (λ c. omega arith) (λ c. omega arith)
     (λ c. rw (c.before.before.loop.invariant.1, stamped_length, length-replicate) (sits c.before)) (λ c. omega arith) (λ c. omega arith)

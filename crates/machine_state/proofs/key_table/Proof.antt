@@ -1,5 +1,5 @@
 -- The invariant: the seats of the tasks below `u` stand in `keys`.
-use Rattle.machine_state.proofs.Ground.{◌≤◌, ◌-◌, ◌≡◌, refl, sym, ap, ◌∙◌, ⊎_elim, get_or-replicate, arith, needs, most_tasks}
+use Rattle.machine_state.proofs.Ground.{◌≤◌, ◌-◌, ◌≡◌, refl, sym, ap, ◌∙◌, ⊎_elim, get_or-replicate, arith, rules, most_tasks}
 use Rattle.machine_state.proofs.Ground.{placed_below, placed_step, plan_of, Valid, valid_plan, Standing, standing, no_seat}
 use Rattle.plan_rules.specs.declared.TaskRow.{TaskRow}
 use Rattle.machine_state.proofs.Tables.{low_processor, keys_below, keys_done, row_low, key_at_lem, key_off, placed_skip}
@@ -53,7 +53,7 @@ pub key_table_spec : {M : Type 1} → statement M
 key_table_spec =
     tie.close
     (tie.spec
-    invariant-loop decreases-loop (λ c κs. search needs) (λ c κs. search needs) loop_holds (λ c κs. search needs) (λ c. omega arith)
+    invariant-loop decreases-loop (λ c κs. search rules) (λ c κs. search rules) loop_holds (λ c κs. search rules) (λ c. omega arith)
     (λ c. omega (arith, (valid (turn c)).tasks)) seat_of_requires (λ c. omega arith)
     (λ c. let test = c.before in omega (arith, (valid (turn test.before.before.before.before)).tasks))
     (λ c. omega arith) (λ c. omega arith) loop_again

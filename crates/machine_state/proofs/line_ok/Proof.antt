@@ -1,6 +1,6 @@
 -- One outcome of the tests at a time, a free line by its own; where the queue has passed, the clock's can read the head and its first
 -- task.
-use Rattle.machine_state.proofs.Ground.{sym, ◌∙◌, le-leb, lt-leb, needs, line_test}
+use Rattle.machine_state.proofs.Ground.{sym, ◌∙◌, le-leb, lt-leb, rules, line_test}
 use Rattle.machine_state.proofs.Passing.{head_passed, free_line_lem}
 use Rattle.machine_state.proofs.line_ok.Statement.{statement}
 use Rattle.machine_state.proofs.line_ok.Tie as tie
@@ -31,5 +31,5 @@ pub line_ok_spec : {M : Type 1} → statement M
 line_ok_spec =
     tie.close
     (tie.spec
-    (λ c κs. search needs) (λ c. c.free-ok.ensures ∙ free_line_lem _ _ _ _ c.before.if1.true) (λ c κs. search needs) clock_ok_requires
+    (λ c κs. search rules) (λ c. c.free-ok.ensures ∙ free_line_lem _ _ _ _ c.before.if1.true) (λ c κs. search rules) clock_ok_requires
     returns_2 returns_3 returns_4)

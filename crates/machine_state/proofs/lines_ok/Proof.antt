@@ -1,5 +1,5 @@
 -- The invariant: the rows passed are as they must be.
-use Rattle.machine_state.proofs.Ground.{◌≤◌, ◌-◌, true, ◌≡◌, refl, sym, get_or, arith, needs, most_resources, all_below, all_more}
+use Rattle.machine_state.proofs.Ground.{◌≤◌, ◌-◌, true, ◌≡◌, refl, sym, get_or, arith, rules, most_resources, all_below, all_more}
 use Rattle.machine_state.proofs.Ground.{all_done, no_line, line_test}
 use Rattle.folds.proofs.Tests.{held, failed, all_left}
 use Rattle.machine_state.proofs.lines_ok.Statement.{statement}
@@ -19,7 +19,7 @@ pub lines_ok_spec : {M : Type 1} → statement M
 lines_ok_spec =
     tie.close
     (tie.spec
-    invariant-loop decreases-loop loop_holds (λ c. omega arith) (λ c. omega arith) (λ c κs. search needs)
+    invariant-loop decreases-loop loop_holds (λ c. omega arith) (λ c. omega arith) (λ c κs. search rules)
     (λ c. all_left _ c.before.before.before.before.loop.q _ (omega arith) (failed c.before.line_ok.ensures c.if1.true))
     (λ c. omega arith) (λ c. omega arith)
     (λ c. let l = c.before.before.before.before.loop in

@@ -1,5 +1,5 @@
 -- The two tests, joined.
-use Rattle.machine_state.proofs.Ground.{needs, state_test}
+use Rattle.machine_state.proofs.Ground.{rules, state_test}
 use Rattle.machine_state.proofs.passes.Statement.{statement}
 use Rattle.machine_state.proofs.passes.Tie as tie
 
@@ -8,4 +8,4 @@ unfolding state_test
 returns c = rw (c.before.tasks-ok.ensures, c.lines_ok.ensures)
 
 pub passes_spec : {M : Type 1} → statement M
-passes_spec = tie.close (tie.spec (λ c κs. search needs) (λ c κs. search needs) returns)
+passes_spec = tie.close (tie.spec (λ c κs. search rules) (λ c κs. search rules) returns)

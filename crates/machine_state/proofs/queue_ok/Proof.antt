@@ -1,5 +1,5 @@
 -- The invariant: the slots passed are as they must be, and their processors are struck off `rest`.
-use Rattle.machine_state.proofs.Ground.{ℕ, ◌≤◌, ◌-◌, true, ◌≡◌, refl, ap, ◌∙◌, List, leb, get_or, arith, le-leb, needs, all_below}
+use Rattle.machine_state.proofs.Ground.{ℕ, ◌≤◌, ◌-◌, true, ◌≡◌, refl, ap, ◌∙◌, List, leb, get_or, arith, le-leb, rules, all_below}
 use Rattle.machine_state.proofs.Ground.{all_more, stamped_below, stamped_step, slot_test}
 use Rattle.machine_state.proofs.Passing.{rest_below, slot_high, slot_is, slot_fails, slots_done}
 use Rattle.machine_state.proofs.queue_ok.Statement.{statement}
@@ -52,7 +52,7 @@ pub queue_ok_spec : {M : Type 1} → statement M
 queue_ok_spec =
     tie.close
     (tie.spec
-    invariant-loop decreases-loop (λ c κs. search needs) (λ c κs. search needs) loop_holds (λ c. omega arith) (λ c κs. search needs)
+    invariant-loop decreases-loop (λ c κs. search rules) (λ c κs. search rules) loop_holds (λ c. omega arith) (λ c κs. search rules)
     (λ c. slot_fails _ _ _ _ (turn c.before).loop.i (omega arith) (slot_high _ _ _ _ (rw c.before.wide2.ensures.same at c.if1.true)))
-    (λ c. omega arith) returns_2 (λ c. omega arith) (λ c. omega arith) (λ c. omega arith) loop_again (λ c κs. search needs)
-    (λ c κs. search needs) returns_3)
+    (λ c. omega arith) returns_2 (λ c. omega arith) (λ c. omega arith) (λ c. omega arith) loop_again (λ c κs. search rules)
+    (λ c κs. search rules) returns_3)

@@ -1,5 +1,5 @@
 -- The tables are those of the plan and the state, and the test by them is that of soundness.
-use Rattle.machine_state.proofs.Ground.{◌∙◌, needs, valid_plan}
+use Rattle.machine_state.proofs.Ground.{◌∙◌, rules, valid_plan}
 use Rattle.machine_state.proofs.Tables.{sized_by}
 use Rattle.machine_state.proofs.SoundTest.{sound_test}
 use Rattle.machine_state.proofs.seat_tasks.Statement.{statement}
@@ -33,5 +33,5 @@ pub seat_tasks_spec : {M : Type 1} → statement M
 seat_tasks_spec =
     tie.close
     (tie.spec
-    (λ c κs. search needs) (λ c. search needs) (λ c κs. search needs) (λ c. search needs) passes_requires (λ c. search needs)
+    (λ c κs. search rules) (λ c. search rules) (λ c κs. search rules) (λ c. search rules) passes_requires (λ c. search rules)
     returns)

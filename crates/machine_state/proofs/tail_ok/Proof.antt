@@ -1,5 +1,5 @@
 -- The slots from c on are empty exactly when what is left of the largest number is below 256 ^ c.
-use Rattle.machine_state.proofs.Ground.{needs}
+use Rattle.machine_state.proofs.Ground.{rules}
 use Rattle.machine_state.proofs.Numbers.{part_tail}
 use Rattle.machine_state.proofs.tail_ok.Statement.{statement}
 use Rattle.machine_state.proofs.tail_ok.Tie as tie
@@ -14,5 +14,5 @@ pub tail_ok_spec : {M : Type 1} → statement M
 tail_ok_spec =
     tie.close
     (tie.spec
-    (λ c κs. search needs) (λ c. search needs) (λ c κs. search needs) (λ c. search needs) (λ c. search needs) (λ c. search needs)
+    (λ c κs. search rules) (λ c. search rules) (λ c κs. search rules) (λ c. search rules) (λ c. search rules) (λ c. search rules)
     returns)

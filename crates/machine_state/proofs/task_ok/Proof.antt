@@ -1,6 +1,6 @@
 -- A task in the first place has its own seat looked at twice.
 use Rattle.machine_state.proofs.Ground.{ℕ, ◌+◌, ◌-◌, ◌/◌, ◌%◌, ◌≤◌, Bool, true, false, ◌&&◌, ◌||◌, and_assoc, ◌≡◌, refl, sym, ap}
-use Rattle.machine_state.proofs.Ground.{◌∙◌, List, eqb, leb, ltb, get_or, arith, eq-eqb, ne_eqb, eqb-true, ltb-true, le-leb, needs}
+use Rattle.machine_state.proofs.Ground.{◌∙◌, List, eqb, leb, ltb, get_or, arith, eq-eqb, ne_eqb, eqb-true, ltb-true, le-leb, rules}
 use Rattle.machine_state.proofs.Ground.{most_tasks, hold_cell, resource_seats, task_test}
 use Rattle.folds.proofs.Ground.{ltb-false}
 use mir.Val.{bool_byte}
@@ -46,5 +46,5 @@ pub task_ok_spec : {M : Type 1} → statement M
 task_ok_spec =
     tie.close
     (tie.spec
-    (λ c κs. search needs) returns (λ c. search needs) (λ c. search needs) (λ c. search needs) (λ c. search needs)
-    (λ c. search needs) (λ c κs. search needs) (λ c. search needs) (λ c. back_low _ _ refl) (λ c. search needs) returns_2)
+    (λ c κs. search rules) returns (λ c. search rules) (λ c. search rules) (λ c. search rules) (λ c. search rules)
+    (λ c. search rules) (λ c κs. search rules) (λ c. search rules) (λ c. back_low _ _ refl) (λ c. search rules) returns_2)

@@ -1,5 +1,5 @@
 -- The invariant: the seats passed are taken, and the hold times of those who sit there are summed.
-use Rattle.machine_steps.proofs.Ground.{◌-◌, ◌≡◌, sym, ◌∙◌, get_or, arith, needs, seat}
+use Rattle.machine_steps.proofs.Ground.{◌-◌, ◌≡◌, sym, ◌∙◌, get_or, arith, rules, seat}
 use Rattle.machine_steps.proofs.Passing.{seat_read, seat_within}
 use Rattle.machine_steps.proofs.Taken.{Counted, counted_none, counted_more, found_empty, found_none}
 use Rattle.machine_steps.proofs.ahead_of.Statement.{statement}
@@ -43,11 +43,11 @@ pub ahead_of_spec : {M : Type 1} → statement M
 ahead_of_spec =
     tie.close
     (tie.spec
-    invariant-loop decreases-loop (λ c. search needs) (λ c κs. search needs) (λ c. search needs) (λ c. search needs) (λ c. counted_none _ _ _ _)
-    (λ c. search needs) (λ c. search needs) (λ c κs. search needs) (λ c. search needs)
+    invariant-loop decreases-loop (λ c. search rules) (λ c κs. search rules) (λ c. search rules) (λ c. search rules) (λ c. counted_none _ _ _ _)
+    (λ c. search rules) (λ c. search rules) (λ c κs. search rules) (λ c. search rules)
     (λ c. let t = turn c.before in
     found_empty _ _ _ _ _ _ t.before.loop.inv t.loop-test.taken (sym (sits c.before) ∙ c.if1.true))
     (λ c. omega arith) hold_at_requires
-    (λ c. search needs) (λ c. let i = (turn c.before.before).before.loop.inv in omega (arith, i.few, i.small)) (λ c. search needs)
-    (λ c. search needs) loop_again (λ c. omega arith)
+    (λ c. search rules) (λ c. let i = (turn c.before.before).before.loop.inv in omega (arith, i.few, i.small)) (λ c. search rules)
+    (λ c. search rules) loop_again (λ c. omega arith)
     (λ c. found_none _ _ _ _ _ _ c.before.loop.invariant c.loop-test.false))

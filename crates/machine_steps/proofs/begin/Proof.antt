@@ -1,5 +1,5 @@
 -- With somebody queued, the head's seat is taken.
-use Rattle.machine_steps.proofs.Ground.{eqb, get_or, arith, eq-eqb, ne_eqb, needs, begun}
+use Rattle.machine_steps.proofs.Ground.{eqb, get_or, arith, eq-eqb, ne_eqb, rules, begun}
 use Rattle.machine_steps.proofs.Passing.{flag, flag-low}
 use Rattle.machine_steps.proofs.begin.Statement.{statement}
 use Rattle.machine_steps.proofs.begin.Tie as tie
@@ -39,4 +39,4 @@ pub begin_spec : {M : Type 1} → statement M
 begin_spec =
     tie.close
     (tie.spec
-    returns (λ c. search needs) (λ c. search needs) hold_of_requires (λ c κs. search needs) budget_at_requires returns_2)
+    returns (λ c. search rules) (λ c. search rules) hold_of_requires (λ c κs. search rules) budget_at_requires returns_2)

@@ -1,4 +1,4 @@
-use Rattle.machine_steps.proofs.Ground.{Bool, sym, ap, ◌∙◌, arith, needs, bit_of}
+use Rattle.machine_steps.proofs.Ground.{Bool, sym, ap, ◌∙◌, arith, rules, bit_of}
 use Rattle.folds.proofs.Ground.{lit<}
 use lib.Pow.{shl_exact}
 use Rattle.machine_steps.proofs.bit.Statement.{statement}
@@ -9,4 +9,4 @@ returns c =
     shl_exact 1 c.before.args.q 16 (lit< tt) (omega arith) ∙ sym (ap (λ (b : Bool). bit_of b c.before.args.q) c.if1.true)
 
 pub bit_spec : {M : Type 1} → statement M
-bit_spec = tie.close (tie.spec (λ c. search needs) (λ c. search needs) returns (λ c. rw c.if1.false (omega arith)))
+bit_spec = tie.close (tie.spec (λ c. search rules) (λ c. search rules) returns (λ c. rw c.if1.false (omega arith)))

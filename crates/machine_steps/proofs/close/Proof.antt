@@ -1,4 +1,4 @@
-use Rattle.machine_steps.proofs.Ground.{arith, eq-eqb, ne_eqb, lt-ltb, needs, closed}
+use Rattle.machine_steps.proofs.Ground.{arith, eq-eqb, ne_eqb, lt-ltb, rules, closed}
 use Rattle.folds.proofs.Ground.{le-ltb}
 use Rattle.machine_steps.proofs.close.Statement.{statement}
 use Rattle.machine_steps.proofs.close.Tie as tie
@@ -26,4 +26,4 @@ returns_4 c = simp c.if1.false
 pub close_spec : {M : Type 1} → statement M
 close_spec =
     tie.close
-    (tie.spec (λ c κs. search needs) returns (λ c κs. omega arith) returns_2 returns_3 returns_4)
+    (tie.spec (λ c κs. search rules) returns (λ c κs. omega arith) returns_2 returns_3 returns_4)

@@ -1,4 +1,4 @@
-use Rattle.machine_steps.proofs.Ground.{eq-eqb, ne_eqb, needs, fallen}
+use Rattle.machine_steps.proofs.Ground.{eq-eqb, ne_eqb, rules, fallen}
 use Rattle.machine_steps.proofs.fall.Statement.{statement}
 use Rattle.machine_steps.proofs.fall.Tie as tie
 
@@ -15,4 +15,4 @@ unfolding fallen
 returns_3 c = simp c.if1.false
 
 pub fall_spec : {M : Type 1} → statement M
-fall_spec = tie.close (tie.spec (λ c κs. search needs) returns (λ c κs. search needs) returns_2 returns_3)
+fall_spec = tie.close (tie.spec (λ c κs. search rules) returns (λ c κs. search rules) returns_2 returns_3)

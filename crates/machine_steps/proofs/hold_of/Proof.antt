@@ -1,5 +1,5 @@
 -- The seat is taken, and its number says where the hold time stands.
-use Rattle.machine_steps.proofs.Ground.{◌≡◌, get_or, arith, needs, seat}
+use Rattle.machine_steps.proofs.Ground.{◌≡◌, get_or, arith, rules, seat}
 use Rattle.machine_steps.proofs.Passing.{seat_read, seat_within}
 use Rattle.machine_steps.proofs.hold_of.Statement.{statement}
 use Rattle.machine_steps.proofs.hold_of.Tie as tie
@@ -28,5 +28,5 @@ pub hold_of_spec : {M : Type 1} → statement M
 hold_of_spec =
     tie.close
     (tie.spec
-    (λ c. search needs) (λ c κs. search needs) (λ c. search needs) (λ c. search needs) (λ c. search needs) (λ c. search needs)
-    (λ c κs. search needs) (λ c. omega (arith, sits c, (start c).requires.taken)) hold_at_requires (λ c. rw (c.hold_at.ensures, sits c.before)))
+    (λ c. search rules) (λ c κs. search rules) (λ c. search rules) (λ c. search rules) (λ c. search rules) (λ c. search rules)
+    (λ c κs. search rules) (λ c. omega (arith, sits c, (start c).requires.taken)) hold_at_requires (λ c. rw (c.hold_at.ensures, sits c.before)))

@@ -1,5 +1,5 @@
 -- The row of the task, and where nobody of its processor was ahead, the processor at the tail of the line.
-use Rattle.machine_steps.proofs.Ground.{◌<◌, arith, eq-eqb, ne_eqb, needs, joined_lines}
+use Rattle.machine_steps.proofs.Ground.{◌<◌, arith, eq-eqb, ne_eqb, rules, joined_lines}
 use Rattle.machine_steps.proofs.join.Statement.{statement}
 use Rattle.machine_steps.proofs.join.Tie as tie
 
@@ -42,8 +42,8 @@ pub join_spec : {M : Type 1} → statement M
 join_spec =
     tie.close
     (tie.spec
-    (λ c κs. search needs) (λ c. search needs) (λ c. search needs) (λ c κs. search needs)
-    (λ c κs. let p = (start c).requires in record { long = p.figures_long; row = p.task; resource = low c }) (λ c κs. search needs)
+    (λ c κs. search rules) (λ c. search rules) (λ c. search rules) (λ c κs. search rules)
+    (λ c κs. let p = (start c).requires in record { long = p.figures_long; row = p.task; resource = low c }) (λ c κs. search rules)
     budget_at_requires (λ c. omega (arith, low (wide c))) (λ c. omega (arith, low (wide c)))
     (λ c κs. let w = wide c.before in rw w.wide.ensures.same ((start w).pre.room w.before.if1.taken))
     (λ c. omega (arith, low (wide c.before.before))) (λ c. omega (arith, low (wide c.before.before))) returns returns_2)

@@ -1,5 +1,5 @@
 -- The head of the line is there, so the mark of its queue is within the table.
-use Rattle.machine_steps.proofs.Ground.{arith, needs}
+use Rattle.machine_steps.proofs.Ground.{arith, rules}
 use Rattle.machine_steps.proofs.leave.Statement.{statement}
 use Rattle.machine_steps.proofs.leave.Tie as tie
 
@@ -7,9 +7,9 @@ pub leave_spec : {M : Type 1} → statement M
 leave_spec =
     tie.close
     (tie.spec
-    (λ c. search needs) (λ c. search needs) (λ c. search needs) (λ c. search needs) (λ c κs. search needs) (λ c. search needs)
+    (λ c. search rules) (λ c. search rules) (λ c. search rules) (λ c. search rules) (λ c κs. search rules) (λ c. search rules)
     (λ c. let line = c.before.before in
     let p = line.before.before.before.before.requires in
     omega (arith, p.resource, p.ready.placed 0 p.ready.some, c.wide.ensures))
-    (λ c. search needs) (λ c κs. search needs) (λ c κs. search needs) (λ c. search needs) (λ c. search needs)
+    (λ c. search rules) (λ c κs. search rules) (λ c κs. search rules) (λ c. search rules) (λ c. search rules)
     (λ c. rw (c.pass.ensures, c.before.lower.ensures, c.before.before.before.before.wide.ensures.same)))

@@ -1,5 +1,5 @@
 -- Who begins next has the seat that the tables name, and its task a hold time.
-use Rattle.machine_steps.proofs.Ground.{ℕ, ◌≤◌, refl, sym, get_or, arith, eq-eqb, ne_eqb, le-leb, lt-leb, needs, slot, seat, passed}
+use Rattle.machine_steps.proofs.Ground.{ℕ, ◌≤◌, refl, sym, get_or, arith, eq-eqb, ne_eqb, le-leb, lt-leb, rules, slot, seat, passed}
 use Rattle.machine_steps.proofs.Passing.{seat_read, next_begins, turned_begins}
 use Rattle.machine_steps.proofs.pass.Statement.{statement}
 use Rattle.machine_steps.proofs.pass.Tie as tie
@@ -57,14 +57,14 @@ pub pass_spec : {M : Type 1} → statement M
 pass_spec =
     tie.close
     (tie.spec
-    (λ c. search needs) (λ c. search needs) (λ c κs. search needs) (λ c. search needs) (λ c. search needs) (λ c. search needs)
+    (λ c. search rules) (λ c. search rules) (λ c κs. search rules) (λ c. search rules) (λ c. search rules) (λ c. search rules)
     (λ c. let p = (start c.before).requires in omega (arith, p.tables.seats_long, p.resource, p.ready.placed 0 p.ready.some))
-    (λ c. search needs) (λ c. search needs) (λ c. search needs) (λ c. search needs) (λ c. search needs) (λ c. search needs)
-    (λ c. search needs) (λ c. search needs)
+    (λ c. search rules) (λ c. search rules) (λ c. search rules) (λ c. search rules) (λ c. search rules) (λ c. search rules)
+    (λ c. search rules) (λ c. search rules)
     (λ c κs. let p = (start c.before.before.before).requires in
     record { tables = p.tables; resource = p.resource; head = λ h. next_begins _ _ _ p.ready (omega arith) })
     returns hold_of_requires returns_2
-    (λ c. search needs) (λ c. search needs) (λ c. search needs)
+    (λ c. search rules) (λ c. search rules) (λ c. search rules)
     (λ c κs. let else = c.before.before.before.before in
     let p = (start else.before.before).requires in
     let begins = turned_begins _ _ _ p.ready (next_seat else) in

@@ -1,5 +1,5 @@
 -- Where no resource is cut, the rows of the tasks are already as the marks would make them.
-use Rattle.machine_steps.proofs.Ground.{sym, ap, ◌∙◌, needs, grant_word}
+use Rattle.machine_steps.proofs.Ground.{sym, ap, ◌∙◌, rules, grant_word}
 use Rattle.machine_steps.proofs.Marks.{rows_kept}
 use Rattle.machine_steps.proofs.tick.Statement.{statement}
 use Rattle.machine_steps.proofs.tick.Tie as tie
@@ -27,8 +27,8 @@ pub tick_spec : {M : Type 1} → statement M
 tick_spec =
     tie.close
     (tie.spec
-    (λ c κs. let p = (start c).requires in (p.0.tables, p.1)) (λ c. search needs)
+    (λ c κs. let p = (start c).requires in (p.0.tables, p.1)) (λ c. search rules)
     (λ c κs. let then = c.before.before.before in
     let p = (start then.before.before.before.before).requires.0 in
-    record { keys_long = p.keys_long; ended_long = search needs; keys_low = p.keys_low })
+    record { keys_long = p.keys_long; ended_long = search rules; keys_low = p.keys_low })
     returns returns_2)

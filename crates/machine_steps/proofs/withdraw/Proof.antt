@@ -1,5 +1,5 @@
 -- The rows close up, and where its processor had no second in line, that leaves the line.
-use Rattle.machine_steps.proofs.Ground.{refl, sym, ◌∙◌, eq-eqb, ne_eqb, needs, withdrawn_lines}
+use Rattle.machine_steps.proofs.Ground.{refl, sym, ◌∙◌, eq-eqb, ne_eqb, rules, withdrawn_lines}
 use Rattle.machine_steps.proofs.Passing.{seat_read}
 use Rattle.machine_steps.proofs.withdraw.Statement.{statement}
 use Rattle.machine_steps.proofs.withdraw.Tie as tie
@@ -33,6 +33,6 @@ pub withdraw_spec : {M : Type 1} → statement M
 withdraw_spec =
     tie.close
     (tie.spec
-    (λ c. search needs) (λ c. search needs) (λ c. search needs) (λ c κs. search needs) (λ c. search needs) (λ c. search needs)
-    (λ c κs. search needs) (λ c. search needs) (λ c. search needs) (λ c. search needs) (λ c. search needs) (λ c. search needs)
-    (λ c κs. search needs) (λ c. search needs) (λ c. search needs) returns returns_2)
+    (λ c. search rules) (λ c. search rules) (λ c. search rules) (λ c κs. search rules) (λ c. search rules) (λ c. search rules)
+    (λ c κs. search rules) (λ c. search rules) (λ c. search rules) (λ c. search rules) (λ c. search rules) (λ c. search rules)
+    (λ c κs. search rules) (λ c. search rules) (λ c. search rules) returns returns_2)

@@ -1,5 +1,5 @@
 -- Each turn makes a call at least, since there is one; or it is refused, and the last.
-use Rattle.mspis.proofs.Ground.{ℕ, ◌-◌, ◌<◌, ◌≤◌, ◌≡◌, refl, List, length, arith, needs, and_parts}
+use Rattle.mspis.proofs.Ground.{ℕ, ◌-◌, ◌<◌, ◌≤◌, ◌≡◌, refl, List, length, arith, rules, and_parts}
 use Rattle.folds.proofs.Ground.{◌+◌, Bool, true, false, cond, ◌&&◌, ap, ◌∙◌, eqb, leb, length-drop, leb-true}
 use Rattle.folds.proofs.Arrays.{by_eq}
 use Rattle.folds.proofs.Parts.{part_rest}
@@ -75,7 +75,7 @@ serve_spec =
     tie.close
     (tie.spec
     invariant-loop decreases-loop (λ c. record { within = omega arith; long = refl }) (λ c. c.loop.invariant.within) (λ c. c.before.loop.invariant.within)
-    (λ c. c.before.loop.invariant.within) (λ c. search needs) (λ c κs. search needs) (λ c. search needs) (λ c. search needs)
-    (λ c. let w = c.before.before.before.lines.ensures.written in omega (arith, w.fits, w.long)) (λ c κs. search needs)
+    (λ c. c.before.loop.invariant.within) (λ c. search rules) (λ c κs. search rules) (λ c. search rules) (λ c. search rules)
+    (λ c. let w = c.before.before.before.lines.ensures.written in omega (arith, w.fits, w.long)) (λ c κs. search rules)
     (λ c. omega (arith, (made (printed c)).within)) loop_less loop_again (λ c. c.before.loop.invariant.long)
     (λ c. c.before.loop.invariant.within))

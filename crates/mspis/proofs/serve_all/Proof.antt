@@ -1,5 +1,5 @@
 -- The invariant: both buffers keep their length, and the bytes kept fit. The measure is the number of turns left.
-use Rattle.mspis.proofs.Ground.{ℕ, ◌≤◌, ◌<◌, ◌≡◌, List, length, arith, needs, and_parts}
+use Rattle.mspis.proofs.Ground.{ℕ, ◌≤◌, ◌<◌, ◌≡◌, List, length, arith, rules, and_parts}
 use Rattle.folds.proofs.Ground.{ltb, ltb-true}
 use Rattle.mspis.proofs.serve_all.Statement.{statement}
 use Rattle.mspis.proofs.serve_all.Tie as tie
@@ -33,8 +33,8 @@ pub serve_all_spec : {M : Type 1} → statement M
 serve_all_spec =
     tie.close
     (tie.spec
-    invariant-loop decreases-loop (λ c κs. search needs) (λ c κs. search needs) (λ c κs. search needs) (λ c. search needs) (λ c. search needs)
-    (λ c κs. search needs) (λ c. search needs) (λ c. search needs) (λ c. search needs) (λ c. search needs) (λ c. search needs)
-    (λ c κs. search needs) (λ c. search needs) (λ c κs. search needs) (λ c. omega (arith, turns_left (turn (lent c))))
-    (λ c. omega (arith, turns_left (turn (lent c)))) (λ c. search needs)
-    (λ c κs. search needs) (λ c. search needs) (λ c. search needs))
+    invariant-loop decreases-loop (λ c κs. search rules) (λ c κs. search rules) (λ c κs. search rules) (λ c. search rules) (λ c. search rules)
+    (λ c κs. search rules) (λ c. search rules) (λ c. search rules) (λ c. search rules) (λ c. search rules) (λ c. search rules)
+    (λ c κs. search rules) (λ c. search rules) (λ c κs. search rules) (λ c. omega (arith, turns_left (turn (lent c))))
+    (λ c. omega (arith, turns_left (turn (lent c)))) (λ c. search rules)
+    (λ c κs. search rules) (λ c. search rules) (λ c. search rules))

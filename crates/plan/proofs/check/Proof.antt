@@ -1,5 +1,5 @@
 -- The checks are all that a plan is refused for.
-use Rattle.plan.proofs.Ground.{needs, refusal}
+use Rattle.plan.proofs.Ground.{rules, refusal}
 use Rattle.plan.proofs.check.Statement.{statement}
 use Rattle.plan.proofs.check.Tie as tie
 
@@ -8,4 +8,4 @@ unfolding refusal
 returns c = c.check.ensures
 
 pub check_spec : {M : Type 1} → statement M
-check_spec = tie.close (tie.spec (λ c κs. search needs) returns)
+check_spec = tie.close (tie.spec (λ c κs. search rules) returns)

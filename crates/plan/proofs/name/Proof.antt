@@ -1,5 +1,5 @@
 -- A question that is not refused is one of a checked file, for one of its resources.
-use Rattle.plan.proofs.Ground.{sym, ◌∙◌, eq-eqb, ne_eqb, needs}
+use Rattle.plan.proofs.Ground.{sym, ◌∙◌, eq-eqb, ne_eqb, rules}
 use Rattle.plan_reading.proofs.Laws.{plan_resources}
 use Rattle.plan.specs.Reading.{name_of}
 use Rattle.plan.proofs.Laws.{name_answered, none_failed}
@@ -25,4 +25,4 @@ pub name_spec : {M : Type 1} → statement M
 name_spec =
     tie.close
     (tie.spec
-    (λ c κs. search needs) (λ c. search needs) (λ c. search needs) (λ c. search needs) returns name_requires returns_2)
+    (λ c κs. search rules) (λ c. search rules) (λ c. search rules) (λ c. search rules) returns name_requires returns_2)

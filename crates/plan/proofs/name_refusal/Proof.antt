@@ -1,5 +1,5 @@
 -- A plan that is read has the resource or has it not; one that is refused gives its number.
-use Rattle.plan.proofs.Ground.{◌<◌, sym, ap, ◌∙◌, arith, lt-ltb, le-ltb, eq-eqb, ne_eqb, needs, Counts, counts_of, name_refusal}
+use Rattle.plan.proofs.Ground.{◌<◌, sym, ap, ◌∙◌, arith, lt-ltb, le-ltb, eq-eqb, ne_eqb, rules, Counts, counts_of, name_refusal}
 use Rattle.plan.proofs.Ground.{whole_facts}
 use Rattle.folds.proofs.Ground.{◌≤◌}
 use Rattle.plan.proofs.Laws.{none_failed}
@@ -29,5 +29,5 @@ returns_3 c =
 pub name_refusal_spec : {M : Type 1} → statement M
 name_refusal_spec =
     tie.close (tie.spec
-    (λ c κs. search needs) returns
+    (λ c κs. search rules) returns
     (λ c κs. (whole_facts _ (none_failed _ (sym c.before.check.ensures ∙ c.if1.false))).header.long) returns_2 returns_3)

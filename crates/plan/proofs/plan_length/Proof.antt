@@ -1,5 +1,5 @@
 -- Each return is the branch of the definition.
-use Rattle.plan.proofs.Ground.{arith, lt-ltb, le-ltb, needs}
+use Rattle.plan.proofs.Ground.{arith, lt-ltb, le-ltb, rules}
 use Rattle.plan.specs.Reading.{plan_length}
 use Rattle.plan.proofs.plan_length.Statement.{statement}
 use Rattle.plan.proofs.plan_length.Tie as tie
@@ -17,4 +17,4 @@ unfolding plan_length
 returns_3 c = (simp (le-ltb _ _ c.before.before.if1.false, ← c.before.length_said.ensures) (omega arith), omega arith)
 
 pub plan_length_spec : {M : Type 1} → statement M
-plan_length_spec = tie.close (tie.spec returns (λ c κs. search needs) returns_2 returns_3)
+plan_length_spec = tie.close (tie.spec returns (λ c κs. search rules) returns_2 returns_3)

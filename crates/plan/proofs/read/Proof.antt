@@ -1,5 +1,5 @@
 -- Each return is the branch of the definition.
-use Rattle.plan.proofs.Ground.{◌≡◌, sym, ap, ◌∙◌, needs, Reading, Accepted, read_outcome, reading, whole_facts}
+use Rattle.plan.proofs.Ground.{◌≡◌, sym, ap, ◌∙◌, rules, Reading, Accepted, read_outcome, reading, whole_facts}
 use Rattle.plan_reading.proofs.Laws.{header_clear}
 use Rattle.plan.proofs.Laws.{none_failed, read_refused, read_accepted, given_told}
 use Rattle.plan.proofs.read.Statement.{statement}
@@ -26,6 +26,6 @@ pub read_spec : {M : Type 1} → statement M
 read_spec =
     tie.close
     (tie.spec
-    (λ c κs. search needs) (λ c κs. search needs) returns
+    (λ c κs. search rules) (λ c κs. search rules) returns
     (λ c κs. (whole_facts _ (none_failed _ (sym c.before.check.ensures ∙ c.if1.false))).header.long)
     load_requires returns_2)

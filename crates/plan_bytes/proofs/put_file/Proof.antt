@@ -1,5 +1,5 @@
 -- Each part is put behind those before it: `rows-part` and `part-more`.
-use Rattle.plan_bytes.proofs.Ground.{ℕ, ◌+◌, refl, ap, ◌∙◌, length, length-take, length-drop, arith, needs, counts_facts, tasks_at}
+use Rattle.plan_bytes.proofs.Ground.{ℕ, ◌+◌, refl, ap, ◌∙◌, length, length-take, length-drop, arith, rules, counts_facts, tasks_at}
 use Rattle.plan_bytes.proofs.Ground.{task_width, resource_width, section_width, header_bytes}
 use Rattle.plan_rules.proofs.Laws.{InRange}
 use Rattle.plan_bytes.proofs.Ground.{Front, put_front, part_more, rows_part}
@@ -40,7 +40,7 @@ put_tasks_requires c κs =
 put_resources_requires : tie.Need-put-resources-requires
 put_resources_requires c κs =
     let g = ranges (offsets (headed c.before.before.before.before)) in
-    (omega arith, search needs)
+    (omega arith, search rules)
 
 put_sections_requires : tie.Need-put-sections-requires
 put_sections_requires c κs =
@@ -85,8 +85,8 @@ pub put_file_spec : {M : Type 1} → statement M
 put_file_spec =
     tie.close
     (tie.spec
-    (λ c κs. search needs) (λ c κs. search needs) (λ c κs. search needs) (λ c. search needs) (λ c. search needs)
-    put_header_requires (λ c. search needs) (λ c. search needs) (λ c. search needs) (λ c κs. search needs) put_tasks_requires
-    (λ c. search needs) (λ c. search needs) (λ c. search needs) (λ c κs. search needs) put_resources_requires (λ c. search needs)
-    (λ c. search needs) (λ c. search needs) put_sections_requires (λ c. search needs) (λ c. search needs) (λ c. search needs)
-    (λ c κs. search needs) (λ c. omega arith) returns)
+    (λ c κs. search rules) (λ c κs. search rules) (λ c κs. search rules) (λ c. search rules) (λ c. search rules)
+    put_header_requires (λ c. search rules) (λ c. search rules) (λ c. search rules) (λ c κs. search rules) put_tasks_requires
+    (λ c. search rules) (λ c. search rules) (λ c. search rules) (λ c κs. search rules) put_resources_requires (λ c. search rules)
+    (λ c. search rules) (λ c. search rules) put_sections_requires (λ c. search rules) (λ c. search rules) (λ c. search rules)
+    (λ c κs. search rules) (λ c. omega arith) returns)

@@ -1,5 +1,5 @@
 -- The row is the bytes of the header's numbers.
-use Rattle.plan_bytes.proofs.Ground.{arith, needs, row_bytes, digits, counts_facts, header_bytes}
+use Rattle.plan_bytes.proofs.Ground.{arith, rules, row_bytes, digits, counts_facts, header_bytes}
 use Rattle.plan_bytes.proofs.put_header.Statement.{statement}
 use Rattle.plan_bytes.proofs.put_header.Tie as tie
 
@@ -20,7 +20,7 @@ pub put_header_spec : {M : Type 1} → statement M
 put_header_spec =
     tie.close
     (tie.spec
-    (λ c. search needs) (λ c κs. search needs) (λ c κs. search needs) (λ c κs. search needs) (λ c κs. search needs)
-    (λ c κs. search needs) (λ c. search needs) (λ c κs. search needs) (λ c κs. search needs) (λ c κs. search needs)
-    (λ c κs. search needs) (λ c κs. search needs) names_fit (λ c κs. search needs) (λ c κs. search needs) (λ c. search needs)
-    (λ c κs. search needs) (λ c. search needs) returns)
+    (λ c. search rules) (λ c κs. search rules) (λ c κs. search rules) (λ c κs. search rules) (λ c κs. search rules)
+    (λ c κs. search rules) (λ c. search rules) (λ c κs. search rules) (λ c κs. search rules) (λ c κs. search rules)
+    (λ c κs. search rules) (λ c κs. search rules) names_fit (λ c κs. search rules) (λ c κs. search rules) (λ c. search rules)
+    (λ c κs. search rules) (λ c. search rules) returns)

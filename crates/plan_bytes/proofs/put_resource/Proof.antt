@@ -1,5 +1,5 @@
 -- The row is the bytes of its numbers.
-use Rattle.plan_bytes.proofs.Ground.{needs, row_bytes, digits}
+use Rattle.plan_bytes.proofs.Ground.{rules, row_bytes, digits}
 use Rattle.plan_bytes.proofs.put_resource.Statement.{statement}
 use Rattle.plan_bytes.proofs.put_resource.Tie as tie
 
@@ -11,4 +11,4 @@ pub put_resource_spec : {M : Type 1} → statement M
 put_resource_spec =
     tie.close
     (tie.spec
-    (λ c κs. search needs) (λ c κs. search needs) (λ c. search needs) (λ c κs. search needs) (λ c. search needs) returns)
+    (λ c κs. search rules) (λ c κs. search rules) (λ c. search rules) (λ c κs. search rules) (λ c. search rules) returns)

@@ -1,5 +1,5 @@
 -- The row is the bytes of its numbers.
-use Rattle.plan_bytes.proofs.Ground.{needs, row_bytes, digits}
+use Rattle.plan_bytes.proofs.Ground.{rules, row_bytes, digits}
 use Rattle.plan_bytes.proofs.put_section.Statement.{statement}
 use Rattle.plan_bytes.proofs.put_section.Tie as tie
 
@@ -11,5 +11,5 @@ pub put_section_spec : {M : Type 1} → statement M
 put_section_spec =
     tie.close
     (tie.spec
-    (λ c. search needs) (λ c κs. search needs) (λ c κs. search needs) (λ c. search needs) (λ c κs. search needs) (λ c. search needs)
+    (λ c. search rules) (λ c κs. search rules) (λ c κs. search rules) (λ c. search rules) (λ c κs. search rules) (λ c. search rules)
     returns)

@@ -1,5 +1,5 @@
 -- Each part begins where the counts say, and lies in the file.
-use Rattle.plan_layout.proofs.Ground.{needs}
+use Rattle.plan_layout.proofs.Ground.{rules}
 use Rattle.folds.proofs.Parts.{part_rest}
 use Rattle.plan_layout.proofs.file_code.Statement.{statement}
 use Rattle.plan_layout.proofs.file_code.Tie as tie
@@ -13,6 +13,6 @@ pub file_code_spec : {M : Type 1} → statement M
 file_code_spec =
     tie.close
     (tie.spec
-    (λ c κs. search needs) (λ c κs. search needs) (λ c. search needs) (λ c. search needs) (λ c. search needs) (λ c. search needs)
-    (λ c. search needs) (λ c. search needs) (λ c. search needs) (λ c. search needs) (λ c. search needs)
-    (λ c κs. record { counts = search needs; tasks = search needs; resources = search needs; sections = search needs }) returns)
+    (λ c κs. search rules) (λ c κs. search rules) (λ c. search rules) (λ c. search rules) (λ c. search rules) (λ c. search rules)
+    (λ c. search rules) (λ c. search rules) (λ c. search rules) (λ c. search rules) (λ c. search rules)
+    (λ c κs. record { counts = search rules; tasks = search rules; resources = search rules; sections = search rules }) returns)

@@ -1,5 +1,5 @@
 -- The invariant: the rows passed are loaded.
-use Rattle.plan_layout.proofs.Ground.{◌-◌, replicate, arith, needs, most_sections, no_section, Placed, placed_none, placed_one}
+use Rattle.plan_layout.proofs.Ground.{◌-◌, replicate, arith, rules, most_sections, no_section, Placed, placed_none, placed_one}
 use Rattle.plan_layout.proofs.Ground.{placed_all, edition1, section_at, section_rows}
 use Rattle.plan_layout.proofs.load_sections.Statement.{statement}
 use Rattle.plan_layout.proofs.load_sections.Tie as tie
@@ -18,6 +18,6 @@ pub load_sections_spec : {M : Type 1} → statement M
 load_sections_spec =
     tie.close
     (tie.spec
-    invariant-loop decreases-loop (λ c κs. search needs) (λ c. rw c.no-section.ensures placed_none) (λ c κs. omega arith) (λ c. omega arith)
+    invariant-loop decreases-loop (λ c κs. search rules) (λ c. rw c.no-section.ensures placed_none) (λ c κs. omega arith) (λ c. omega arith)
     (λ c. omega arith) (λ c. omega arith) (λ c. omega arith)
     (λ c. placed_one c.before.before.loop.invariant (omega arith) c.section-at.ensures) returns)

@@ -1,5 +1,5 @@
 -- The invariant: the rows passed are loaded.
-use Rattle.plan_layout.proofs.Ground.{◌-◌, replicate, arith, needs, most_tasks, no_task, Placed, placed_none, placed_one, placed_all}
+use Rattle.plan_layout.proofs.Ground.{◌-◌, replicate, arith, rules, most_tasks, no_task, Placed, placed_none, placed_one, placed_all}
 use Rattle.plan_layout.proofs.Ground.{edition1, task_at, task_rows}
 use Rattle.plan_layout.proofs.load_tasks.Statement.{statement}
 use Rattle.plan_layout.proofs.load_tasks.Tie as tie
@@ -18,6 +18,6 @@ pub load_tasks_spec : {M : Type 1} → statement M
 load_tasks_spec =
     tie.close
     (tie.spec
-    invariant-loop decreases-loop (λ c κs. search needs) (λ c. rw c.no-task.ensures placed_none) (λ c κs. omega arith) (λ c. omega arith)
+    invariant-loop decreases-loop (λ c κs. search rules) (λ c. rw c.no-task.ensures placed_none) (λ c κs. omega arith) (λ c. omega arith)
     (λ c. omega arith) (λ c. omega arith) (λ c. omega arith)
     (λ c. placed_one c.before.before.loop.invariant (omega arith) c.task_at.ensures.read) returns)

@@ -1,5 +1,5 @@
 -- Each test is that of the definition.
-use Rattle.plan_layout.proofs.Ground.{needs}
+use Rattle.plan_layout.proofs.Ground.{rules}
 use Rattle.plan_layout.specs.Layout.{offsets_ok}
 use Rattle.plan_layout.proofs.Laws.{header_fields}
 use Rattle.plan_layout.proofs.offsets_ok.Statement.{statement}
@@ -13,5 +13,5 @@ pub offsets_ok_spec : {M : Type 1} → statement M
 offsets_ok_spec =
     tie.close
     (tie.spec
-    (λ c κs. search needs) (λ c κs. search needs) (λ c κs. search needs) (λ c κs. search needs) (λ c κs. search needs)
-    (λ c κs. search needs) (λ c κs. search needs) returns)
+    (λ c κs. search rules) (λ c κs. search rules) (λ c κs. search rules) (λ c κs. search rules) (λ c κs. search rules)
+    (λ c κs. search rules) (λ c κs. search rules) returns)

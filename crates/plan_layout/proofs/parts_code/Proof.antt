@@ -1,5 +1,5 @@
 -- Each return is the branch of the definition; what a callee requires is what the counts give.
-use Rattle.plan_layout.proofs.Ground.{ℕ, Bool, true, false, cond, ◌≡◌, sym, ◌∙◌, arith, needs, counts_facts, edition1, task_code}
+use Rattle.plan_layout.proofs.Ground.{ℕ, Bool, true, false, cond, ◌≡◌, sym, ◌∙◌, arith, rules, counts_facts, edition1, task_code}
 use Rattle.plan_layout.proofs.Ground.{rest_code}
 use Rattle.folds.proofs.Ground.{suc}
 use Rattle.folds.proofs.Tests.{code_zero, code_next}
@@ -45,4 +45,4 @@ returns_2 c =
 
 pub parts_code_spec : {M : Type 1} → statement M
 parts_code_spec =
-    tie.close (tie.spec (λ c κs. search needs) task_code_requires returns (λ c κs. search needs) returns_2)
+    tie.close (tie.spec (λ c κs. search rules) task_code_requires returns (λ c κs. search rules) returns_2)

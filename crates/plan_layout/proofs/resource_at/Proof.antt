@@ -1,5 +1,5 @@
 -- The fields stand where the layout says.
-use Rattle.plan_layout.proofs.Ground.{sym, ◌∙◌, needs}
+use Rattle.plan_layout.proofs.Ground.{sym, ◌∙◌, rules}
 use Rattle.plan_layout.proofs.Laws.{start_field, length_field, resource_spare_lem}
 use Rattle.plan_layout.proofs.resource_at.Statement.{statement}
 use Rattle.plan_layout.proofs.resource_at.Tie as tie
@@ -13,5 +13,5 @@ pub resource_at_spec : {M : Type 1} → statement M
 resource_at_spec =
     tie.close
     (tie.spec
-    (λ c. search needs) (λ c κs. search needs) (λ c. search needs) (λ c. search needs) (λ c. search needs) (λ c. search needs)
+    (λ c. search rules) (λ c κs. search rules) (λ c. search rules) (λ c. search rules) (λ c. search rules) (λ c. search rules)
     returns)

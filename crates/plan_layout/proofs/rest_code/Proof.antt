@@ -1,5 +1,5 @@
 -- Each return is the branch of the definition; what a callee requires is what the counts give.
-use Rattle.plan_layout.proofs.Ground.{◌≡◌, arith, needs, held, failed, counts_facts, edition1, length_rows, length_rows_ok, section_code}
+use Rattle.plan_layout.proofs.Ground.{◌≡◌, arith, rules, held, failed, counts_facts, edition1, length_rows, length_rows_ok, section_code}
 use Rattle.plan_layout.proofs.Ground.{rest_code}
 use Rattle.plan_rules.specs.Rules.{names_ok}
 use Rattle.plan_rules.proofs.Laws.{InRange}
@@ -58,5 +58,5 @@ pub rest_code_spec : {M : Type 1} → statement M
 rest_code_spec =
     tie.close
     (tie.spec
-    (λ c κs. search needs) load_lengths_requires returns names_ok_requires returns_2 (λ c. search needs) section_code_requires
+    (λ c κs. search rules) load_lengths_requires returns names_ok_requires returns_2 (λ c. search rules) section_code_requires
     returns_3)

@@ -50,5 +50,5 @@ section_code_spec =
     (tie.spec
     invariant-loop decreases-loop (λ c κs. omega arith) returns loop_holds (λ c κs. omega arith) (λ c κs. omega arith) (λ c. omega arith)
     (λ c. omega arith) (λ c. omega arith) add_sums (λ c. omega arith) (λ c. omega arith) (λ c. omega arith) loop_again
-    (λ c κs. omega arith) (λ c κs. omega arith) (λ c. code c.before false (not-true _ c.if2.true))
-    (λ c. code c.before true (not-false _ c.if2.false)))
+    (λ c κs. omega arith) (λ c κs. omega arith) (λ c. code c.before false (c.if2.true))
+    (λ c. code c.before true (c.if2.false)))

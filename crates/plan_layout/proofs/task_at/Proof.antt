@@ -1,5 +1,5 @@
 -- The fields stand where the layout says.
-use Rattle.plan_layout.proofs.Ground.{◌+◌, ◌*◌, sym, arith, needs}
+use Rattle.plan_layout.proofs.Ground.{◌+◌, ◌*◌, sym, arith, rules}
 use Rattle.plan_layout.proofs.Laws.{task_fields}
 use Rattle.plan_layout.proofs.task_at.Statement.{statement}
 use Rattle.plan_layout.proofs.task_at.Tie as tie
@@ -16,6 +16,6 @@ pub task_at_spec : {M : Type 1} → statement M
 task_at_spec =
     tie.close
     (tie.spec
-    (λ c. search needs) (λ c. search needs) (λ c. search needs) (λ c. search needs)
-    (λ c. omega (arith, c.shared-slice-known3.given (c.before.before.before.args.i * 8 + 1))) (λ c. search needs)
-    (λ c. search needs) (λ c. search needs) (λ c κs. search needs) (λ c. search needs) (λ c κs. search needs) returns)
+    (λ c. search rules) (λ c. search rules) (λ c. search rules) (λ c. search rules)
+    (λ c. omega (arith, c.shared-slice-known3.given (c.before.before.before.args.i * 8 + 1))) (λ c. search rules)
+    (λ c. search rules) (λ c. search rules) (λ c κs. search rules) (λ c. search rules) (λ c κs. search rules) returns)

@@ -1,6 +1,6 @@
 -- The invariant: the tables mark the tags and places of the rows passed, and the two tests are those of all of them.
 use Rattle.plan_layout.proofs.Ground.{ℕ, ◌+◌, ◌*◌, ◌%◌, ◌<◌, ◌-◌, Bool, true, false, cond, ◌&&◌, ◌≡◌, refl, ap, ap₂, List, arith}
-use Rattle.plan_layout.proofs.Ground.{not-true, not-false, needs, all_below, all_step, marked_below, wrong_task, repeated, TaskRow}
+use Rattle.plan_layout.proofs.Ground.{not-true, not-false, rules, all_below, all_step, marked_below, wrong_task, repeated, TaskRow}
 use Rattle.plan_layout.proofs.Ground.{edition1, task_rows_ok, task_code}
 use Rattle.folds.proofs.Arrays.{marked_step, marked_new}
 use Rattle.plan_layout.proofs.Unique.{tag_key, place_key, Seen, seen_code}
@@ -59,9 +59,9 @@ pub task_code_spec : {M : Type 1} → statement M
 task_code_spec =
     tie.close
     (tie.spec
-    invariant-loop decreases-loop loop_holds (λ c κs. omega arith) (λ c. omega arith) (λ c κs. search needs) (λ c. omega arith)
-    (λ c κs. search needs) (λ c. omega (arith, c.wide2.ensures.low)) (λ c κs. search needs) (λ c κs. omega arith)
+    invariant-loop decreases-loop loop_holds (λ c κs. omega arith) (λ c. omega arith) (λ c κs. search rules) (λ c. omega arith)
+    (λ c κs. search rules) (λ c. omega (arith, c.wide2.ensures.low)) (λ c κs. search rules) (λ c κs. omega arith)
     tag_low place_low tag_low place_low (λ c. omega arith) (λ c. omega arith) loop_again
-    (λ c. code c.before false _ (not-true _ c.if1.true) refl)
-    (λ c. code c.before.before true false (not-false _ c.before.if1.false) (not-true _ c.if2.true))
-    (λ c. code c.before.before true true (not-false _ c.before.if1.false) (not-false _ c.if2.false)))
+    (λ c. code c.before false _ (c.if1.true) refl)
+    (λ c. code c.before.before true false (c.before.if1.false) (c.if2.true))
+    (λ c. code c.before.before true true (c.before.if1.false) (c.if2.false)))

@@ -1,4 +1,4 @@
-use Rattle.plan_layout.proofs.Ground.{arith, needs, number}
+use Rattle.plan_layout.proofs.Ground.{arith, rules, number}
 use Rattle.plan_layout.proofs.word_at.Statement.{statement}
 use Rattle.plan_layout.proofs.word_at.Tie as tie
 
@@ -10,5 +10,5 @@ pub word_at_spec : {M : Type 1} → statement M
 word_at_spec =
     tie.close
     (tie.spec
-    (λ c. search needs) (λ c κs. search needs) (λ c. search needs) (λ c. search needs) (λ c κs. search needs) (λ c. search needs)
-    (λ c. search needs) returns)
+    (λ c. search rules) (λ c κs. search rules) (λ c. search rules) (λ c. search rules) (λ c κs. search rules) (λ c. search rules)
+    (λ c. search rules) returns)

@@ -1,5 +1,5 @@
 -- Each return is the branch of the definition.
-use Rattle.plan_reading.proofs.Ground.{sym, ◌∙◌, needs}
+use Rattle.plan_reading.proofs.Ground.{sym, ◌∙◌, rules}
 use Rattle.plan_reading.proofs.Laws.{header_facts, header_fails, header_holds}
 use Rattle.plan_reading.proofs.check.Statement.{statement}
 use Rattle.plan_reading.proofs.check.Tie as tie
@@ -8,6 +8,6 @@ pub check_spec : {M : Type 1} → statement M
 check_spec =
     tie.close
     (tie.spec
-    (λ c κs. search needs) (λ c. sym (header_fails _ c.before.header-code.ensures c.if1.true))
-    (λ c κs. (header_facts _ (sym c.before.header-code.ensures ∙ c.if1.false)).long) (λ c κs. search needs)
+    (λ c κs. search rules) (λ c. sym (header_fails _ c.before.header-code.ensures c.if1.true))
+    (λ c κs. (header_facts _ (sym c.before.header-code.ensures ∙ c.if1.false)).long) (λ c κs. search rules)
     (λ c. c.rows_code.ensures ∙ sym (header_holds _ c.before.before.before.header-code.ensures c.before.before.if1.false)))

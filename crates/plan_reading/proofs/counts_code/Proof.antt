@@ -1,5 +1,5 @@
 -- Each return is the branch of the definition.
-use Rattle.plan_reading.proofs.Ground.{◌≡◌, needs, counts_ok, known, counts_of, offsets_ok, counts_code}
+use Rattle.plan_reading.proofs.Ground.{◌≡◌, rules, counts_ok, known, counts_of, offsets_ok, counts_code}
 use Rattle.folds.proofs.Tests.{held, failed}
 use Rattle.plan_reading.proofs.counts_code.Statement.{statement}
 use Rattle.plan_reading.proofs.counts_code.Tie as tie
@@ -43,5 +43,5 @@ pub counts_code_spec : {M : Type 1} → statement M
 counts_code_spec =
     tie.close
     (tie.spec
-    (λ c κs. search needs) (λ c κs. search needs) returns (λ c κs. search needs) returns_2 (λ c κs. search needs) returns_3
+    (λ c κs. search rules) (λ c κs. search rules) returns (λ c κs. search rules) returns_2 (λ c κs. search rules) returns_3
     returns_4)

@@ -1,5 +1,5 @@
 -- Each return is the branch of the definition.
-use Rattle.plan_reading.proofs.Ground.{eq-eqb, ne_eqb, needs, header_code}
+use Rattle.plan_reading.proofs.Ground.{eq-eqb, ne_eqb, rules, header_code}
 use Rattle.folds.proofs.Ground.{lt-ltb, le-ltb}
 use Rattle.plan_reading.proofs.header_code.Statement.{statement}
 use Rattle.plan_reading.proofs.header_code.Tie as tie
@@ -21,4 +21,4 @@ returns_3 c =
 pub header_code_spec : {M : Type 1} → statement M
 header_code_spec =
     tie.close
-    (tie.spec returns (λ c κs. search needs) returns_2 (λ c κs. search needs) returns_3)
+    (tie.spec returns (λ c κs. search rules) returns_2 (λ c κs. search rules) returns_3)

@@ -1,5 +1,5 @@
 -- Each group is loaded from the part that begins at its offset.
-use Rattle.plan_reading.proofs.Ground.{◌≡◌, ap, ◌∙◌, length-drop, arith, needs, part_rest, Counts, header_length, counts_of}
+use Rattle.plan_reading.proofs.Ground.{◌≡◌, ap, ◌∙◌, length-drop, arith, rules, part_rest, Counts, header_length, counts_of}
 use Rattle.plan_reading.proofs.Ground.{resources_at, sections_at, task_rows_of, lengths_of, sections_of}
 use Rattle.plan_reading.proofs.Laws.{Header, header_facts}
 use Rattle.plan_reading.proofs.load.Statement.{statement}
@@ -75,9 +75,9 @@ pub load_spec : {M : Type 1} → statement M
 load_spec =
     tie.close
     (tie.spec
-    (λ c κs. search needs) (λ c κs. search needs) (λ c. search needs) (λ c κs. search needs) (λ c κs. search needs)
-    (λ c. omega (arith, (header c).ends, resources_begin c)) (λ c. omega (arith, (header c).ends, resources_begin c)) (λ c. search needs)
+    (λ c κs. search rules) (λ c κs. search rules) (λ c. search rules) (λ c κs. search rules) (λ c κs. search rules)
+    (λ c. omega (arith, (header c).ends, resources_begin c)) (λ c. omega (arith, (header c).ends, resources_begin c)) (λ c. search rules)
     load_lengths_requires (λ c. omega (arith, (header c.before.before.before).long)) (λ c. omega (arith, (header c.before.before.before).long))
-    (λ c. search needs) load_tasks_requires (λ c. omega (arith, (header (from_tasks c)).ends, sections_begin (from_tasks c)))
-    (λ c. omega (arith, (header (from_tasks c)).ends, sections_begin (from_tasks c))) (λ c. search needs) load_sections_requires
+    (λ c. search rules) load_tasks_requires (λ c. omega (arith, (header (from_tasks c)).ends, sections_begin (from_tasks c)))
+    (λ c. omega (arith, (header (from_tasks c)).ends, sections_begin (from_tasks c))) (λ c. search rules) load_sections_requires
     returns)

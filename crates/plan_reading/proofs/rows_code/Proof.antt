@@ -1,5 +1,5 @@
 -- The names begin where the counts say, and the header's checks gave that this lies in the file.
-use Rattle.plan_reading.proofs.Ground.{◌≤◌, ap, ◌∙◌, length, arith, needs, part_rest, names_at}
+use Rattle.plan_reading.proofs.Ground.{◌≤◌, ap, ◌∙◌, length, arith, rules, part_rest, names_at}
 use Rattle.plan_reading.proofs.Laws.{header_facts}
 use Rattle.plan_reading.proofs.rows_code.Statement.{statement}
 use Rattle.plan_reading.proofs.rows_code.Tie as tie
@@ -20,6 +20,6 @@ pub rows_code_spec : {M : Type 1} → statement M
 rows_code_spec =
     tie.close
     (tie.spec
-    (λ c κs. search needs) (λ c. omega (arith, names_inside c)) (λ c. omega (arith, names_inside c)) (λ c. search needs)
+    (λ c κs. search rules) (λ c. omega (arith, names_inside c)) (λ c. omega (arith, names_inside c)) (λ c. search rules)
     file_code_requires
     (λ c. rw (part_rest, c.before.before.names_at.ensures, c.before.before.before.before.requires.counts) at c.file-code.ensures))

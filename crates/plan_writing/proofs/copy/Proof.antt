@@ -1,5 +1,5 @@
 -- The values that are written are those of the file that was read, so what is written is that file.
-use Rattle.plan_writing.proofs.Ground.{ℕ, ◌-◌, ◌<◌, ◌≡◌, sym, ap, ◌∙◌, List, length, get_or, take, drop, arith, needs, counts_of}
+use Rattle.plan_writing.proofs.Ground.{ℕ, ◌-◌, ◌<◌, ◌≡◌, sym, ap, ◌∙◌, List, length, get_or, take, drop, arith, rules, counts_of}
 use Rattle.plan_writing.proofs.Ground.{rows_of, names_of, names_at, Reading, whole_facts, none_failed}
 use Rattle.folds.proofs.Parts.{part_rest}
 use Rattle.plan.proofs.Laws.{Got, got_plan, got_refusal}
@@ -45,7 +45,7 @@ pub copy_spec : {M : Type 1} → statement M
 copy_spec =
     tie.close
     (tie.spec
-    (λ c κs. search needs) (λ c. search needs) (λ c κs. search needs)
+    (λ c κs. search rules) (λ c. search rules) (λ c κs. search rules)
     (λ c. omega (arith, at_names c, (whole_facts _ (none_failed _ (got c).none)).header.ends))
-    (λ c. omega (arith, at_names c, (whole_facts _ (none_failed _ (got c).none)).header.ends)) (λ c. search needs) (λ c κs. search needs)
-    (λ c. search needs) (λ c. search needs) returns returns_2)
+    (λ c. omega (arith, at_names c, (whole_facts _ (none_failed _ (got c).none)).header.ends)) (λ c. search rules) (λ c κs. search rules)
+    (λ c. search rules) (λ c. search rules) returns returns_2)

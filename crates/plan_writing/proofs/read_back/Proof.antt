@@ -1,5 +1,5 @@
 -- The front of the buffer is the file that was written, and reading it gives the same plan.
-use Rattle.plan_writing.proofs.Ground.{length, sym, ◌∙◌, arith, needs}
+use Rattle.plan_writing.proofs.Ground.{length, sym, ◌∙◌, arith, rules}
 use Rattle.plan_writing.proofs.Outcome.{WrittenAs, was_written, was_refused, code_clear, back_same, back_refused, back_so}
 use Rattle.plan_writing.proofs.read_back.Statement.{statement}
 use Rattle.plan_writing.proofs.read_back.Tie as tie
@@ -38,5 +38,5 @@ pub read_back_spec : {M : Type 1} → statement M
 read_back_spec =
     tie.close
     (tie.spec
-    (λ c κs. search needs) (λ c. search needs) (λ c. search needs) (λ c. search needs) (λ c. search needs) part_read_end
-    (λ c κs. search needs) (λ c. search needs) (λ c κs. search needs) (λ c. search needs) returns (λ c. search needs) returns_2)
+    (λ c κs. search rules) (λ c. search rules) (λ c. search rules) (λ c. search rules) (λ c. search rules) part_read_end
+    (λ c κs. search rules) (λ c. search rules) (λ c κs. search rules) (λ c. search rules) returns (λ c. search rules) returns_2)

@@ -1,5 +1,5 @@
 -- The rows stand in a file of their own, where the checks of a file say what the rules of values say: `parts-values`.
-use Rattle.plan_writing.proofs.Ground.{true, ◌≡◌, ◌∙◌, arith, needs, counts_ok, tags_ok, InRange, counts_facts, edition1, format_of}
+use Rattle.plan_writing.proofs.Ground.{true, ◌≡◌, ◌∙◌, arith, rules, counts_ok, tags_ok, InRange, counts_facts, edition1, format_of}
 use Rattle.plan_writing.proofs.Ground.{known, values_code}
 use Rattle.folds.proofs.Tests.{held, failed}
 use Rattle.plan_writing.proofs.Values.{parts_values, tags_fail}
@@ -69,6 +69,6 @@ pub values_code_spec : {M : Type 1} → statement M
 values_code_spec =
     tie.close
     (tie.spec
-    (λ c κs. search needs) returns (λ c κs. search needs) returns_2 (λ c κs. search needs)
-    (λ c κs. omega (arith, (ranges c.before.before).tasks)) returns_3 (λ c. search needs) (λ c. search needs) (λ c. search needs)
-    (λ c. search needs) put_file_requires (λ c. search needs) file_code_requires returns_4)
+    (λ c κs. search rules) returns (λ c κs. search rules) returns_2 (λ c κs. search rules)
+    (λ c κs. omega (arith, (ranges c.before.before).tasks)) returns_3 (λ c. search rules) (λ c. search rules) (λ c. search rules)
+    (λ c. search rules) put_file_requires (λ c. search rules) file_code_requires returns_4)

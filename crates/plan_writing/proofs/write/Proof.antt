@@ -1,5 +1,5 @@
 -- Each return is the case of the definition; the length fits 16 bits, since the counts and the names do.
-use Rattle.plan_writing.proofs.Ground.{ℕ, ◌+◌, ◌<◌, ◌≤◌, refl, sym, ap, ◌∙◌, length, arith, needs, tags_kept, Written, file_length}
+use Rattle.plan_writing.proofs.Ground.{ℕ, ◌+◌, ◌<◌, ◌≤◌, refl, sym, ap, ◌∙◌, length, arith, rules, tags_kept, Written, file_length}
 use Rattle.plan_writing.proofs.Same.{sized}
 use Rattle.plan_writing.proofs.Outcome.{code_values, code_short, code_fits, wrote, kept_back, ended_so}
 use Rattle.plan_writing.proofs.write.Statement.{statement}
@@ -46,5 +46,5 @@ pub write_spec : {M : Type 1} → statement M
 write_spec =
     tie.close
     (tie.spec
-    (λ c κs. search needs) returns (λ c κs. search needs) (λ c. search needs) returns_2 put_file_requires cast_t13
-    (λ c. search needs) returns_3)
+    (λ c κs. search rules) returns (λ c κs. search rules) (λ c. search rules) returns_2 put_file_requires cast_t13
+    (λ c. search rules) returns_3)

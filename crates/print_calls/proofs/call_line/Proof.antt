@@ -1,6 +1,6 @@
 -- The number of the plan or of the state comes first. The line is put at the front of a buffer of its own, and handed over from there;
 -- the refusal tells whether it was.
-use Rattle.print_calls.proofs.Ground.{refl, needs, front_part, call_line}
+use Rattle.print_calls.proofs.Ground.{refl, rules, front_part, call_line}
 use Rattle.print_text.proofs.Lines.{refused_before, none_before}
 use Rattle.print_calls.proofs.Calls.{looked_at}
 use Rattle.print_calls.proofs.call_line.Statement.{statement}
@@ -50,9 +50,9 @@ pub call_line_spec : {M : Type 1} → statement M
 call_line_spec =
     tie.close
     (tie.spec
-    (λ c. search needs) (λ c κs. search needs) (λ c. search needs) (λ c κs. search needs) (λ c κs. search needs) returns
-    (λ c. search needs) (λ c. search needs)
+    (λ c. search rules) (λ c κs. search rules) (λ c. search rules) (λ c κs. search rules) (λ c κs. search rules) returns
+    (λ c. search rules) (λ c. search rules)
     (λ c κs. let i = c.before.before in let s = i.before in
-    let plan = looked_at _ (looked s).look.ensures.0 s.state_refusal.ensures i.if1.false in search needs)
-    (λ c. search needs) (λ c. search needs) (λ c. search needs)
-    (λ c κs. search needs) (λ c. search needs) returns_2 (λ c. search needs) returns_3)
+    let plan = looked_at _ (looked s).look.ensures.0 s.state_refusal.ensures i.if1.false in search rules)
+    (λ c. search rules) (λ c. search rules) (λ c. search rules)
+    (λ c κs. search rules) (λ c. search rules) returns_2 (λ c. search rules) returns_3)

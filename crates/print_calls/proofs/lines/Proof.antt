@@ -1,5 +1,5 @@
 -- The number told comes first. The invariant: the lines of the calls so far stand at the front of the buffer.
-use Rattle.print_calls.proofs.Ground.{ℕ, ◌+◌, ◌-◌, ◌≤◌, ◌<◌, refl, sym, ◌∙◌, inl, inr, List, length, arith, needs, State, call_width}
+use Rattle.print_calls.proofs.Ground.{ℕ, ◌+◌, ◌-◌, ◌≤◌, ◌<◌, refl, sym, ◌∙◌, inl, inr, List, length, arith, rules, State, call_width}
 use Rattle.print_calls.proofs.Ground.{Surveyed, Written}
 use Rattle.folds.proofs.Ground.{◌^◌}
 use Rattle.print_calls.proofs.Batches.{Begun, written_none, written_step, call_left, room_left, ended_by, first_none, told_none, told_lines}
@@ -56,7 +56,7 @@ loop_again c =
     record {
       plan = t.before.loop.inv.plan;
       written =
-          written_step _ _ _ _ w (left t) (room_left w t.loop-test.taken) (search needs) (made c).bytes-at.ensures
+          written_step _ _ _ _ w (left t) (room_left w t.loop-test.taken) (search rules) (made c).bytes-at.ensures
           c.before.before.before.put-call.ensures;
       begun = inr (omega arith);
     }
@@ -74,13 +74,13 @@ pub lines_spec : {M : Type 1} → statement M
 lines_spec =
     tie.close
     (tie.spec
-    invariant-loop decreases-loop (λ c. search needs) (λ c κs. search needs) (λ c. search needs) (λ c κs. search needs) (λ c κs. search needs)
-    (λ c κs. search needs)
+    invariant-loop decreases-loop (λ c. search rules) (λ c κs. search rules) (λ c. search rules) (λ c κs. search rules) (λ c κs. search rules)
+    (λ c κs. search rules)
     (λ c. let l = c.before.before in rw c.none_made.ensures
     (told_none _ _ (start l.before).args.calls.now _ l.before.state_refusal.ensures l.lines_Code.ensures c.before.if1.true))
     loop_holds
-    (λ c. c.loop.invariant.written.within) (λ c. let w = c.loop.invariant.written in rw w.long w.fits) (λ c. search needs)
+    (λ c. c.loop.invariant.written.within) (λ c. let w = c.loop.invariant.written in rw w.long w.fits) (λ c. search rules)
     (λ c κs. record { least = omega arith; most = omega arith; whole = left (turn c) })
-    (λ c κs. let t = turn c.before in let room = room_left t.before.loop.inv.written t.loop-test.taken in search needs)
+    (λ c κs. let t = turn c.before in let room = room_left t.before.loop.inv.written t.loop-test.taken in search rules)
     (λ c. omega (arith, small (turn (made c).before))) (λ c. omega (arith, left (turn (made c).before))) loop_again
     (λ c. c.before.loop.invariant.written.long) returns_2)

@@ -1,5 +1,5 @@
 -- The line is put at the front of a buffer of its own, and handed over from there.
-use Rattle.print_calls.proofs.Ground.{needs, front_part}
+use Rattle.print_calls.proofs.Ground.{rules, front_part}
 use Rattle.print_calls.proofs.plan_line.Statement.{statement}
 use Rattle.print_calls.proofs.plan_line.Tie as tie
 
@@ -13,5 +13,5 @@ pub plan_line_spec : {M : Type 1} → statement M
 plan_line_spec =
     tie.close
     (tie.spec
-    (λ c. search needs) (λ c κs. search needs) (λ c. search needs) (λ c. search needs) (λ c. search needs) (λ c κs. search needs)
-    (λ c. search needs) returns)
+    (λ c. search rules) (λ c κs. search rules) (λ c. search rules) (λ c. search rules) (λ c. search rules) (λ c κs. search rules)
+    (λ c. search rules) returns)

@@ -1,5 +1,5 @@
 -- The bytes are no call, or the line is that of its answer.
-use Rattle.print_calls.proofs.Ground.{needs}
+use Rattle.print_calls.proofs.Ground.{rules}
 use Rattle.machine_calls.proofs.Calls.{decoded_call, decoded_no_call}
 use Rattle.print_calls.proofs.Naming.{call_names}
 use Rattle.print_calls.proofs.Calls.{stepped_none, stepped_call}
@@ -12,7 +12,7 @@ put_answer_requires c κs =
     let d = i.before.before in
     let file = d.before.before.shared-slice-known.given in
     let e = decoded_call _ d.decode.ensures i.if1.false in
-    (rw c.before.before.call.ensures.answer (call_names _ (λ k l. (file k).fits) _ _ _ e), search needs)
+    (rw c.before.before.call.ensures.answer (call_names _ (λ k l. (file k).fits) _ _ _ e), search rules)
 
 returns_2 : tie.Need-returns-2
 returns_2 c =
@@ -26,7 +26,7 @@ pub put_call_spec : {M : Type 1} → statement M
 put_call_spec =
     tie.close
     (tie.spec
-    (λ c κs. search needs) (λ c κs. search needs) (λ c. search needs)
+    (λ c κs. search rules) (λ c κs. search rules) (λ c. search rules)
     (λ c. let put = c.before.before in let i = put.before.before in
     stepped_none _ _ _ (decoded_no_call _ i.before.before.decode.ensures i.if1.true) put.Put-refused.ensures)
-    (λ c κs. search needs) put_answer_requires (λ c. search needs) returns_2)
+    (λ c κs. search rules) put_answer_requires (λ c. search rules) returns_2)

@@ -1,5 +1,5 @@
 -- The invariant: the fields from `i` on are left, and those before stand in the buffer.
-use Rattle.print_lines.proofs.Ground.{◌+◌, ◌≤◌, ◌≡◌, ◌∷◌, length, arith, needs, Number}
+use Rattle.print_lines.proofs.Ground.{◌+◌, ◌≤◌, ◌≡◌, ◌∷◌, length, arith, rules, Number}
 use Rattle.folds.proofs.Ground.{◌-◌, get_or, drop, drop_of_length-le, drop-cons, add-one}
 use Rattle.print_lines.proofs.Fields.{Left, left_all, left_first, left_less, left_none}
 use Rattle.print_lines.proofs.put_fields.Statement.{statement}
@@ -15,7 +15,7 @@ abbrev start : tie.In-loop invariant-loop decreases-loop → tie.Start invariant
 start c = c.before.before.before.before
 
 long : (a : tie.Start invariant-loop decreases-loop) → length a.args.t4 ≡ 8
-long a = search needs
+long a = search rules
 
 -- in a turn of the loop the field at i is the first of those that are left
 first : (c : tie.In-loop invariant-loop decreases-loop) → let a = (start c).args in let l = c.before.loop in

@@ -1,5 +1,5 @@
 -- The word, the fields, the end.
-use Rattle.print_lines.proofs.Ground.{length, arith, needs, put_in, put_in_then}
+use Rattle.print_lines.proofs.Ground.{length, arith, rules, put_in, put_in_then}
 use Rattle.print_lines.proofs.put_line.Statement.{statement}
 use Rattle.print_lines.proofs.put_line.Tie as tie
 
@@ -16,4 +16,4 @@ returns c =
 pub put_line_spec : {M : Type 1} → statement M
 put_line_spec =
     tie.close
-    (tie.spec (λ c κs. search needs) (λ c κs. search needs) (λ c. search needs) (λ c κs. search needs) (λ c. search needs) returns)
+    (tie.spec (λ c κs. search rules) (λ c κs. search rules) (λ c. search rules) (λ c κs. search rules) (λ c. search rules) returns)

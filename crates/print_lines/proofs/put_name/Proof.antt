@@ -1,5 +1,5 @@
 -- The space, then the name, which is no longer than its rule says.
-use Rattle.print_lines.proofs.Ground.{arith, needs, put_in, put_in_then}
+use Rattle.print_lines.proofs.Ground.{arith, rules, put_in, put_in_then}
 use Rattle.print_lines.proofs.put_name.Statement.{statement}
 use Rattle.print_lines.proofs.put_name.Tie as tie
 
@@ -7,6 +7,6 @@ pub put_name_spec : {M : Type 1} → statement M
 put_name_spec =
     tie.close
     (tie.spec
-    (λ c. search needs) (λ c κs. search needs) (λ c κs. search needs) (λ c κs. search needs) (λ c. search needs)
+    (λ c. search rules) (λ c κs. search rules) (λ c κs. search rules) (λ c κs. search rules) (λ c. search rules)
     (λ c. let d = c.before.before in let n = d.before in let name = n.name.ensures in
     put_in_then (put_in 1 n.before.before.before.before.put.ensures (omega arith)) (rw name.0 at (put_in _ d.put2.ensures name.1))))

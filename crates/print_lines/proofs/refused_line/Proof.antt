@@ -1,5 +1,5 @@
 -- The line is put at the front of a buffer of its own, and handed over from there.
-use Rattle.print_lines.proofs.Ground.{needs}
+use Rattle.print_lines.proofs.Ground.{rules}
 use Rattle.print_text.proofs.Lines.{front_part}
 use Rattle.print_lines.proofs.refused_line.Statement.{statement}
 use Rattle.print_lines.proofs.refused_line.Tie as tie
@@ -8,7 +8,7 @@ pub refused_line_spec : {M : Type 1} → statement M
 refused_line_spec =
     tie.close
     (tie.spec
-    (λ c. search needs) (λ c κs. search needs) (λ c. search needs) (λ c. search needs) (λ c. search needs) (λ c κs. search needs)
-    (λ c. search needs)
+    (λ c. search rules) (λ c κs. search rules) (λ c. search rules) (λ c. search rules) (λ c. search rules) (λ c κs. search rules)
+    (λ c. search rules)
     (λ c. let h = c.before.before in let e = h.before in
     rw (front_part e.before.before.before.before.Put-refused.ensures.put) at h.hand-over.ensures))

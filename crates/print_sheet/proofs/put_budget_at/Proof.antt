@@ -1,5 +1,5 @@
 -- There is a line where the processor has users of the resource; budget and wait time are those of the tables.
-use Rattle.print_sheet.proofs.Ground.{◌<◌, ◌∙◌, arith, needs, most_processors, most_resources, put_wider, plan_of, Valid}
+use Rattle.print_sheet.proofs.Ground.{◌<◌, ◌∙◌, arith, rules, most_processors, most_resources, put_wider, plan_of, Valid}
 use Rattle.print_sheet.proofs.Ground.{valid_plan, budget_room}
 use Rattle.folds.proofs.Ground.{refl}
 use Rattle.analysis_figures.proofs.Cells.{budget_of_lem}
@@ -51,8 +51,8 @@ pub put_budget_at_spec : {M : Type 1} → statement M
 put_budget_at_spec =
     tie.close
     (tie.spec
-    (λ c κs. search needs) (λ c κs. share c) returns
+    (λ c κs. search rules) (λ c κs. share c) returns
     (λ c κs. let w = c.before.before in let s = share w in
     record { long = (start w).requires.added.known.figures.long; row = s.processor; resource = s.resource })
     (λ c κs. let i = c.before in share i.before.before)
-    (λ c. search needs) (λ c. search needs) (λ c. search needs) (λ c κs. search needs) (λ c. search needs) returns_2)
+    (λ c. search rules) (λ c. search rules) (λ c. search rules) (λ c κs. search rules) (λ c. search rules) returns_2)

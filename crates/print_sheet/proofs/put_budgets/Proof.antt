@@ -1,5 +1,5 @@
 -- The invariant: the lines of the processors below `k`, one behind the other.
-use Rattle.print_sheet.proofs.Ground.{◌-◌, arith, needs, most_processors, PutBelow, turns_none, turns_more, turns_room, turns_done}
+use Rattle.print_sheet.proofs.Ground.{◌-◌, arith, rules, most_processors, PutBelow, turns_none, turns_more, turns_room, turns_done}
 use Rattle.print_sheet.proofs.Ground.{plan_of, valid_plan, budget_lines_of}
 use Rattle.print_sheet.specs.Sheet.{budget_lines}
 use Rattle.print_sheet.specs.Inner.{budgets_of_room}
@@ -18,10 +18,10 @@ unfolding budget_lines
 put_budgets_spec =
     tie.close
     (tie.spec
-    invariant-loop decreases-loop (λ c κs. search needs) (λ c κs. search needs)
+    invariant-loop decreases-loop (λ c κs. search rules) (λ c κs. search rules)
     (λ c. let k = c.before.before in let h = k.before.before.before.before.requires in
     turns_none (valid_plan _ h.added.known.plan).processors h.room)
-    (λ c κs. let room = turns_room c.before.before.loop.invariant (omega arith) in search needs) (λ c. omega arith) (λ c. omega arith)
+    (λ c κs. let room = turns_room c.before.before.loop.invariant (omega arith) in search rules) (λ c. omega arith) (λ c. omega arith)
     (λ c. let p = c.before.before in
     turns_more p.before.before.before.loop.invariant (omega arith) p.put-budgets-of.ensures c.before.buf.given)
     (λ c. omega arith) (λ c. turns_done c.before.loop.invariant (omega arith)))

@@ -1,5 +1,5 @@
 -- The budgets, and the hold times behind them.
-use Rattle.print_sheet.proofs.Ground.{needs, put_in_then}
+use Rattle.print_sheet.proofs.Ground.{rules, put_in_then}
 use Rattle.print_sheet.specs.Sheet.{figure_lines}
 use Rattle.print_sheet.proofs.put_figures.Statement.{statement}
 use Rattle.print_sheet.proofs.put_figures.Tie as tie
@@ -9,5 +9,5 @@ unfolding figure_lines
 put_figures_spec =
     tie.close
     (tie.spec
-    (λ c κs. search needs) (λ c κs. search needs) (λ c. search needs)
+    (λ c κs. search rules) (λ c κs. search rules) (λ c. search rules)
     (λ c. let h = c.before.before in put_in_then h.before.before.before.before.put-budgets.ensures h.Put-Holds.ensures))

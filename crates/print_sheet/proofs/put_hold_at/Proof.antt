@@ -1,5 +1,5 @@
 -- The table has 0 exactly where there is no line.
-use Rattle.print_sheet.proofs.Ground.{◌<◌, ◌≡◌, ◌∙◌, arith, needs, most_tasks, most_resources, put_wider, plan_of, Valid, valid_plan}
+use Rattle.print_sheet.proofs.Ground.{◌<◌, ◌≡◌, ◌∙◌, arith, rules, most_tasks, most_resources, put_wider, plan_of, Valid, valid_plan}
 use Rattle.print_sheet.proofs.Ground.{hold_at, hold_room}
 use Rattle.analysis_figures.proofs.Cells.{hold_of_lem}
 use Rattle.print_sheet.proofs.Laws.{line_out, hold_none, hold_some, hold_global, hold_is}
@@ -50,12 +50,12 @@ pub put_hold_at_spec : {M : Type 1} → statement M
 put_hold_at_spec =
     tie.close
     (tie.spec
-    (λ c κs. search needs)
+    (λ c κs. search rules)
     (λ c κs. let a = start c in let l = low a in
     record { long = a.pre.added.known.figures.long; row = l.0; resource = rw c.wide.ensures.same l.1 })
     (λ c. rw (hold_none _ (valid (start c.before.before)) _ _ (told c.before) c.if1.true) (line_out _ _ _))
-    (λ c κs. search needs) longest_of_requires (λ c. search needs) (λ c. search needs) (λ c. search needs) (λ c. search needs)
-    (λ c. search needs)
+    (λ c κs. search rules) longest_of_requires (λ c. search rules) (λ c. search rules) (λ c. search rules) (λ c. search rules)
+    (λ c. search rules)
     (λ c κs. let s = c.before.before.before in let i = s.before.before.before.before in let h = (start i.before.before).requires in
     ((record { plan = h.added.known.plan; below = h.resource }, tt), omega (arith, h.room)))
-    (λ c. search needs) returns_2)
+    (λ c. search rules) returns_2)

@@ -1,5 +1,5 @@
 -- The invariant: the lines of the resources below `q`, one behind the other.
-use Rattle.print_sheet.proofs.Ground.{◌-◌, arith, needs, most_resources, PutBelow, turns_none, turns_more, turns_room, turns_done}
+use Rattle.print_sheet.proofs.Ground.{◌-◌, arith, rules, most_resources, PutBelow, turns_none, turns_more, turns_room, turns_done}
 use Rattle.print_sheet.proofs.Ground.{plan_of, valid_plan, hold_lines_of, hold_room}
 use Rattle.print_sheet.specs.Sheet.{hold_line_at}
 use Rattle.print_sheet.proofs.put_holds_of.Statement.{statement}
@@ -17,10 +17,10 @@ unfolding hold_lines_of
 put_holds_of_spec =
     tie.close
     (tie.spec
-    invariant-loop decreases-loop (λ c κs. search needs)
+    invariant-loop decreases-loop (λ c κs. search rules)
     (λ c. let k = c.before in let h = k.before.before.before.before.requires in
     turns_none (valid_plan _ h.added.known.plan).resources h.room)
-    (λ c κs. let room = turns_room c.before.before.before.loop.invariant (omega arith) in search needs) (λ c. omega arith) (λ c. omega arith)
+    (λ c κs. let room = turns_room c.before.before.before.loop.invariant (omega arith) in search rules) (λ c. omega arith) (λ c. omega arith)
     (λ c. let p = c.before.before in
     turns_more p.before.before.before.before.loop.invariant (omega arith) p.put-hold-at.ensures c.before.buf.given)
     (λ c. omega arith) (λ c. turns_done c.before.before.loop.invariant (omega arith)))

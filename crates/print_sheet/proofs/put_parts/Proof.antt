@@ -1,5 +1,5 @@
 -- One part behind the other.
-use Rattle.print_sheet.proofs.Ground.{arith, needs, put_wider, put_in_then}
+use Rattle.print_sheet.proofs.Ground.{arith, rules, put_wider, put_in_then}
 use Rattle.print_sheet.specs.Sheet.{plan_sheet, most_sheet}
 use Rattle.print_sheet.proofs.Laws.{plan_counts}
 use Rattle.print_sheet.proofs.put_parts.Statement.{statement}
@@ -20,5 +20,5 @@ pub put_parts_spec : {M : Type 1} → statement M
 put_parts_spec =
     tie.close
     (tie.spec
-    (λ c κs. search needs) (λ c κs. search needs) (λ c κs. search needs) (λ c κs. search needs) (λ c κs. search needs)
-    (λ c. search needs) returns)
+    (λ c κs. search rules) (λ c κs. search rules) (λ c κs. search rules) (λ c κs. search rules) (λ c κs. search rules)
+    (λ c. search rules) returns)

@@ -1,5 +1,5 @@
 -- The last field is one of two words.
-use Rattle.print_sheet.proofs.Ground.{arith, needs, put_wider, requirement_room}
+use Rattle.print_sheet.proofs.Ground.{arith, rules, put_wider, requirement_room}
 use mir.Syntax.{w64}
 use mir.Val.{SFits}
 use mir.Facts.{to_z-of_z}
@@ -22,5 +22,5 @@ pub put_requirement_spec : {M : Type 1} → statement M
 put_requirement_spec =
     tie.close
     (tie.spec
-    (λ c. search needs) (λ c. search needs) (λ c κs. search needs) (λ c. search needs) (λ c. search needs)
-    (λ c κs. let w = c.before.before.before in rw w.either.ensures (tt, search needs)) (λ c. search needs) returns)
+    (λ c. search rules) (λ c. search rules) (λ c κs. search rules) (λ c. search rules) (λ c. search rules)
+    (λ c κs. let w = c.before.before.before in rw w.either.ensures (tt, search rules)) (λ c. search rules) returns)

@@ -1,5 +1,5 @@
 -- The table of terms tells whether the task asks.
-use Rattle.print_sheet.proofs.Ground.{◌<◌, ◌≡◌, ◌∙◌, arith, needs, most_tasks, plan_of, valid_plan, global_count}
+use Rattle.print_sheet.proofs.Ground.{◌<◌, ◌≡◌, ◌∙◌, arith, rules, most_tasks, plan_of, valid_plan, global_count}
 use Rattle.print_sheet.proofs.Laws.{requirement_out, requirement_in}
 use Rattle.print_sheet.proofs.put_requirement_at.Statement.{statement}
 use Rattle.print_sheet.proofs.put_requirement_at.Tie as tie
@@ -27,4 +27,4 @@ put_requirement_at_spec =
     (tie.spec
     (λ c κs. ((start c).requires.prepared.terms.long, low (start c)))
     (λ c. requirement_out _ _ (told c.before) _ _ c.if1.true)
-    (λ c κs. search needs) (λ c κs. search needs) (λ c κs. search needs) (λ c. search needs) returns_2)
+    (λ c κs. search rules) (λ c κs. search rules) (λ c κs. search rules) (λ c. search rules) returns_2)

@@ -1,5 +1,5 @@
 -- The invariant: the lines of the tasks below `i`, one behind the other, and whether all of them pass.
-use Rattle.print_sheet.proofs.Ground.{ℕ, ◌-◌, Bool, ◌≡◌, refl, List, arith, needs, most_tasks, PutBelow, turns_none, turns_more}
+use Rattle.print_sheet.proofs.Ground.{ℕ, ◌-◌, Bool, ◌≡◌, refl, List, arith, rules, most_tasks, PutBelow, turns_none, turns_more}
 use Rattle.print_sheet.proofs.Ground.{turns_room, turns_done, plan_of, valid_plan, requirement_at, requirement_room, passes}
 use Rattle.folds.specs.Below.{all_below}
 use Rattle.folds.proofs.Tests.{all_step, all_done}
@@ -42,6 +42,6 @@ pub put_requirements_spec : {M : Type 1} → statement M
 put_requirements_spec =
     tie.close
     (tie.spec
-    invariant-loop decreases-loop (λ c κs. search needs) (λ c κs. search needs) loop_holds
-    (λ c κs. let room = turns_room c.before.before.loop.invariant.put (omega arith) in search needs)
+    invariant-loop decreases-loop (λ c κs. search rules) (λ c κs. search rules) loop_holds
+    (λ c κs. let room = turns_room c.before.before.loop.invariant.put (omega arith) in search rules)
     (λ c. omega arith) (λ c. omega arith) loop_again (λ c. omega arith) returns)

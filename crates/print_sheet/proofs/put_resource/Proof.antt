@@ -1,5 +1,5 @@
 -- The second field is one of two words.
-use Rattle.print_sheet.proofs.Ground.{arith, needs, put_wider, valid_plan, resource_room}
+use Rattle.print_sheet.proofs.Ground.{arith, rules, put_wider, valid_plan, resource_room}
 use Rattle.print_lines.specs.declared.Word.TheVariants.{Global, Local}
 use Rattle.print_sheet.proofs.Laws.{either_text}
 use Rattle.print_sheet.proofs.put_resource.Statement.{statement}
@@ -17,6 +17,6 @@ pub put_resource_spec : {M : Type 1} → statement M
 put_resource_spec =
     tie.close
     (tie.spec
-    (λ c κs. search needs)
+    (λ c κs. search rules)
     (λ c κs. let h = c.before.before.before.before.requires in let v = valid_plan _ h.known.plan in (h.known, omega arith))
-    (λ c κs. search needs) (λ c. search needs) (λ c κs. rw c.before.before.either.ensures (search needs)) (λ c. search needs) returns)
+    (λ c κs. search rules) (λ c. search rules) (λ c κs. rw c.before.before.either.ensures (search rules)) (λ c. search rules) returns)

@@ -1,5 +1,5 @@
 -- The requirements, and behind them whether all are met.
-use Rattle.print_sheet.proofs.Ground.{needs, put_in_then}
+use Rattle.print_sheet.proofs.Ground.{rules, put_in_then}
 use Rattle.print_sheet.specs.Sheet.{verdict_lines}
 use Rattle.print_sheet.proofs.put_verdict.Statement.{statement}
 use Rattle.print_sheet.proofs.put_verdict.Tie as tie
@@ -15,5 +15,5 @@ pub put_verdict_spec : {M : Type 1} → statement M
 put_verdict_spec =
     tie.close
     (tie.spec
-    (λ c. search needs) (λ c κs. search needs) (λ c. search needs) (λ c κs. search needs) (λ c. search needs) (λ c. search needs)
-    (λ c κs. search needs) (λ c κs. search needs) (λ c. search needs) returns)
+    (λ c. search rules) (λ c κs. search rules) (λ c. search rules) (λ c κs. search rules) (λ c. search rules) (λ c. search rules)
+    (λ c κs. search rules) (λ c κs. search rules) (λ c. search rules) returns)

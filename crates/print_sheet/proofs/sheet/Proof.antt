@@ -1,6 +1,6 @@
 -- The plan's own number comes first. A buffer in which every sheet has room takes it as it is put together; another one by way of a
 -- buffer of its own.
-use Rattle.print_sheet.proofs.Ground.{sym, ◌∙◌, arith, needs}
+use Rattle.print_sheet.proofs.Ground.{sym, ◌∙◌, arith, rules}
 use Rattle.print_text.proofs.Lines.{long_line, refused_before, none_before}
 use Rattle.plan_reading.specs.Plan.{Checked}
 use Rattle.plan.proofs.Laws.{accepted_checked}
@@ -41,5 +41,5 @@ pub sheet_spec : {M : Type 1} → statement M
 sheet_spec =
     tie.close
     (tie.spec
-    (λ c κs. search needs) returns (λ c κs. accepted c.before.before) (λ c. search needs) returns_2
-    (λ c κs. (accepted c.before.before, search needs)) (λ c. search needs) returns_3)
+    (λ c κs. search rules) returns (λ c κs. accepted c.before.before) (λ c. search rules) returns_2
+    (λ c κs. (accepted c.before.before, search rules)) (λ c. search rules) returns_3)

@@ -1,5 +1,5 @@
 -- The sheet is put at the front of a buffer of its own, and handed over from there.
-use Rattle.print_sheet.proofs.Ground.{arith, needs}
+use Rattle.print_sheet.proofs.Ground.{arith, rules}
 use Rattle.print_text.proofs.Lines.{front_part, line_short}
 use Rattle.print_sheet.proofs.sheet_aside.Statement.{statement}
 use Rattle.print_sheet.proofs.sheet_aside.Tie as tie
@@ -16,5 +16,5 @@ pub sheet_aside_spec : {M : Type 1} → statement M
 sheet_aside_spec =
     tie.close
     (tie.spec
-    (λ c. search needs) (λ c κs. (c.before.before.before.requires, search needs)) (λ c. search needs) (λ c. search needs)
-    (λ c. search needs) (λ c κs. search needs) (λ c. search needs) returns)
+    (λ c. search rules) (λ c κs. (c.before.before.before.requires, search rules)) (λ c. search rules) (λ c. search rules)
+    (λ c. search rules) (λ c κs. search rules) (λ c. search rules) returns)

@@ -1,5 +1,5 @@
 -- The buffer is too short, or takes the whole line.
-use Rattle.print_text.proofs.Ground.{arith, needs}
+use Rattle.print_text.proofs.Ground.{arith, rules}
 use Rattle.print_text.proofs.Lines.{short_line, long_line}
 use Rattle.print_text.proofs.hand_over.Statement.{statement}
 use Rattle.print_text.proofs.hand_over.Tie as tie
@@ -17,4 +17,4 @@ returns_2 c =
     long_line a.line.now a.out.now (omega (arith, i.if1.false)) p.put.ensures
 
 pub hand_over_spec : {M : Type 1} → statement M
-hand_over_spec = tie.close (tie.spec returns (λ c κs. search needs) (λ c. search needs) returns_2)
+hand_over_spec = tie.close (tie.spec returns (λ c κs. search rules) (λ c. search rules) returns_2)

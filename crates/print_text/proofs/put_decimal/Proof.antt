@@ -1,6 +1,6 @@
 -- The invariant: the buffer with the digits that are left put at `at` is the first buffer with all digits put there.
 use Rattle.print_text.proofs.Ground.{ℕ, suc, ◌+◌, ◌-◌, ◌/◌, ◌%◌, ◌≤◌, ◌<◌, ◌≡◌, refl, sym, ap, ◌∙◌, List, ◌∷◌, ◌++◌, length, take}
-use Rattle.print_text.proofs.Ground.{drop, length-set, take-append-drop, add-zero, arith, needs, decimals}
+use Rattle.print_text.proofs.Ground.{drop, length-set, take-append-drop, add-zero, arith, rules, decimals}
 use Rattle.folds.proofs.Ground.{set, take-set-le, drop-cons, drop-set-lt, get_or-set_same, lt-length-set, append_snoc, add-suc}
 use Rattle.print_text.proofs.TextLaws.{digits_length}
 use Rattle.print_text.proofs.put_decimal.Statement.{statement}
@@ -63,5 +63,5 @@ pub put_decimal_spec : {M : Type 1} → statement M
 put_decimal_spec =
     tie.close
     (tie.spec
-    invariant-loop decreases-loop (λ c κs. search needs) (λ c. record { few = omega arith; same = refl; long = refl }) (λ c. omega arith) (λ c. omega arith)
+    invariant-loop decreases-loop (λ c κs. search rules) (λ c. record { few = omega arith; same = refl; long = refl }) (λ c. omega arith) (λ c. omega arith)
     (λ c. omega arith) (λ c. omega arith) (λ c. omega arith) (λ c. omega arith) loop_again (λ c. omega arith) (λ c. omega arith) returns)

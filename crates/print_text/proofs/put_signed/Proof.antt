@@ -1,5 +1,5 @@
 -- A minus and how far below zero it is, or the digits of what the cast holds.
-use Rattle.print_text.proofs.Ground.{ℕ, true, false, ◌≡◌, List, T, not-suc-le-zero, arith, ltb-true, needs, ℤ, pos, negsuc, nat_abs}
+use Rattle.print_text.proofs.Ground.{ℕ, true, false, ◌≡◌, List, T, not-suc-le-zero, arith, ltb-true, rules, ℤ, pos, negsuc, nat_abs}
 use Rattle.print_text.proofs.Ground.{lt_z, non_neg, w64, Fits, SFits, to_z, of_z, to_z-of_z, quoted, decimal, signed, Put, PutIn}
 use Rattle.folds.proofs.Ground.{true≢false}
 use mir.Facts.{Fits-nat_abs}
@@ -51,6 +51,6 @@ pub put_signed_spec : {M : Type 1} → statement M
 put_signed_spec =
     tie.close
     (tie.spec
-    (λ c. search needs) (λ c κs. search needs) (λ c κs. search needs) (λ c κs. search needs) (λ c. search needs) returns
-    (λ c. casts _ c.before.before.before.ranges.z c.before.if1.false) (λ c κs. search needs) (λ c. search needs)
+    (λ c. search rules) (λ c κs. search rules) (λ c κs. search rules) (λ c κs. search rules) (λ c. search rules) returns
+    (λ c. casts _ c.before.before.before.ranges.z c.before.if1.false) (λ c κs. search rules) (λ c. search rules)
     returns_2)

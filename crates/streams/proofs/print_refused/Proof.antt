@@ -1,5 +1,5 @@
 -- The line fits into its buffer.
-use Rattle.folds.proofs.Ground.{arith, needs}
+use Rattle.folds.proofs.Ground.{arith, rules}
 use Rattle.print_text.proofs.Lines.{line_fits_lem}
 use Rattle.streams.proofs.print_refused.Statement.{statement}
 use Rattle.streams.proofs.print_refused.Tie as tie
@@ -8,5 +8,5 @@ pub print_refused_spec : {M : Type 1} → statement M
 print_refused_spec =
     tie.close
     (tie.spec
-    (λ c. search needs) (λ c κs. search needs) (λ c. search needs) (λ c. search needs)
-    (λ c. omega (arith, line_fits_lem _ _ c.before.before.refused-line.ensures.0)) (λ c κs. search needs) (λ c. search needs))
+    (λ c. search rules) (λ c κs. search rules) (λ c. search rules) (λ c. search rules)
+    (λ c. omega (arith, line_fits_lem _ _ c.before.before.refused-line.ensures.0)) (λ c κs. search rules) (λ c. search rules))

@@ -1,5 +1,5 @@
 -- What came is put at the front, and nothing behind it is touched.
-use Rattle.folds.proofs.Ground.{arith, needs}
+use Rattle.folds.proofs.Ground.{arith, rules}
 use Rattle.streams.proofs.Laws.{came}
 use Rattle.streams.proofs.read_plan.Statement.{statement}
 use Rattle.streams.proofs.read_plan.Tie as tie
@@ -15,5 +15,5 @@ pub read_plan_spec : {M : Type 1} → statement M
 read_plan_spec =
     tie.close
     (tie.spec
-    (λ c κs. search needs) (λ c. search needs) (λ c κs. search needs) (λ c. search needs) (λ c. search needs) (λ c. search needs)
-    (λ c κs. search needs) (λ c. search needs) returns)
+    (λ c κs. search rules) (λ c. search rules) (λ c κs. search rules) (λ c. search rules) (λ c. search rules) (λ c. search rules)
+    (λ c κs. search rules) (λ c. search rules) returns)

@@ -1,5 +1,5 @@
 -- Bytes 14-15 are among the first 16, so what is read behind these does not change them.
-use Rattle.folds.proofs.Ground.{arith, needs}
+use Rattle.folds.proofs.Ground.{arith, rules}
 use Rattle.streams.proofs.Laws.{told_most, told_still, all_plan}
 use Rattle.streams.proofs.read_whole.Statement.{statement}
 use Rattle.streams.proofs.read_whole.Tie as tie
@@ -19,7 +19,7 @@ pub read_whole_spec : {M : Type 1} → statement M
 read_whole_spec =
     tie.close
     (tie.spec
-    (λ c. search needs) (λ c. search needs) (λ c. search needs) (λ c κs. search needs) (λ c. search needs)
-    (λ c. (all_plan _ _ (omega arith) (λ l. omega (arith, c.if1.true)), omega arith)) (λ c κs. search needs)
-    (λ c. search needs) returns_2 (λ c. search needs) (λ c. search needs) (λ c. search needs) (λ c κs. search needs)
-    (λ c. search needs) (λ c. search needs) returns_3)
+    (λ c. search rules) (λ c. search rules) (λ c. search rules) (λ c κs. search rules) (λ c. search rules)
+    (λ c. (all_plan _ _ (omega arith) (λ l. omega (arith, c.if1.true)), omega arith)) (λ c κs. search rules)
+    (λ c. search rules) returns_2 (λ c. search rules) (λ c. search rules) (λ c. search rules) (λ c κs. search rules)
+    (λ c. search rules) (λ c. search rules) returns_3)

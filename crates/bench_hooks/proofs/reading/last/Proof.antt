@@ -1,5 +1,5 @@
 -- Three returns, one for each case of `last_of`.
-use Rattle.bench_hooks.proofs.Ground.{eq-eqb, ne_eqb, needs}
+use Rattle.bench_hooks.proofs.Ground.{eq-eqb, ne_eqb, rules}
 use Rattle.folds.proofs.Ground.{lt-ltb, le-ltb}
 use Rattle.bench_hooks.specs.Reading.{last_of}
 use Rattle.bench_hooks.proofs.reading.last.Statement.{statement}
@@ -10,6 +10,6 @@ unfolding last_of
 last_spec =
     tie.close
     (tie.spec
-    (λ c. (simp (eq-eqb _ _ c.if1.true), search needs))
-    (λ c. (simp (ne_eqb _ _ c.before.if1.false, lt-ltb _ _ c.if2.true), search needs)) (λ c. search needs)
-    (λ c. (simp (ne_eqb _ _ c.before.if1.false, le-ltb _ _ c.if2.false), search needs)))
+    (λ c. (simp (eq-eqb _ _ c.if1.true), search rules))
+    (λ c. (simp (ne_eqb _ _ c.before.if1.false, lt-ltb _ _ c.if2.true), search rules)) (λ c. search rules)
+    (λ c. (simp (ne_eqb _ _ c.before.if1.false, le-ltb _ _ c.if2.false), search rules)))

@@ -1,5 +1,5 @@
 -- The cases of the answer are those of the number.
-use Rattle.bench_hooks.proofs.Ground.{sym, ap, ◌∙◌, arith, eq-eqb, ne_eqb, needs}
+use Rattle.bench_hooks.proofs.Ground.{sym, ap, ◌∙◌, arith, eq-eqb, ne_eqb, rules}
 use Rattle.plan.specs.declared.Reading.{Reading}
 use Rattle.plan.proofs.Laws.{got_plan, got_refusal}
 use Rattle.bench_hooks.specs.Reading.{read_number}
@@ -27,5 +27,5 @@ pub plan_read_spec : {M : Type 1} → statement M
 plan_read_spec =
     tie.close
     (tie.spec
-    (λ c κs. search needs) (λ c. search needs) (λ c κs. search needs) (λ c. search needs) (λ c. search needs)
-    (λ c κs. search needs) returns returns_2)
+    (λ c κs. search rules) (λ c. search rules) (λ c κs. search rules) (λ c. search rules) (λ c. search rules)
+    (λ c κs. search rules) returns returns_2)

@@ -1,5 +1,5 @@
 -- The two parts of the answer, as one number.
-use Rattle.bench_hooks.proofs.Ground.{◌*◌, ap, needs}
+use Rattle.bench_hooks.proofs.Ground.{◌*◌, ap, rules}
 use Rattle.folds.proofs.Ground.{◌+◌}
 use Rattle.print_text.specs.declared.Handed.{Handed}
 use Rattle.bench_hooks.specs.Sheets.{sheet_number}
@@ -11,6 +11,6 @@ unfolding sheet_number
 plan_sheet_spec =
     tie.close
     (tie.spec
-    (λ c κs. search needs) (λ c κs. search needs) (λ c. search needs) (λ c. search needs) (λ c. search needs)
+    (λ c κs. search rules) (λ c κs. search rules) (λ c. search rules) (λ c. search rules) (λ c. search rules)
     (λ c. let s = c.before.before.before.sheet.ensures in
     (rw c.byte.ensures.same (ap (λ (r : Handed). r.refusal + 256 * r.length) s.0), s.1.0)))

@@ -1,5 +1,5 @@
 -- `cases::asked::holds` is safe and ends: the measure is the times that are left. Assumes nothing.
-use Rattle.cases.proofs.Ground.{◌≤◌, ◌-◌, needs}
+use Rattle.cases.proofs.Ground.{◌≤◌, ◌-◌, rules}
 use Rattle.cases.proofs.asked.holds.Statement.{statement}
 use Rattle.cases.proofs.asked.holds.Tie as tie
 
@@ -13,6 +13,6 @@ pub holds_spec : {M : Type 1} → statement M
 holds_spec =
     tie.close
     (tie.spec
-    invariant-loop decreases-loop (λ c κs. search needs) (λ c κs. search needs) (λ c. search needs) (λ c. search needs) (λ c κs. search needs)
-    (λ c. search needs) (λ c. search needs) (λ c. search needs) (λ c. search needs) (λ c. search needs) (λ c. search needs)
-    (λ c κs. search needs) (λ c. search needs) (λ c. search needs) (λ c. search needs) (λ c. search needs))
+    invariant-loop decreases-loop (λ c κs. search rules) (λ c κs. search rules) (λ c. search rules) (λ c. search rules) (λ c κs. search rules)
+    (λ c. search rules) (λ c. search rules) (λ c. search rules) (λ c. search rules) (λ c. search rules) (λ c. search rules)
+    (λ c κs. search rules) (λ c. search rules) (λ c. search rules) (λ c. search rules) (λ c. search rules))

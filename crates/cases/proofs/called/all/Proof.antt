@@ -1,5 +1,5 @@
 -- `cases::called::all` is safe and ends: the measure is the calls that are left. Assumes nothing.
-use Rattle.cases.proofs.Ground.{◌≤◌, ◌-◌, needs}
+use Rattle.cases.proofs.Ground.{◌≤◌, ◌-◌, rules}
 use Rattle.cases.proofs.called.all.Statement.{statement}
 use Rattle.cases.proofs.called.all.Tie as tie
 
@@ -13,4 +13,4 @@ pub all_spec : {M : Type 1} → statement M
 all_spec =
     tie.close
     (tie.spec
-    invariant-loop decreases-loop (λ c κs. search needs) (λ c κs. search needs) (λ c. search needs) (λ c κs. search needs) (λ c κs. search needs) (λ c κs. search needs) (λ c. search needs) (λ c. search needs) (λ c. search needs) (λ c. search needs))
+    invariant-loop decreases-loop (λ c κs. search rules) (λ c κs. search rules) (λ c. search rules) (λ c κs. search rules) (λ c κs. search rules) (λ c κs. search rules) (λ c. search rules) (λ c. search rules) (λ c. search rules) (λ c. search rules))

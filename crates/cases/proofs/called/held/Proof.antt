@@ -1,5 +1,5 @@
 -- `cases::called::held` is safe and ends: the measure is the resources that are left. Assumes nothing.
-use Rattle.cases.proofs.Ground.{◌≤◌, ◌-◌, needs}
+use Rattle.cases.proofs.Ground.{◌≤◌, ◌-◌, rules}
 use Rattle.cases.proofs.called.held.Statement.{statement}
 use Rattle.cases.proofs.called.held.Tie as tie
 
@@ -13,6 +13,6 @@ pub held_spec : {M : Type 1} → statement M
 held_spec =
     tie.close
     (tie.spec
-    invariant-loop decreases-loop (λ c. search needs) (λ c. search needs) (λ c. search needs) (λ c. search needs) (λ c κs. search needs)
-    (λ c. search needs) (λ c. search needs) (λ c. search needs) (λ c. search needs) (λ c. search needs) (λ c κs. search needs)
-    (λ c. search needs))
+    invariant-loop decreases-loop (λ c. search rules) (λ c. search rules) (λ c. search rules) (λ c. search rules) (λ c κs. search rules)
+    (λ c. search rules) (λ c. search rules) (λ c. search rules) (λ c. search rules) (λ c. search rules) (λ c κs. search rules)
+    (λ c. search rules))

@@ -1,5 +1,5 @@
 -- `cases::given::copy` is safe and ends: the measure is as many bytes as are left to copy. Assumes nothing.
-use Rattle.cases.proofs.Ground.{◌≤◌, ◌-◌, ◌≡◌, length, needs}
+use Rattle.cases.proofs.Ground.{◌≤◌, ◌-◌, ◌≡◌, length, rules}
 use Rattle.cases.proofs.given.copy.Statement.{statement}
 use Rattle.cases.proofs.given.copy.Tie as tie
 
@@ -13,5 +13,5 @@ pub copy_spec : {M : Type 1} → statement M
 copy_spec =
     tie.close
     (tie.spec
-    invariant-loop decreases-loop (λ c. search needs) (λ c. search needs) (λ c. search needs) (λ c. search needs) (λ c. search needs)
-    (λ c. search needs) (λ c. search needs) (λ c. search needs) (λ c. search needs) (λ c. search needs))
+    invariant-loop decreases-loop (λ c. search rules) (λ c. search rules) (λ c. search rules) (λ c. search rules) (λ c. search rules)
+    (λ c. search rules) (λ c. search rules) (λ c. search rules) (λ c. search rules) (λ c. search rules))

@@ -1,5 +1,5 @@
 -- `cases::given::lengths` is safe and ends: the measure is the lengths that are left. Assumes nothing.
-use Rattle.cases.proofs.Ground.{◌≤◌, ◌-◌, ◌≡◌, length, needs}
+use Rattle.cases.proofs.Ground.{◌≤◌, ◌-◌, ◌≡◌, length, rules}
 use Rattle.cases.proofs.given.lengths.Statement.{statement}
 use Rattle.cases.proofs.given.lengths.Tie as tie
 
@@ -13,5 +13,5 @@ pub lengths_spec : {M : Type 1} → statement M
 lengths_spec =
     tie.close
     (tie.spec
-    invariant-loop decreases-loop (λ c. search needs) (λ c κs. search needs) (λ c. search needs) (λ c. search needs) (λ c. search needs)
-    (λ c. search needs) (λ c. search needs))
+    invariant-loop decreases-loop (λ c. search rules) (λ c κs. search rules) (λ c. search rules) (λ c. search rules) (λ c. search rules)
+    (λ c. search rules) (λ c. search rules))

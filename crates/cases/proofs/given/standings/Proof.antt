@@ -1,5 +1,5 @@
 -- `cases::given::standings` is safe and ends: the measure is the rows that are left. Assumes nothing.
-use Rattle.cases.proofs.Ground.{◌≤◌, ◌-◌, ◌≡◌, length, needs}
+use Rattle.cases.proofs.Ground.{◌≤◌, ◌-◌, ◌≡◌, length, rules}
 use Rattle.cases.proofs.given.standings.Statement.{statement}
 use Rattle.cases.proofs.given.standings.Tie as tie
 
@@ -13,5 +13,5 @@ pub standings_spec : {M : Type 1} → statement M
 standings_spec =
     tie.close
     (tie.spec
-    invariant-loop decreases-loop (λ c κs. search needs) (λ c. search needs) (λ c. search needs) (λ c κs. search needs) (λ c. search needs)
-    (λ c. search needs) (λ c. search needs) (λ c. search needs) (λ c. search needs) (λ c. search needs))
+    invariant-loop decreases-loop (λ c κs. search rules) (λ c. search rules) (λ c. search rules) (λ c κs. search rules) (λ c. search rules)
+    (λ c. search rules) (λ c. search rules) (λ c. search rules) (λ c. search rules) (λ c. search rules))

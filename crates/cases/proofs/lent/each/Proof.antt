@@ -1,5 +1,5 @@
 -- `cases::lent::each` is safe and ends: the measure is the bytes that are left. Assumes nothing.
-use Rattle.cases.proofs.Ground.{ℕ, ◌≤◌, ◌-◌, ◌≡◌, List, length, needs}
+use Rattle.cases.proofs.Ground.{ℕ, ◌≤◌, ◌-◌, ◌≡◌, List, length, rules}
 use Rattle.cases.proofs.lent.each.Statement.{statement}
 use Rattle.cases.proofs.lent.each.Tie as tie
 
@@ -21,8 +21,8 @@ pub each_spec : {M : Type 1} → statement M
 each_spec =
     tie.close
     (tie.spec
-    invariant-loop decreases-loop (λ c κs. search needs) (λ c κs. search needs) (λ c κs. search needs) (λ c κs. search needs)
-    (λ c κs. search needs) (λ c. search needs) (λ c. search needs) (λ c κs. search needs) (λ c κs. search needs)
-    (λ c. search needs) (λ c κs. search needs) (λ c. search needs) (λ c κs. search needs) (λ c. search needs)
-    (λ c. search needs) (λ c. search needs) (λ c. search needs) (λ c. search needs) (λ c κs. search needs)
-    (λ c κs. search needs) (λ c κs. search needs) (λ c κs. search needs) (λ c. search needs))
+    invariant-loop decreases-loop (λ c κs. search rules) (λ c κs. search rules) (λ c κs. search rules) (λ c κs. search rules)
+    (λ c κs. search rules) (λ c. search rules) (λ c. search rules) (λ c κs. search rules) (λ c κs. search rules)
+    (λ c. search rules) (λ c κs. search rules) (λ c. search rules) (λ c κs. search rules) (λ c. search rules)
+    (λ c. search rules) (λ c. search rules) (λ c. search rules) (λ c. search rules) (λ c κs. search rules)
+    (λ c κs. search rules) (λ c κs. search rules) (λ c κs. search rules) (λ c. search rules))

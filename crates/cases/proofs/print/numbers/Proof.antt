@@ -1,5 +1,5 @@
 -- `cases::print::numbers` is safe and ends: the measure is the bytes that are left. Assumes nothing.
-use Rattle.cases.proofs.Ground.{◌≤◌, ◌-◌, ◌≡◌, length, needs}
+use Rattle.cases.proofs.Ground.{◌≤◌, ◌-◌, ◌≡◌, length, rules}
 use Rattle.cases.proofs.print.numbers.Statement.{statement}
 use Rattle.cases.proofs.print.numbers.Tie as tie
 
@@ -13,6 +13,6 @@ pub numbers_spec : {M : Type 1} → statement M
 numbers_spec =
     tie.close
     (tie.spec
-    invariant-loop decreases-loop (λ c. search needs) (λ c. search needs) (λ c κs. search needs) (λ c. search needs) (λ c. search needs)
-    (λ c κs. search needs) (λ c. search needs) (λ c. search needs) (λ c. search needs) (λ c. search needs)
-    (λ c κs. search needs) (λ c κs. search needs) (λ c. search needs))
+    invariant-loop decreases-loop (λ c. search rules) (λ c. search rules) (λ c κs. search rules) (λ c. search rules) (λ c. search rules)
+    (λ c κs. search rules) (λ c. search rules) (λ c. search rules) (λ c. search rules) (λ c. search rules)
+    (λ c κs. search rules) (λ c κs. search rules) (λ c. search rules))

@@ -1,5 +1,5 @@
 -- `cases::same::bytes` is safe and ends: the measure is the bytes that are left. Assumes nothing.
-use Rattle.cases.proofs.Ground.{◌≤◌, ◌-◌, length, needs}
+use Rattle.cases.proofs.Ground.{◌≤◌, ◌-◌, length, rules}
 use Rattle.cases.proofs.same.bytes.Statement.{statement}
 use Rattle.cases.proofs.same.bytes.Tie as tie
 
@@ -13,5 +13,5 @@ pub bytes_spec : {M : Type 1} → statement M
 bytes_spec =
     tie.close
     (tie.spec
-    invariant-loop decreases-loop (λ c. search needs) (λ c. search needs) (λ c. search needs) (λ c. search needs) (λ c. search needs)
-    (λ c. search needs) (λ c. search needs) (λ c. search needs))
+    invariant-loop decreases-loop (λ c. search rules) (λ c. search rules) (λ c. search rules) (λ c. search rules) (λ c. search rules)
+    (λ c. search rules) (λ c. search rules) (λ c. search rules))

@@ -1,5 +1,5 @@
 -- `cases::same::standings` is safe and ends: the measure is the rows that are left. Assumes nothing.
-use Rattle.cases.proofs.Ground.{◌≤◌, ◌-◌, needs}
+use Rattle.cases.proofs.Ground.{◌≤◌, ◌-◌, rules}
 use Rattle.cases.proofs.same.standings.Statement.{statement}
 use Rattle.cases.proofs.same.standings.Tie as tie
 
@@ -13,5 +13,5 @@ pub standings_spec : {M : Type 1} → statement M
 standings_spec =
     tie.close
     (tie.spec
-    invariant-loop decreases-loop (λ c. search needs) (λ c. search needs) (λ c. search needs) (λ c. search needs) (λ c. search needs)
-    (λ c. search needs) (λ c. search needs) (λ c. search needs) (λ c. search needs))
+    invariant-loop decreases-loop (λ c. search rules) (λ c. search rules) (λ c. search rules) (λ c. search rules) (λ c. search rules)
+    (λ c. search rules) (λ c. search rules) (λ c. search rules) (λ c. search rules))

@@ -1,5 +1,5 @@
 -- The state is not sound, the call is refused, or it is made.
-use Rattle.machine.proofs.Ground.{true, ◌≡◌, sym, ◌∙◌, arith, not-false, needs, plan_of, sound}
+use Rattle.machine.proofs.Ground.{true, ◌≡◌, sym, ◌∙◌, arith, not-false, rules, plan_of, sound}
 use Rattle.folds.proofs.Ground.{not-true}
 use Rattle.machine.proofs.Answered.{refused_reply}
 use Rattle.machine.proofs.Replied.{unsound_code, sound_code, acted_reply}
@@ -14,14 +14,14 @@ abbrev start : tie.After-seat-tasks → tie.Start
 start c = c.before.before.before.before
 
 sound_is : (c : tie.Else1) → let a = (start (seated c)).args in sound (plan_of a.file.now) a.state ≡ true
-sound_is c = sym (seated c).seat-tasks.ensures.sound ∙ not-false _ c.if1.false
+sound_is c = sym (seated c).seat-tasks.ensures.sound ∙ c.if1.false
 
 -- ── the needs ──
 returns : tie.Need-returns
 returns c =
     let then = c.before in
     let s = then.before.before.before in
-    let e = sym s.seat-tasks.ensures.sound ∙ not-true _ then.if1.true in
+    let e = sym s.seat-tasks.ensures.sound ∙ then.if1.true in
     rw c.refuse.ensures (refused_reply _ _ _ (unsound_code _ (start s).requires.none _ _ e) (λ z. omega arith))
 
 returns_2 : tie.Need-returns-2
@@ -37,7 +37,7 @@ make_requires c κs =
     let else = code.before.before.before in
     let sound = sound_is else in
     let zero = sym code.before.call-code.ensures ∙ code.if2.false in
-    search needs
+    search rules
 
 returns_3 : tie.Need-returns-3
 returns_3 c =
@@ -49,6 +49,6 @@ pub act_spec : {M : Type 1} → statement M
 act_spec =
     tie.close
     (tie.spec
-    (λ c. search needs) (λ c κs. (c.before.before.before.requires.known, search needs)) (λ c κs. search needs) returns
-    (λ c. search needs) (λ c κs. let sound = sound_is c.before in search needs) (λ c κs. search needs) returns_2
-    (λ c. search needs) (λ c. search needs) make_requires returns_3)
+    (λ c. search rules) (λ c κs. (c.before.before.before.requires.known, search rules)) (λ c κs. search rules) returns
+    (λ c. search rules) (λ c κs. let sound = sound_is c.before in search rules) (λ c κs. search rules) returns_2
+    (λ c. search rules) (λ c. search rules) make_requires returns_3)

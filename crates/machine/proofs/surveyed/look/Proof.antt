@@ -1,5 +1,5 @@
 -- The number of the reading, or the figures of a plan that is accepted.
-use Rattle.machine.proofs.Ground.{refl, sym, ◌∙◌, needs, accepted_checked}
+use Rattle.machine.proofs.Ground.{refl, sym, ◌∙◌, rules, accepted_checked}
 use Rattle.machine.proofs.surveyed.look.Statement.{statement}
 use Rattle.machine.proofs.surveyed.look.Tie as tie
 
@@ -13,8 +13,8 @@ fill_figures_requires c κs =
 
 pub look_spec : {M : Type 1} → statement M
 look_spec = tie.close (tie.spec
-    (λ c κs. search needs)
+    (λ c κs. search rules)
     (λ c. (record { refusal = c.before.check.ensures; known = λ z. absurd (c.if1.true z) }, λ d. refl))
-    fill_figures_requires (λ c. search needs)
+    fill_figures_requires (λ c. search rules)
     (λ c. let h = c.before.before in let i = h.before.before in
     (record { refusal = sym i.if1.false ∙ i.before.check.ensures; known = λ z. h.fill-figures.ensures }, λ d. absurd (d refl))))

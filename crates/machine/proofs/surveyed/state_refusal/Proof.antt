@@ -1,5 +1,5 @@
 -- The number of the plan; else the tables of the state tell whether it is sound.
-use Rattle.machine.proofs.Ground.{◌≡◌, sym, ◌∙◌, eq-eqb, ne_eqb, needs, refusal}
+use Rattle.machine.proofs.Ground.{◌≡◌, sym, ◌∙◌, eq-eqb, ne_eqb, rules, refusal}
 use Rattle.machine.proofs.surveyed.state_refusal.Statement.{statement}
 use Rattle.machine.proofs.surveyed.state_refusal.Tie as tie
 
@@ -14,7 +14,7 @@ pub state_refusal_spec : {M : Type 1} → statement M
 state_refusal_spec =
     tie.close
     (tie.spec
-    (λ c. rw (← c.before.before.before.requires.refusal, ne_eqb _ _ c.if1.true)) (λ c. search needs)
-    (λ c κs. ((start c).requires.known c.before.if1.false, search needs))
+    (λ c. rw (← c.before.before.before.requires.refusal, ne_eqb _ _ c.if1.true)) (λ c. search rules)
+    (λ c κs. ((start c).requires.known c.before.if1.false, search rules))
     (λ c. let s = c.before.before in rw (eq-eqb _ _ (accepted s.before), ← s.seat-tasks.ensures.sound, c.if2.true))
     (λ c. let s = c.before.before in rw (eq-eqb _ _ (accepted s.before), ← s.seat-tasks.ensures.sound, c.if2.false)))

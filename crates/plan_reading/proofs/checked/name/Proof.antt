@@ -1,5 +1,5 @@
 -- The part from the name's start to its end lies in the file, as the checks of the resource rows gave.
-use Rattle.plan_reading.proofs.Ground.{ℕ, ◌+◌, ◌≤◌, ◌≡◌, ap, ◌∙◌, length, length-drop, arith, needs, part_rest, counts_of}
+use Rattle.plan_reading.proofs.Ground.{ℕ, ◌+◌, ◌≤◌, ◌≡◌, ap, ◌∙◌, length, length-drop, arith, rules, part_rest, counts_of}
 use Rattle.plan_reading.proofs.Ground.{resources_at, names_at, name_part}
 use Rattle.folds.proofs.Parts.{part_span}
 use Rattle.plan_reading.proofs.Laws.{Named, start_in, length_in, name_facts, name_said, plan_resources}
@@ -59,6 +59,6 @@ pub name_spec : {M : Type 1} → statement M
 name_spec =
     tie.close
     (tie.spec
-    (λ c κs. (asked c.before).whole.header.long) (λ c κs. search needs) (λ c. omega (arith, inside c)) (λ c. omega (arith, inside c))
-    (λ c. search needs) (λ c κs. search needs) resource_at_requires (λ c κs. search needs) (λ c. search needs) (λ c κs. search needs)
-    (λ c. search needs) (λ c. search needs) (λ c. search needs) part_result_end returns)
+    (λ c κs. (asked c.before).whole.header.long) (λ c κs. search rules) (λ c. omega (arith, inside c)) (λ c. omega (arith, inside c))
+    (λ c. search rules) (λ c κs. search rules) resource_at_requires (λ c κs. search rules) (λ c. search rules) (λ c κs. search rules)
+    (λ c. search rules) (λ c. search rules) (λ c. search rules) part_result_end returns)

@@ -1,5 +1,5 @@
 -- A row of the plan lies in the part of a checked file that begins at the section rows.
-use Rattle.plan_reading.proofs.Ground.{◌≤◌, ◌≡◌, ap, ◌∙◌, length, length-drop, arith, needs, part_rest, counts_of, sections_at, plan_of}
+use Rattle.plan_reading.proofs.Ground.{◌≤◌, ◌≡◌, ap, ◌∙◌, length, length-drop, arith, rules, part_rest, counts_of, sections_at, plan_of}
 use Rattle.plan_reading.proofs.Laws.{whole_facts, plan_sections}
 use Rattle.plan_reading.proofs.checked.section.Statement.{statement}
 use Rattle.plan_reading.proofs.checked.section.Tie as tie
@@ -25,5 +25,5 @@ pub section_spec : {M : Type 1} → statement M
 section_spec =
     tie.close
     (tie.spec
-    (λ c κs. (whole_facts _ c.before.pre.0.none).header.long) (λ c κs. search needs) (λ c. omega (arith, inside c))
-    (λ c. omega (arith, inside c)) (λ c. search needs) section_at_requires returns)
+    (λ c κs. (whole_facts _ c.before.pre.0.none).header.long) (λ c κs. search rules) (λ c. omega (arith, inside c))
+    (λ c. omega (arith, inside c)) (λ c. search rules) section_at_requires returns)

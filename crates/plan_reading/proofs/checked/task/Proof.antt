@@ -1,5 +1,5 @@
 -- A row of the plan lies in the part of a checked file that begins at the task rows.
-use Rattle.plan_reading.proofs.Ground.{length-drop, arith, needs, part_rest, plan_of}
+use Rattle.plan_reading.proofs.Ground.{length-drop, arith, rules, part_rest, plan_of}
 use Rattle.plan_reading.proofs.Laws.{whole_facts, plan_tasks}
 use Rattle.plan_reading.proofs.checked.task.Statement.{statement}
 use Rattle.plan_reading.proofs.checked.task.Tie as tie
@@ -19,4 +19,4 @@ task_spec =
     tie.close
     (tie.spec
     (λ c. omega (arith, (whole_facts _ c.before.pre.0.none).header.long))
-    (λ c. omega (arith, (whole_facts _ c.before.pre.0.none).header.long)) (λ c. search needs) task_at_requires returns)
+    (λ c. omega (arith, (whole_facts _ c.before.pre.0.none).header.long)) (λ c. search rules) task_at_requires returns)

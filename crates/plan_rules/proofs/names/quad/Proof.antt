@@ -1,5 +1,5 @@
 -- The sum of the four bytes, each times its power.
-use Rattle.plan_rules.proofs.Ground.{add_assoc, arith, needs, number}
+use Rattle.plan_rules.proofs.Ground.{add_assoc, arith, rules, number}
 use Rattle.plan_rules.proofs.names.quad.Statement.{statement}
 use Rattle.plan_rules.proofs.names.quad.Tie as tie
 
@@ -11,6 +11,6 @@ pub quad_spec : {M : Type 1} → statement M
 quad_spec =
     tie.close
     (tie.spec
-    (λ c. search needs) (λ c κs. search needs) (λ c. search needs) (λ c. search needs) (λ c κs. search needs) (λ c. search needs)
-    (λ c. search needs) (λ c. search needs) (λ c. search needs) (λ c κs. search needs) (λ c. search needs) (λ c. search needs)
-    (λ c κs. search needs) (λ c. search needs) (λ c. search needs) (λ c. search needs) (λ c. search needs) returns)
+    (λ c. search rules) (λ c κs. search rules) (λ c. search rules) (λ c. search rules) (λ c κs. search rules) (λ c. search rules)
+    (λ c. search rules) (λ c. search rules) (λ c. search rules) (λ c κs. search rules) (λ c. search rules) (λ c. search rules)
+    (λ c κs. search rules) (λ c. search rules) (λ c. search rules) (λ c. search rules) (λ c. search rules) returns)
