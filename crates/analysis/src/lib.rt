@@ -23,35 +23,35 @@ use analysis_requirements::Requirement;
 pub const HOLDS: usize = analysis_figures::HOLDS;
 
 // A hold time, a longest wait, a budget or a wait time, or why none is given.
-#[derive(Drop)]
+#[derive(Clone, Copy)]
 pub enum Figure {
     Given(u32),
     Refused(u8),
 }
 
 // A task's requirement, or why there is none.
-#[derive(Drop)]
+#[derive(Clone, Copy)]
 pub enum RequirementAnswer {
     Found(Requirement),
     Refused(u8),
 }
 
 // Whether a plan is admitted, or why that is not decided.
-#[derive(Drop)]
+#[derive(Clone, Copy)]
 pub enum AdmissionAnswer {
     Decided(bool),
     Refused(u8),
 }
 
 // All hold times of a plan, that of resource q by task i at i * RESOURCES + q; all 0 where the plan is refused.
-#[derive(Drop)]
+#[derive(Clone, Copy)]
 pub struct HoldTimes {
     pub times: [u16; HOLDS],
     pub refusal: u8,
 }
 
 // A processor's budget on a resource, and its wait time.
-#[derive(Drop)]
+#[derive(Clone, Copy)]
 struct BudgetAndWait {
     budget: u16,
     wait: u32,

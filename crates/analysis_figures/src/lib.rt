@@ -14,7 +14,7 @@ ghost use Rattle.analysis_figures.specs.Figures.{hold_cell, budget_cell, Known, 
 ghost use Rattle.analysis_figures.specs.Inner.{Unheld};
 
 // A task and a resource that were asked about: why not, 0 for no refusal, and the number of the task.
-#[derive(Drop)]
+#[derive(Clone, Copy)]
 pub struct User {
     pub code: u8,
     pub task: usize,

@@ -16,7 +16,7 @@ ghost use Rattle.analysis_requirements.specs.Inner.{TaskTerms, HigherTasks, Time
 use analysis_terms::{BLOCKED, COUNTS, PRECEDENCES};
 
 // What a task's requirement compares: met when the waiting side is at most the slack.
-#[derive(Drop)]
+#[derive(Clone, Copy)]
 pub struct Requirement {
     pub blocking1: u32,
     pub blocking2: u32,
@@ -27,7 +27,7 @@ pub struct Requirement {
 }
 
 // The tasks above a task: how many, and the period and execution time of each, from the front.
-#[derive(Drop)]
+#[derive(Clone, Copy)]
 struct Higher {
     count: usize,
     periods: [u32; sizes::TASKS],

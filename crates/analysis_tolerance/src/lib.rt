@@ -13,7 +13,7 @@ ghost use Rattle.analysis_tolerance.specs.Periods.{Counted, Passed};
 use analysis_terms::PRECEDENCES;
 
 // The tasks above a task: how many, and the period and execution time of each, from the front.
-#[derive(Drop)]
+#[derive(Clone, Copy)]
 struct Higher {
     count: usize,
     periods: [u32; sizes::TASKS],

@@ -14,7 +14,7 @@ ghost use Rattle.analysis_totals.specs.Totals.{users_cell, wait_cell, total_coun
 ghost use Rattle.analysis_totals.specs.Inner.{TaskAddable, TaskAdded, WaitsBelow, Waiting};
 
 // The fellows of a task on a resource: how many, and their hold times added up.
-#[derive(Drop)]
+#[derive(Clone, Copy)]
 pub struct Fellows {
     pub count: u32,
     pub holds: u32,

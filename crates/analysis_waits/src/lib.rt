@@ -8,7 +8,7 @@ ghost use Rattle.analysis_totals.specs.Totals.{SharingTask};
 ghost use Rattle.machine_rules.specs.Longest.{fellows, longest_wait};
 
 // How many fellows a task has on a resource, and how long it waits at most.
-#[derive(Drop)]
+#[derive(Clone, Copy)]
 pub struct Longest {
     pub fellows: u32,
     pub wait: u32,

@@ -7,7 +7,7 @@ use machine_state::{LineRow, Standing, State};
 use plan_rules::TaskRow;
 
 // What a call gave, its answer printed: whether it was refused, and the next state.
-#[derive(Drop)]
+#[derive(Clone, Copy)]
 struct Outcome {
     refused: bool,
     state: State,

@@ -9,7 +9,7 @@ const LENT: usize = 65536;
 const UNSOUND: u64 = refusals::UNSOUND_IMAGE as u64;
 
 // What came of a call: its word, or nothing where it is none.
-#[derive(Drop)]
+#[derive(Clone, Copy)]
 enum Made {
     Word(u64),
     Nothing,

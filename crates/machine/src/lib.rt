@@ -22,7 +22,7 @@ use machine_state::State;
 pub mod surveyed;
 
 // The answer to a tick, the number of cuts in it, and the next state.
-#[derive(Drop)]
+#[derive(Clone, Copy)]
 pub struct TickReply {
     pub answer: Answer,
     pub cut_count: u32,
@@ -30,7 +30,7 @@ pub struct TickReply {
 }
 
 // Why the plan is refused, 0 where it is not; and the fresh state, in both cases.
-#[derive(Drop)]
+#[derive(Clone, Copy)]
 pub struct Started {
     pub refusal: u8,
     pub state: State,

@@ -12,7 +12,7 @@ use machine_rules::Call;
 pub const WIDTH: usize = 3;
 
 // The letter, the tag and the resource of a call, of whatever width its tag is.
-#[derive(Drop)]
+#[derive(Clone, Copy)]
 pub struct CallBytes {
     pub letter: u8,
     pub tag: u16,
@@ -20,7 +20,7 @@ pub struct CallBytes {
 }
 
 // The call, where there is one.
-#[derive(Drop)]
+#[derive(Clone, Copy)]
 pub struct Decoded {
     pub known: bool,
     pub call: Call,

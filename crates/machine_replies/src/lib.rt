@@ -14,14 +14,14 @@ use machine_rules::{Answer, Call};
 use machine_state::{LineRow, State};
 
 // The answer to a call, and the next state.
-#[derive(Drop)]
+#[derive(Clone, Copy)]
 pub struct Reply {
     pub answer: Answer,
     pub state: State,
 }
 
 // A task, why it or a resource is refused, and whether it holds that.
-#[derive(Drop)]
+#[derive(Clone, Copy)]
 struct Named {
     code: u8,
     task: usize,

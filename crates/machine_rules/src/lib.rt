@@ -2,7 +2,7 @@
 #![tactic(auto)]
 
 // A request, a release or a give-up, each of a tag and a resource, or a tick.
-#[derive(Drop)]
+#[derive(Clone, Copy)]
 pub enum Call {
     Request(u16, u8),
     Release(u16, u8),
@@ -10,7 +10,7 @@ pub enum Call {
     Tick,
 }
 
-#[derive(Drop)]
+#[derive(Clone, Copy)]
 pub enum Answer {
     Granted,
     // The number of tasks ahead, and the limit.

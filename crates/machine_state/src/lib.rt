@@ -35,7 +35,7 @@ const RESOURCES: u8 = sizes::RESOURCES as u8;
 const PROCESSORS: u8 = sizes::PROCESSORS as u8;
 
 // A task: the resource it is in line for, and its place in its processor's queue for it, from 0; 255 and 255 for none.
-#[derive(Drop)]
+#[derive(Clone, Copy)]
 pub struct Standing {
     pub resource: u8,
     pub place: u8,
@@ -43,7 +43,7 @@ pub struct Standing {
 
 // A resource: the number of processors queued, and they in order, then 255; the ticks left of the hold and of the head's budget,
 // 0 where it is free.
-#[derive(Drop)]
+#[derive(Clone, Copy)]
 pub struct LineRow {
     pub queued: u8,
     pub queue: [u8; sizes::PROCESSORS],
@@ -51,14 +51,14 @@ pub struct LineRow {
     pub budget_left: u16,
 }
 
-#[derive(Drop)]
+#[derive(Clone, Copy)]
 pub struct State {
     pub lines: [LineRow; sizes::RESOURCES],
     pub tasks: [Standing; sizes::TASKS],
 }
 
 // The seats of the tasks of a state, and whether it is sound.
-#[derive(Drop)]
+#[derive(Clone, Copy)]
 pub struct Seated {
     pub keys: [u16; sizes::TASKS],
     pub sound: bool,

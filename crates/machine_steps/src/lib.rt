@@ -23,7 +23,7 @@ const MARKS: usize = QUEUES + 1;
 const LAST: usize = sizes::PROCESSORS - 1;
 
 // The tasks ahead in a queue: how many, and the sum of their hold times.
-#[derive(Drop)]
+#[derive(Clone, Copy)]
 pub struct Ahead {
     pub count: u8,
     pub holds: u32,
@@ -31,7 +31,7 @@ pub struct Ahead {
 
 // What a tick makes of the lines: they after it, a mark for each queue that loses its first, the resources cut, and those of them
 // with a new grant.
-#[derive(Drop)]
+#[derive(Clone, Copy)]
 struct Stepped {
     lines: [LineRow; sizes::RESOURCES],
     marks: [u8; MARKS],
@@ -40,7 +40,7 @@ struct Stepped {
 }
 
 // The state after a tick, the resources cut, and those of them with a new grant.
-#[derive(Drop)]
+#[derive(Clone, Copy)]
 pub struct Ticked {
     pub state: State,
     pub cuts: u16,

@@ -8,7 +8,7 @@ ghost use Rattle.sizes.specs.Sizes.{most_resources};
 ghost use Rattle.meters.specs.Meters.{one_more, longer, no_mark, counted, counted_each, no_meters};
 
 // What is counted of one resource.
-#[derive(Drop)]
+#[derive(Clone, Copy)]
 pub struct Meter {
     pub grants: u32,
     pub cuts: u32,
@@ -16,7 +16,7 @@ pub struct Meter {
 }
 
 // What a call did to a resource: whether it cut the hold, whether it granted the resource anew, and the wait that this grant ended.
-#[derive(Drop)]
+#[derive(Clone, Copy)]
 pub struct Mark {
     pub cut: bool,
     pub granted: bool,

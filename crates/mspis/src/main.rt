@@ -10,7 +10,7 @@ use machine_state::State;
 use plan::ReadAnswer;
 
 // What came of some calls: how many of their bytes were made, whether all lines could be made and written, and the state.
-#[derive(Drop)]
+#[derive(Clone, Copy)]
 struct Served {
     used: usize,
     written: bool,

@@ -8,14 +8,14 @@ ghost use Rattle.plan.specs.Reading.{reading, read_outcome, reading_outcome, nam
 use plan_rules::{Counts, Rows};
 
 // A read plan's counts, or why it is refused.
-#[derive(Drop)]
+#[derive(Clone, Copy)]
 pub enum ReadAnswer {
     Accepted(Counts),
     Refused(u8),
 }
 
 // The answer with the rows by value beside it: all zero where the plan is refused.
-#[derive(Drop)]
+#[derive(Clone, Copy)]
 pub struct Reading {
     pub answer: ReadAnswer,
     pub rows: Rows,

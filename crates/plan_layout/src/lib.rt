@@ -28,14 +28,14 @@ pub const SECTION_ROW: usize = 4;
 pub const MOST_TAG: u16 = 255;
 
 // The name lengths of a part, and whether its rows follow one another as they should.
-#[derive(Drop)]
+#[derive(Clone, Copy)]
 pub struct LoadedLengths {
     pub lengths: [u8; sizes::RESOURCES],
     pub ok: bool,
 }
 
 // A resource row: start and length of its name, and the spare byte.
-#[derive(Drop)]
+#[derive(Clone, Copy)]
 pub struct ResourceRow {
     pub start: usize,
     pub length: u8,

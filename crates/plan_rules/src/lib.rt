@@ -11,7 +11,7 @@ const SECTION_TICKS: u16 = 1000;
 
 // A task: its tag, period T, execution time C, processor and priority. The wide fields stand first, so that no byte is lost
 // between them.
-#[derive(Drop)]
+#[derive(Clone, Copy)]
 pub struct TaskRow {
     pub tag: u16,
     pub period: u16,
@@ -21,7 +21,7 @@ pub struct TaskRow {
 }
 
 // A section: a task holds a resource for so many ticks.
-#[derive(Drop)]
+#[derive(Clone, Copy)]
 pub struct SectionRow {
     pub task: u8,
     pub resource: u8,
@@ -29,7 +29,7 @@ pub struct SectionRow {
 }
 
 // The edition of a plan file, and how many processors, tasks, resources and sections the plan has.
-#[derive(Drop)]
+#[derive(Clone, Copy)]
 pub struct Counts {
     pub edition: u8,
     pub processors: u8,
@@ -39,7 +39,7 @@ pub struct Counts {
 }
 
 // The rows; those past a plan's counts are all zero where a file was read.
-#[derive(Drop)]
+#[derive(Clone, Copy)]
 pub struct Rows {
     pub tasks: [TaskRow; sizes::TASKS],
     pub lengths: [u8; sizes::RESOURCES],

@@ -20,7 +20,7 @@ const ROWS_END: usize = plan_layout::HEADER
     + plan_layout::SECTION_ROW * sizes::SECTIONS;
 
 // The length of the file that was written, or the refusal.
-#[derive(Drop)]
+#[derive(Clone, Copy)]
 pub enum WriteAnswer {
     Written(u16),
     Refused(u8),

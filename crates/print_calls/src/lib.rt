@@ -18,7 +18,7 @@ use print_lines::LINE;
 use print_text::Handed;
 
 // A line, and the state after its call.
-#[derive(Drop)]
+#[derive(Clone, Copy)]
 pub struct CallLine {
     pub line: Handed,
     pub state: State,
@@ -26,7 +26,7 @@ pub struct CallLine {
 
 // The lines of many calls: how many bytes of calls were made, how long the lines are, and the state after them; or the refusal, and
 // then none was made.
-#[derive(Drop)]
+#[derive(Clone, Copy)]
 pub struct Batch {
     pub refusal: u8,
     pub used: usize,
@@ -35,7 +35,7 @@ pub struct Batch {
 }
 
 // Where a line ends, and the state after its call.
-#[derive(Drop)]
+#[derive(Clone, Copy)]
 struct Step {
     end: usize,
     state: State,

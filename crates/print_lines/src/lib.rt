@@ -16,7 +16,7 @@ use plan_rules::Counts;
 use print_text::Handed;
 
 // A word in a line.
-#[derive(Drop)]
+#[derive(Clone, Copy)]
 pub enum Word {
     To,
     Free,
@@ -29,7 +29,7 @@ pub enum Word {
 }
 
 // A field of a line; the name is that of a resource.
-#[derive(Drop)]
+#[derive(Clone, Copy)]
 pub enum Field {
     Number(u64),
     Signed(i64),

@@ -20,14 +20,14 @@ use print_text::Handed;
 pub const SHEET: usize = 131072;
 
 // Where text ends, and whether every requirement in it is met.
-#[derive(Drop)]
+#[derive(Clone, Copy)]
 struct Required {
     end: usize,
     all: bool,
 }
 
 // A place in the tables: a processor or a task, and a resource.
-#[derive(Drop)]
+#[derive(Clone, Copy)]
 struct Entry {
     row: usize,
     resource: u8,

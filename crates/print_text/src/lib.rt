@@ -9,7 +9,7 @@ ghost use Rattle.print_text.specs.Buffers.{handed, buffer_with};
 ghost use Rattle.print_text.specs.Inner.{Digits};
 
 // A text in a lent buffer: its length, or the refusal 10 where the buffer is too short for it.
-#[derive(Drop)]
+#[derive(Clone, Copy)]
 pub struct Handed {
     pub refusal: u8,
     pub length: usize,
