@@ -4,7 +4,7 @@ pub use Rattle.folds.proofs.Ground.{length, rules, not-false, not-true, refl, re
 unfoldable pub use Rattle.folds.specs.Bytes.{fields, number, row_at}
 pub use Rattle.folds.proofs.RowLaws.{Bytes}
 unfoldable pub use Rattle.folds.specs.Below.{all_below, sum_below}
-pub use Rattle.folds.proofs.Tests.{all_at, all_same, all_step, failed, held}
+pub use Rattle.folds.proofs.Tests.{all_at, all_same, all_step, failed, failed_not, held, held_not}
 pub use Rattle.folds.proofs.Figures.{sum_same}
 unfoldable pub use Rattle.folds.proofs.Arrays.{gathered_below, marked_below}
 pub use Rattle.plan_rules.specs.declared.TaskRow.{TaskRow}

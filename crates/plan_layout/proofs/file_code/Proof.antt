@@ -7,7 +7,7 @@ use Rattle.plan_layout.proofs.file_code.Tie as tie
 returns : tie.Need-returns
 returns c =
     let at = c.before.before.before.before in
-    rw (part_rest, part_rest, part_rest, at.sections_at.ensures, at.before.resources_at.ensures) at c.parts-code.ensures
+    rw (part_rest, part_rest, part_rest, at.sections_at-sections_at.ensures, at.before.resources_at-resources_at.ensures) at c.parts_code.ensures
 
 pub file_code_spec : {M : Type 1} → statement M
 file_code_spec =

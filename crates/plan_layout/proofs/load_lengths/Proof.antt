@@ -15,39 +15,39 @@ record Passed (part : List ℕ) (r : ℕ) (loaded : List ℕ) (test : Bool) (las
   end : last ≡ sum_below i (length_at edition1 part)
   small : last ≤ 255 * i
 
-abbrev invariant-loop : tie.invariant-loop
-invariant-loop part r lengths₀ ok₀ end₀ i₀ lengths ok end i = Passed part r lengths ok end i
+abbrev invariant-loop-i : tie.invariant-loop-i
+invariant-loop-i part r lengths₀ ok₀ end₀ i₀ lengths ok end i = Passed part r lengths ok end i
 
-abbrev decreases-loop : tie.decreases-loop
-decreases-loop part r lengths₀ ok₀ end₀ i₀ lengths ok end i = r - i
+abbrev decreases-loop-i : tie.decreases-loop-i
+decreases-loop-i part r lengths₀ ok₀ end₀ i₀ lengths ok end i = r - i
 
-loop_holds : tie.Need-loop-init invariant-loop decreases-loop
+loop_holds : tie.Need-loop-i-init invariant-loop-i decreases-loop-i
 unfolding length_rows_ok length_rows all_below placed_below sum_below
 loop_holds c = record { below = omega arith; ok = refl; lengths = refl; end = refl; small = omega arith }
 
-loop_again : tie.Need-loop-preserved invariant-loop decreases-loop
+loop_again : tie.Need-loop-i-preserved invariant-loop-i decreases-loop-i
 unfolding length_rows_ok length_rows
 loop_again c =
     let r = c.before.before.before in
-    let row = r.resource-at.ensures in
-    let l = r.before.before.loop.invariant in
+    let row = r.resource_at-row.ensures in
+    let l = r.before.before.loop-i.invariant in
     record {
       below = omega arith;
       ok = all_step _ _ l.ok (rw (row.start, row.spare, l.end));
       lengths = placed_step _ _ _ l.lengths row.length;
-      end = sum_step _ _ l.end (c.wide.ensures.same ∙ row.length);
-      small = omega (arith, c.wide.ensures.low);
+      end = sum_step _ _ l.end (c.wide-end.ensures.same ∙ row.length);
+      small = omega (arith, c.wide-end.ensures.low);
     }
 
-returns : tie.Need-returns invariant-loop decreases-loop
+returns : tie.Need-returns invariant-loop-i decreases-loop-i
 unfolding length_rows_ok length_rows
 returns c =
-    let l = c.before.loop in
+    let l = c.before.loop-i in
     record { ok = all_done _ l.i _ (omega arith) l.invariant.ok; lengths = placed_done _ l.i _ _ (omega arith) l.invariant.lengths }
 
 pub load_lengths_spec : {M : Type 1} → statement M
 load_lengths_spec =
     tie.close
     (tie.spec
-    invariant-loop decreases-loop loop_holds (λ c κs. omega arith) (λ c. omega arith) (λ c κs. omega arith) (λ c. omega arith) (λ c. omega arith)
+    invariant-loop-i decreases-loop-i loop_holds (λ c κs. omega arith) (λ c. omega arith) (λ c κs. omega arith) (λ c. omega arith) (λ c. omega arith)
     (λ c. omega arith) loop_again returns)

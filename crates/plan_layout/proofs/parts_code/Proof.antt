@@ -22,26 +22,26 @@ abbrev asked : tie.After-wide → Tests
 asked c = let a = (begun c).args in parts_tests a.c a.tasks.now a.resources.now a.sections.now a.names.now
 
 -- what the task rows gave, by the counts
-code_read : (c : tie.After-task-code)
-    → let a = (begun c.before).args in c.task-code.result ≡ task_code edition1 a.c.tasks a.c.processors a.tasks.now
-code_read c = rw c.before.wide.ensures.same at c.task-code.ensures
+code_read : (c : tie.After-task_code-code)
+    → let a = (begun c.before).args in c.task_code-code.result ≡ task_code edition1 a.c.tasks a.c.processors a.tasks.now
+code_read c = rw c.before.wide.ensures.same at c.task_code-code.ensures
 
-task_code_requires : tie.Need-task-code-requires
+task_code_requires : tie.Need-task_code-code-requires
 task_code_requires c κs =
     let f = counts_facts (begun c).args.c (begun c).requires.counts in
     record { tasks = omega arith; processors = omega arith; inside = omega arith }
 
-returns : tie.Need-returns
+returns : tie.Need-returns-then-code-ne0
 unfolding parts_code task_code
-returns c = let t = asked c.before.before in stop t.tasks t.unique _ 5 4 (code_read c.before) c.if1.true
+returns c = let t = asked c.before.before in stop t.tasks t.unique _ 5 4 (code_read c.before) c.if-code-ne0.true
 
-returns_2 : tie.Need-returns-2
+returns_2 : tie.Need-returns
 unfolding parts_code task_code rest_code
 returns_2 c =
     let code = c.before.before in
     let t = asked code.before in
-    let none = sym (code_read code) ∙ c.before.if1.false in
-    rw (code_zero t.tasks _ 4 none, code_zero t.unique _ 5 (code_next t.tasks _ 4 none)) c.rest-code.ensures
+    let none = sym (code_read code) ∙ c.before.if-code-ne0.false in
+    rw (code_zero t.tasks _ 4 none, code_zero t.unique _ 5 (code_next t.tasks _ 4 none)) c.rest_code.ensures
 
 pub parts_code_spec : {M : Type 1} → statement M
 parts_code_spec =

@@ -4,20 +4,20 @@ use Rattle.folds.proofs.Ground.{leb}
 use Rattle.plan_layout.proofs.sums_fit.Statement.{statement}
 use Rattle.plan_layout.proofs.sums_fit.Tie as tie
 
-abbrev invariant-loop : tie.invariant-loop
-invariant-loop tasks n sums ok₀ i₀ ok i = Tested n (λ t. leb (get_or sums t 0) (task_at edition1 tasks t).execution) ok i
+abbrev invariant-loop-i : tie.invariant-loop-i
+invariant-loop-i tasks n sums ok₀ i₀ ok i = Tested n (λ t. leb (get_or sums t 0) (task_at edition1 tasks t).execution) ok i
 
-abbrev decreases-loop : tie.decreases-loop
-decreases-loop tasks n sums ok₀ i₀ ok i = n - i
+abbrev decreases-loop-i : tie.decreases-loop-i
+decreases-loop-i tasks n sums ok₀ i₀ ok i = n - i
 
-returns : tie.Need-returns invariant-loop decreases-loop
+returns : tie.Need-returns invariant-loop-i decreases-loop-i
 unfolding sums_fit
-returns c = tested_all c.before.loop.invariant (omega arith)
+returns c = tested_all c.before.loop-i.invariant (omega arith)
 
 pub sums_fit_spec : {M : Type 1} → statement M
 sums_fit_spec =
     tie.close
     (tie.spec
-    invariant-loop decreases-loop (λ c. tested_none) (λ c κs. omega arith) (λ c. omega arith) (λ c. omega arith) (λ c. omega arith)
+    invariant-loop-i decreases-loop-i (λ c. tested_none) (λ c κs. omega arith) (λ c. omega arith) (λ c. omega arith) (λ c. omega arith)
     (λ c. omega arith) (λ c. omega arith)
-    (λ c. tested_one c.before.before.before.loop.invariant (omega arith) (rw c.before.task_at.ensures.read)) returns)
+    (λ c. tested_one c.before.before.before.loop-i.invariant (omega arith) (rw c.before.task_at-row.ensures.read)) returns)

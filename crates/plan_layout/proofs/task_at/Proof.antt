@@ -8,8 +8,8 @@ returns : tie.Need-returns
 returns c =
     let row = c.before.before.before in
     record {
-      read = rw (c.half-at2.ensures, c.before.half_at.ensures) (sym (task_fields _ _));
-      tag = omega (arith, row.shared-slice-known3.given (row.before.before.before.args.i * 8 + 1));
+      read = rw (c.half_at-2.ensures, c.before.half_at.ensures) (sym (task_fields _ _));
+      tag = omega (arith, row.shared_slice_known-3-1.given (row.before.before.before.args.i * 8 + 1));
     }
 
 pub task_at_spec : {M : Type 1} → statement M
@@ -17,5 +17,5 @@ task_at_spec =
     tie.close
     (tie.spec
     (λ c. search rules) (λ c. search rules) (λ c. search rules) (λ c. search rules)
-    (λ c. omega (arith, c.shared-slice-known3.given (c.before.before.before.args.i * 8 + 1))) (λ c. search rules)
+    (λ c. omega (arith, c.shared_slice_known-3-1.given (c.before.before.before.args.i * 8 + 1))) (λ c. search rules)
     (λ c. search rules) (λ c. search rules) (λ c κs. search rules) (λ c. search rules) (λ c κs. search rules) returns)
