@@ -18,14 +18,14 @@ clear c = c.before.before.before
 longest_of_requires : tie.Need-longest-of-requires
 longest_of_requires c κs =
     let t = totals c in
-    let u = (found (clear t)).user-of.ensures.user (clear t).if1.left in
+    let u = (found (clear t)).user-of.ensures.user (clear t).if1.false in
     rw c.wide.ensures.same (record { added = t.fill-totals.ensures; task = u.below; used = u.used; shared = u.shared })
 
 returns_2 : tie.Need-returns-2
 returns_2 c =
     let e = clear (totals c.before) in
     let f = (found e).user-of.ensures in
-    figure_given f.code e.if1.left (c.longest-of.ensures.1 ∙ rw (c.before.wide.ensures.same, (f.user e.if1.left).task))
+    figure_given f.code e.if1.false (c.longest-of.ensures.1 ∙ rw (c.before.wide.ensures.same, (f.user e.if1.false).task))
 
 pub longest_wait_spec : {M : Type 1} → statement M
 longest_wait_spec =

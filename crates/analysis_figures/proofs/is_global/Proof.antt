@@ -21,24 +21,24 @@ unfolding all_below
 loop_holds c = (omega arith, refl)
 
 low : (c : tie.In-loop invariant-loop decreases-loop) → c.before.loop.i < 64
-low c = omega (arith, (valid_plan _ (start c.before.before).pre.0.plan).tasks)
+low c = omega (arith, (valid_plan _ (start c.before.before).requires.0.plan).tasks)
 
 -- the table's figure is the plan's
 hold : (c : tie.After-hold-at invariant-loop decreases-loop)
     → let a = (start c.before.before.before).args in c.hold_at.result ≡ hold_at (plan_of a.file.now) c.before.before.loop.i a.q
 hold c =
-    let h = (start c.before.before.before).pre in
+    let h = (start c.before.before.before).requires in
     c.hold_at.ensures ∙ h.0.figures.hold c.before.before.loop.i _ (low c.before) h.1
 
 returns : tie.Need-returns invariant-loop decreases-loop
 returns c =
     let turn = c.before.before.before in
-    sym (global_at _ (valid_plan _ (start turn.before).pre.0.plan) turn.loop.i _ (λ z. c.if1.true (hold c.before ∙ z)))
+    sym (global_at _ (valid_plan _ (start turn.before).requires.0.plan) turn.loop.i _ (λ z. c.if1.true (hold c.before ∙ z)))
 
 returns_2 : tie.Need-returns-2 invariant-loop decreases-loop
 returns_2 c =
     let turn = c.before in
-    let h = (start turn.before).pre.0.plan in
+    let h = (start turn.before).requires.0.plan in
     sym (global_not _ (valid_plan _ h) _ (λ j lj. eqb-true _ _ (all_at turn.loop.i j _ turn.loop.invariant.1 (omega arith))))
 
 pub is_global_spec : {M : Type 1} → statement M
@@ -46,6 +46,6 @@ is_global_spec =
     tie.close
     (tie.spec
     invariant-loop decreases-loop (λ c κs. c.before.before.requires.0.plan) (λ c κs. search rules) loop_holds
-    (λ c κs. let h = (start c.before.before).pre in record { long = h.0.figures.long; row = low c; resource = h.1 })
+    (λ c κs. let h = (start c.before.before).requires in record { long = h.0.figures.long; row = low c; resource = h.1 })
     returns (λ c. omega arith) (λ c. omega arith)
     (λ c. (omega arith, all_more _ _ c.before.before.before.loop.invariant.1 (eq-eqb _ _ (sym (hold c.before) ∙ c.if1.false)))) returns_2)

@@ -43,5 +43,5 @@ pub task_number_spec : {M : Type 1} → statement M
 task_number_spec =
     tie.close
     (tie.spec
-    invariant-loop decreases-loop (λ c κs. c.before.requires) (λ c κs. search rules) loop_holds (λ c κs. ((start c.before.before).pre, omega arith)) returns
+    invariant-loop decreases-loop (λ c κs. c.before.requires) (λ c κs. search rules) loop_holds (λ c κs. ((start c.before.before).requires, omega arith)) returns
     (λ c. omega arith) (λ c. omega arith) loop_again returns_2)

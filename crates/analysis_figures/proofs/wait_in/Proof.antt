@@ -29,7 +29,7 @@ loop_again : tie.Need-loop-preserved invariant-loop decreases-loop
 loop_again c =
     let found = c.before in
     let turn = found.before.before.before in
-    let h = (start turn.before).pre in
+    let h = (start turn.before).requires in
     let i = turn.loop.invariant in
     let more = others_step _ _ _ _ _ h.0.figures found.before.wide2.ensures.same (omega arith) h.1 i.added in
     record { within = omega arith; few = i.few; added = more found.budget-at.ensures c.chosen.ensures; small = omega arith }
@@ -39,6 +39,6 @@ wait_in_spec =
     tie.close
     (tie.spec
     invariant-loop decreases-loop (λ c κs. c.before.before.requires.0.plan) (λ c κs. search rules) loop_holds (λ c κs. search rules)
-    (λ c κs. let h = (start c.before.before.before).pre in record { long = h.0.figures.long; row = omega arith; resource = h.1 })
+    (λ c κs. let h = (start c.before.before.before).requires in record { long = h.0.figures.long; row = omega arith; resource = h.1 })
     (λ c κs. search rules) (λ c. search rules) (λ c. omega arith) (λ c. omega arith) (λ c. omega arith) loop_again
     (λ c. let l = c.before.loop in (others_done _ _ _ l.l (omega arith) l.invariant.added, omega arith)))

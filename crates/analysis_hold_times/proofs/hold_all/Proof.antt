@@ -52,7 +52,7 @@ loop_again c =
     let set = c.before.before in
     let h = held set.before in
     let l = (turn h).loop in
-    let i = l.inv in
+    let i = l.invariant in
     let more = table_step _ (valid_plan _ i.known.plan) l.k _ i.table h.hold-rows.ensures set.set-row.ensures in
     record { within = omega arith; known = i.known; longest = i.longest; shared = i.shared; table = more }
 
@@ -62,7 +62,7 @@ hold_all_spec =
     (tie.spec
     invariant-loop decreases-loop (λ c κs. search rules) (λ c κs. search rules) loop_holds hold_rows_requires (λ c. omega arith)
     (λ c κs. let long = (held c).hold-rows.ensures.1.long in
-    (omega (arith, long, (valid_plan _ (turn (held c)).loop.inv.known.plan).processors), long))
+    (omega (arith, long, (valid_plan _ (turn (held c)).loop.invariant.known.plan).processors), long))
     (λ c. omega arith) (λ c. omega arith) loop_again (λ c. let i = c.before.loop.invariant in i.table.long ∙ sym i.known.sections.long)
     (λ c. let l = c.before.loop in let h = l.invariant.known.plan in
     record { plan = h; figures = table_done _ (valid_plan _ h) l.k (omega arith) l.invariant.table }))

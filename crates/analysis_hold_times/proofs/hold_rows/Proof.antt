@@ -35,12 +35,12 @@ abbrev turn : tie.Else1 invariant-loop decreases-loop → tie.At-loop invariant-
 turn c = c.before.before.before.before
 
 next : (c : tie.Else1 invariant-loop decreases-loop) → let l = (turn c).loop in
-    Next l.inv.walk l.x (c.before.wide2.result - 1) l.rows l.above l.most
+    Next l.invariant.walk l.x (c.before.wide2.result - 1) l.rows l.above l.most
 next c =
     let l = (turn c).loop in
-    let w = l.inv.walk in
+    let w = l.invariant.walk in
     let sits = next_sits _ l.x w.plan w.tasks w.processor (omega arith) c.before.wide2.ensures.same c.if1.false in
-    record { held = l.inv.held; sits = sits }
+    record { held = l.invariant.held; sits = sits }
 
 -- its own sections are read, its hold times are put down, and the greatest are known
 abbrev own : tie.After-set-row invariant-loop decreases-loop → tie.After-shared-row invariant-loop decreases-loop
@@ -74,7 +74,7 @@ loop_again c =
     let test = (seat longer).before.before.before.loop-test.true in
     let more = held_step (next (seat longer)) (own set).shared-row.ensures set.before.held-row.ensures set.set-row.ensures in
     let held = more c.above-row.ensures longer.longer-row.ensures in
-    record { within = omega (arith, test); walk = (turn (seat longer)).loop.inv.walk; held = held }
+    record { within = omega (arith, test); walk = (turn (seat longer)).loop.invariant.walk; held = held }
 
 pub hold_rows_spec : {M : Type 1} → statement M
 hold_rows_spec =

@@ -45,7 +45,7 @@ a_term : (c : Here)
     → Term (plan_of (begun c).args.file.now) (begun c).args.i (turn c).loop.j (c.smaller.result * (chosen c).chosen.result)
 a_term c =
     let l = (turn c).loop in
-    term_is l.inv.over.asked l.j (omega (arith, l.inv.over.all)) c.smaller.ensures (chosen c).chosen.ensures
+    term_is l.invariant.over.asked l.j (omega (arith, l.invariant.over.all)) c.smaller.ensures (chosen c).chosen.ensures
 
 loop_again : tie.Need-loop-preserved invariant-loop decreases-loop
 loop_again c =

@@ -24,7 +24,7 @@ returns c =
     let b = c.before.before.before in
     let s = start b.before in
     requirement_told _ _ c.compared.ensures b.before.blocking1-of.ensures b.blocking2-of.ensures (back _ z.type-inv ∙ z.ensures)
-    (s.pre.0.sides.side _ (asked s).low)
+    (s.requires.0.sides.side _ (asked s).low)
 
 pub requirement_of_spec : {M : Type 1} → statement M
 requirement_of_spec =
@@ -32,5 +32,5 @@ requirement_of_spec =
     (tie.spec
     (λ c κs. asked c.before.before.before) (λ c κs. asked (start c)) (λ c κs. asked (start c.before))
     (λ c. let h = asked (start c.before.before) in omega arith)
-    (λ c. let s = start c.before.before.before in let h = asked s in omega (arith, s.pre.0.sides.long))
+    (λ c. let s = start c.before.before.before in let h = asked s in omega (arith, s.requires.0.sides.long))
     compared_requires returns)

@@ -29,7 +29,7 @@ start c = let lent = c.before in lent.before.before.before.before
 loop_holds : tie.Need-loop-init invariant-loop decreases-loop
 unfolding gathered_below
 loop_holds c =
-    let h = (start c.before).pre in
+    let h = (start c.before).requires in
     let v = valid_plan _ h.0.known.plan in
     record { within = omega arith; all = c.before.counts.ensures.sections; few = omega arith; added = h.0; told = h.1 }
 
@@ -47,7 +47,7 @@ read : (r : Read) → SectionRead (plan_of (file r)) (turn r).loop.s r.before.wi
 read r = search rules
 
 named : (r : Read) → Names (plan_of (file r)) r.before.wide.result r.wide2.result
-named r = names (valid_plan _ (turn r).loop.inv.added.known.plan) (read r)
+named r = names (valid_plan _ (turn r).loop.invariant.added.known.plan) (read r)
 
 loop_again : tie.Need-loop-preserved invariant-loop decreases-loop
 loop_again c =
@@ -71,5 +71,5 @@ fill_sides_spec =
     omega (arith, sides_low _ v (turn r).loop.s _ i.told (named r).low, c.before.section-wait.ensures.high))
     (λ c. let r = c.before.before in let n = named r in rw ((turn r).loop.invariant.told, sides_long) (omega arith))
     (λ c. omega arith) (λ c. omega arith) loop_again
-    (λ c. rw (c.before.loop.invariant.told, sides_long, (start c.before.before.before).pre.1) (sym (length-replicate {A = ℕ} most_tasks 0)))
+    (λ c. rw (c.before.loop.invariant.told, sides_long, (start c.before.before.before).requires.1) (sym (length-replicate {A = ℕ} most_tasks 0)))
     (λ c. let l = c.before.loop in sides_done _ (valid_plan _ l.invariant.added.known.plan) l.s (omega (arith, l.invariant.all)) l.invariant.told))

@@ -35,7 +35,7 @@ read : (r : Read) → SectionRead (plan_of (file r)) (turn r).loop.s r.before.wi
 read r = search rules
 
 cells : (r : Read) → Cells (plan_of (file r)) (turn r).loop.terms r.before.wide.result r.wide2.result
-cells r = let t = (turn r).loop.inv.table in there _ (valid_plan _ t.plan) (read r) _ t.terms
+cells r = let t = (turn r).loop.invariant.table in there _ (valid_plan _ t.plan) (read r) _ t.terms
 
 abbrev top_of : Read → ℕ
 top_of r =
@@ -43,7 +43,7 @@ top_of r =
     + get_or (turn r).loop.terms (ceiling_cell r.wide2.result) 0
 
 low : (r : Read) → top_of r < 65536
-low r = let t = (turn r).loop.inv.table in top_low _ (valid_plan _ t.plan) (read r) _ t.terms
+low r = let t = (turn r).loop.invariant.table in top_low _ (valid_plan _ t.plan) (read r) _ t.terms
 
 loop_again : tie.Need-loop-preserved invariant-loop decreases-loop
 loop_again c =
@@ -76,7 +76,7 @@ put_blocked_spec =
     (λ c. omega (arith, low c.before.before.before))
     (λ c. omega arith) (λ c. omega arith) (λ c. let h = cells c.before.before.before.before in omega arith)
     (λ c. omega (arith, low c.before.before.before.before))
-    (λ c κs. let t = c.before in (turn t.before.before.before.before).loop.inv.table.terms.long)
+    (λ c κs. let t = c.before in (turn t.before.before.before.before).loop.invariant.table.terms.long)
     (λ c. omega arith) (λ c. omega arith) loop_again
     (λ c. let b = c.before.before.before.before in c.before.loop.invariant.table.terms.long ∙ sym b.before.before.requires.1.long)
     (λ c. let l = c.before.loop in let t = l.invariant.table in

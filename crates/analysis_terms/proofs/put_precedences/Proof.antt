@@ -50,4 +50,4 @@ put_precedences_spec =
     (λ c κs. search rules) (λ c κs. search rules) (λ c. omega arith) (λ c κs. search rules)
     (λ c. omega arith) (λ c. omega arith) (λ c. omega arith)
     (λ c. omega (arith, c.before.before.before.before.loop.invariant.table.terms.long)) (λ c. omega arith) (λ c. omega arith)
-    loop_again (λ c. c.before.loop.invariant.table.terms.long ∙ sym (start c.before.before).pre.terms.long) returns)
+    loop_again (λ c. c.before.loop.invariant.table.terms.long ∙ sym (start c.before.before).requires.terms.long) returns)

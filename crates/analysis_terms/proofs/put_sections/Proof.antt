@@ -34,7 +34,7 @@ read : (r : Read) → SectionRead (plan_of (file r)) (turn r).loop.s r.before.wi
 read r = search rules
 
 there : (r : Read) → Cells (plan_of (file r)) (turn r).loop.terms r.before.wide.result r.wide2.result
-there r = let t = (turn r).loop.inv.table in cells _ (valid_plan _ t.plan) (read r) _ t.terms
+there r = let t = (turn r).loop.invariant.table in cells _ (valid_plan _ t.plan) (read r) _ t.terms
 
 -- ── once the longest is known, and once all is ──
 abbrev longest : tie.After-longer invariant-loop decreases-loop → Read
@@ -46,7 +46,7 @@ known c = c.before.before.before.before
 loop_again : tie.Need-loop-preserved invariant-loop decreases-loop
 loop_again c =
     let r = longest (known c) in
-    let t = (turn r).loop.inv.table in
+    let t = (turn r).loop.invariant.table in
     let terms = terms_section _ (valid_plan _ t.plan) (read r) _ t.terms
     (known c).before.chosen.ensures (known c).longer.ensures refl c.longer2.ensures in
     search rules
@@ -66,7 +66,7 @@ put_sections_spec =
     (λ c. let h = there c.before.before in omega arith)
     (λ c κs. search rules) (λ c κs. search rules) (λ c. omega arith) (λ c. omega arith)
     (λ c. let h = there (longest c.before) in omega arith)
-    (λ c. let r = longest c.before in let t = (turn r).loop.inv.table in
+    (λ c. let r = longest c.before in let t = (turn r).loop.invariant.table in
     omega (arith, count_low _ (valid_plan _ t.plan) (read r) _ t.terms))
     (λ c. omega arith) (λ c. omega arith) (λ c. let h = there (longest c.before.before) in omega arith)
     (λ c. omega arith) (λ c. omega arith) (λ c. let h = there (longest c.before.before.before) in omega arith)

@@ -21,7 +21,7 @@ turn c = let chosen = c.before in chosen.before.before.before.before
 loop_again : tie.Need-loop-preserved invariant-loop decreases-loop
 loop_again c =
     let l = (turn c).loop in
-    let raised = raised_more l.inv.raised (turn c).before.before.requires (omega arith) c.before.chosen.ensures c.longer.ensures in
+    let raised = raised_more l.invariant.raised (turn c).before.before.requires (omega arith) c.before.chosen.ensures c.longer.ensures in
     record { within = omega arith; long = raised.long ∙ (turn c).before.before.requires; raised = raised }
 
 pub raise_blocked_spec : {M : Type 1} → statement M

@@ -48,7 +48,7 @@ turn c = let p = c.before.before.before in p.before.before.before
 loop_again : tie.Need-loop-preserved invariant-loop decreases-loop
 loop_again c =
     let l = (turn c).loop in
-    let i = l.inv in
+    let i = l.invariant in
     let passed = c.before.before.before.pass2.ensures in
     let demanded = demanded_next i.counted _ i.demanded passed.told in
     let x = back _ c.before.difference2.type-inv ∙ c.before.difference2.ensures in

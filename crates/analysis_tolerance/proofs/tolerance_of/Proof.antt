@@ -14,13 +14,13 @@ start c = c.before.before.before.before
 scan_requires : tie.Need-scan-requires
 scan_requires c κs =
     let a = packed c.before.before in
-    let h = (start a).pre in
+    let h = (start a).requires in
     higher_scanned _ (valid_plan _ h.plan) _ a.higher-tasks.ensures h.task a.before.task.ensures
 
 returns : tie.Need-returns
 returns c =
     let a = packed c.before.before.before in
-    let v = valid_plan _ (start a).pre.plan in
+    let v = valid_plan _ (start a).requires.plan in
     back _ c.scan.type-inv ∙ higher_tolerance _ v _ a.higher-tasks.ensures a.before.task.ensures c.scan.ensures
 
 pub tolerance_of_spec : {M : Type 1} → statement M

@@ -20,7 +20,7 @@ add_task_spec =
     (tie.spec
     invariant-loop decreases-loop (λ c. added_none c.before.before.requires) (λ c κs. search rules) (λ c κs. tt)
     (λ c. omega arith) (λ c. omega arith) (λ c. omega arith) (λ c. omega arith)
-    (λ c. omega (arith, few (turn c.before).loop.inv (omega arith))) (λ c. omega arith)
+    (λ c. omega (arith, few (turn c.before).loop.invariant (omega arith))) (λ c. omega arith)
     (λ c. omega arith) (λ c. omega arith) (λ c. omega arith) (λ c. omega arith) (λ c. omega arith) (λ c. rw length-set (omega arith))
     (λ c. let f = c.before.before in omega (arith, low (turn f).loop.invariant (omega arith) f.flag.result)) (λ c. rw length-set (omega arith))
     (λ c. omega arith) (λ c. omega arith)

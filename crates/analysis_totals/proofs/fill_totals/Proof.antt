@@ -29,7 +29,7 @@ start c = c.before.before.before.before
 loop_holds : tie.Need-loop-init invariant-loop decreases-loop
 loop_holds c =
     let s = summed c.before in
-    let h = (start s.before).pre in
+    let h = (start s.before).requires in
     let v = valid_plan _ h.0.plan in
     record {
       within = omega arith;
@@ -46,7 +46,7 @@ turn c = c.before.before.before
 loop_again : tie.Need-loop-preserved invariant-loop decreases-loop
 loop_again c =
     let put = c.before.before in
-    let i = (turn put.before).loop.inv in
+    let i = (turn put.before).loop.invariant in
     let waits = waits_next _ put.put-waits-of.ensures in
     record { within = omega arith; all = i.all; few = i.few; known = i.known; waits = waits }
 
@@ -54,9 +54,9 @@ pub fill_totals_spec : {M : Type 1} → statement M
 fill_totals_spec =
     tie.close
     (tie.spec
-    invariant-loop decreases-loop (λ c κs. (start c).requires) (λ c κs. (start (summed c).before).pre.0.plan) loop_holds
+    invariant-loop decreases-loop (λ c κs. (start c).requires) (λ c κs. (start (summed c).before).requires.0.plan) loop_holds
     (λ c κs. let i = (turn c).loop.invariant in record { known = i.known; processor = omega arith; waits = i.waits })
     (λ c. omega arith) (λ c. omega arith) loop_again
-    (λ c. let l = c.before.before in let h = (start (summed l.before.before).before).pre in
+    (λ c. let l = c.before.before in let h = (start (summed l.before.before).before).requires in
     l.loop.invariant.waits.sums.long ∙ sym (rw h.1 (length-replicate {A = ℕ} total_count 0)))
     (λ c. let i = c.before.before.loop.invariant in record { known = i.known; totals = waits_done _ (omega arith) i.waits }))

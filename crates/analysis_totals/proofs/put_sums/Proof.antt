@@ -32,7 +32,7 @@ own c = c.wide2.ensures.same ∙ ap (λ (r : TaskRow). r.processor) c.before.bef
 loop_again : tie.Need-loop-preserved invariant-loop decreases-loop
 loop_again c =
     let done = c.before.before in
-    let i = (turn done.before).loop.inv in
+    let i = (turn done.before).loop.invariant in
     let v = valid_plan _ i.known.plan in
     let sums = sums_step _ v i.known.figures i.sums (omega arith) (own done.before) done.add-task.ensures in
     record { within = omega arith; all = i.all; known = i.known; sums = sums }
@@ -42,7 +42,7 @@ put_sums_spec =
     tie.close
     (tie.spec
     invariant-loop decreases-loop (λ c κs. c.before.before.before.requires.0.plan) (λ c κs. tt)
-    (λ c. let h = (start c.before).pre in
+    (λ c. let h = (start c.before).requires in
     record { within = omega arith; all = c.wide.ensures.same ∙ c.before.counts.ensures.tasks; known = h.0; sums = sums_none _ h.1 })
     (λ c κs. let i = c.before.loop.invariant in (i.known.plan, omega arith)) (λ c κs. tt)
     (λ c κs. let i = (turn c).loop.invariant in addable _ (valid_plan _ i.known.plan) i.known.figures i.sums (omega arith) (own c))

@@ -51,7 +51,7 @@ standing_at_requires c κs =
     let i = c.before.before.wide.ensures.same in
     let small = c.before.before.before.if2.false in
     let from = c.standing-rows-at.ensures in
-    let room = (begun g).pre.lent.room in
+    let room = (begun g).requires.lent.room in
     record {
       few = omega (arith, v.tasks, i, small, n.counts.ensures.tasks);
       low = omega (arith, v.resources, from);
@@ -69,7 +69,7 @@ returns_3 c =
     let i = f.before.before.wide in
     let row = s.standing_at.ensures ∙ ap (λ (k : ℕ). standing_from (row_at standing_widths (drop k b) i.result)) f.standing-rows-at.ensures in
     rw (c.before.before.wide2.ensures.same, f.before.task.ensures)
-    (first_test _ b _ (line g) (holder g) n.before.if1.left
+    (first_test _ b _ (line g) (holder g) n.before.if1.false
     (omega (arith, f.before.before.before.if2.false, n.counts.ensures.tasks)) i.ensures.same row)
 
 pub holder_ok_spec : {M : Type 1} → statement M

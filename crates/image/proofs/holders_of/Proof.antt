@@ -40,7 +40,7 @@ loop_again c =
     let key = c.holder-key.ensures.0
     ∙ ap₂ (λ (r : ℕ) (t : TaskRow). holder_key own (get_or st.lines (r % most_resources) no_line) t.processor)
     c.before.before.before.wide2.ensures.same c.before.task.ensures in
-    (omega arith, stamped_step l.loop.u _ _ _ l.loop.inv.1 key refl)
+    (omega arith, stamped_step l.loop.u _ _ _ l.loop.invariant.1 key refl)
 
 returns : tie.Need-returns invariant-loop decreases-loop
 unfolding holder_table

@@ -12,20 +12,20 @@ load_lines_requires : tie.Need-load-lines-requires
 load_lines_requires c κs =
     let f = c.before in
     let a = begun f in
-    let v = valid_plan _ a.pre.plan in
+    let v = valid_plan _ a.requires.plan in
     let n = c.wide.ensures.same in
     let r = f.before.counts.ensures.resources in
-    record { few = omega (arith, n, r, v.resources); room = omega (arith, n, r, a.pre.room) }
+    record { few = omega (arith, n, r, v.resources); room = omega (arith, n, r, a.requires.room) }
 
 load_standings_requires : tie.Need-load-standings-requires
 load_standings_requires c κs =
     let f = c.before.before.before in
     let a = begun f in
-    let v = valid_plan _ a.pre.plan in
+    let v = valid_plan _ a.requires.plan in
     let n = c.wide2.ensures.same in
     let t = f.before.counts.ensures.tasks in
     let from = f.standing-rows-at.ensures in
-    record { few = omega (arith, n, t, v.tasks); low = omega (arith, from, v.resources); room = omega (arith, n, t, from, a.pre.room) }
+    record { few = omega (arith, n, t, v.tasks); low = omega (arith, from, v.resources); room = omega (arith, n, t, from, a.requires.room) }
 
 returns : tie.Need-returns
 unfolding standing_in

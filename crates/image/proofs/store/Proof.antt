@@ -34,7 +34,7 @@ put_lines_requires c κs =
     let v = valid h in
     let n = c.wide.ensures.same in
     let r = h.before.before.counts.ensures.resources in
-    let room = (begun h).pre.lent.room in
+    let room = (begun h).requires.lent.room in
     record {
       few = omega (arith, n, r, v.resources);
       table = ap length h.holders-of.ensures ∙ table_long _ _;
@@ -49,7 +49,7 @@ put_standings_requires c κs =
     let n = c.wide2.ensures.same in
     let t = h.before.before.counts.ensures.tasks in
     let from = h.before.standing-rows-at.ensures in
-    let room = (begun h).pre.lent.room in
+    let room = (begun h).requires.lent.room in
     record { few = omega (arith, n, t, v.tasks); room = simp (length-take, length-drop) (omega (arith, n, t, from, room)) }
 
 returns : tie.Need-returns
@@ -62,7 +62,7 @@ returns c =
     let a = begun h in
     let counts = h.before.before.counts.ensures in
     let from = h.before.standing-rows-at in
-    let room = a.pre.lent.room in
+    let room = a.requires.lent.room in
     let n = l.before.wide.ensures.same ∙ counts.resources in
     let m = w.wide2.ensures.same ∙ counts.tasks in
     let head : Front (head_bytes (plan_of a.args.file.now)) 4 a.args.image.now _ =
@@ -73,7 +73,7 @@ returns c =
     let f2 =
     rows_part standing_width (standing_row a.args.state.tasks) (λ k. standing_length _) w.wide2.result
     (image_length (plan_of a.args.file.now)) f1 s.put-standings.ensures (omega (arith, m, from.ensures)) room in (
-      f2.bytes ∙ stored_same _ (valid h) a.args.state a.pre.sound a.args.image.now n m h.holders-of.ensures,
+      f2.bytes ∙ stored_same _ (valid h) a.args.state a.requires.sound a.args.image.now n m h.holders-of.ensures,
       long a,
     )
 

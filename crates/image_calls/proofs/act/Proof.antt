@@ -45,7 +45,7 @@ unfolding fit_test
 accepted e =
     let s = seated e in
     let f = tested s in
-    let fit = held f.fits2.ensures s.before.before.before.before.if1.left in
+    let fit = held f.fits2.ensures s.before.before.before.before.if1.false in
     sound_image _ _ (lent f) (sym (image_tested _ (valid f) _) ∙ rw (fit, sound_is e))
 
 -- ── where the call has no refusal of its own ──
@@ -99,7 +99,7 @@ store_requires c κs =
     let m = c.before.before in
     let e = m.before.before.before.before in
     let a = start (tested (seated (passed e))) in
-    record { lent = record { plan = a.pre.known.plan; room = a.pre.room }; sound = m.make.ensures.sound }
+    record { lent = record { plan = a.requires.known.plan; room = a.requires.room }; sound = m.make.ensures.sound }
 
 returns_4 : tie.Need-returns-4
 returns_4 c =
@@ -111,7 +111,7 @@ returns_4 c =
     let a = start f in
     let p = plan_of a.args.file.now in
     let zero = sym (ap (λ (x : State). call_code p (shows p x) a.args.call) (loaded s)) ∙ own e in
-    done _ _ _ m.make.result (valid f) a.pre.none a.pre.room (accepted (passed e)) zero (rw (loaded s) at m.make.ensures)
+    done _ _ _ m.make.result (valid f) a.requires.none a.requires.room (accepted (passed e)) zero (rw (loaded s) at m.make.ensures)
     t.store.ensures.0 t.store.ensures.1
 
 pub act_spec : {M : Type 1} → statement M

@@ -43,8 +43,8 @@ loop_again c =
     let few = (valid (turn read)).tasks in (
       omega arith,
       ⊎_elim
-          (λ t. rw t.2 (placed_step l.u _ _ l.inv.1 (t.1.ensures ∙ key_at_lem s _ own-core t.0.taken)))
-          (λ t. rw t.1 (placed_skip l.u _ _ l.inv.1
+          (λ t. rw t.2 (placed_step l.u _ _ l.invariant.1 (t.1.ensures ∙ key_at_lem s _ own-core t.0.taken)))
+          (λ t. rw t.1 (placed_skip l.u _ _ l.invariant.1
           (key_off s _ t.0.left ∙ sym (get_or-replicate most_tasks l.u no_seat 0 (omega arith)))))
           c.if1.branch,
     )

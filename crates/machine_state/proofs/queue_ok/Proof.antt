@@ -29,7 +29,7 @@ returns_2 c =
     let slot = c.before.before in
     let l = (turn slot).loop in
     slot_fails _ _ _ _ l.i (omega arith)
-    (slot_is _ _ _ l.i _ slot.wide2.ensures.same (omega arith) l.inv.struck ∙ ap (leb 1) c.if2.true)
+    (slot_is _ _ _ l.i _ slot.wide2.ensures.same (omega arith) l.invariant.struck ∙ ap (leb 1) c.if2.true)
 
 loop_again : tie.Need-loop-preserved invariant-loop decreases-loop
 loop_again c =
@@ -39,8 +39,8 @@ loop_again c =
     let taken : 1 ≤ get_or l.rest slot.wide2.result 0 = omega (arith, c.if2.false) in
     record {
       within = omega arith;
-      struck = stamped_step l.i _ _ _ l.inv.struck k refl;
-      slots = all_more l.i _ l.inv.slots (slot_is _ _ _ l.i _ k (omega arith) l.inv.struck ∙ le-leb 1 _ taken);
+      struck = stamped_step l.i _ _ _ l.invariant.struck k refl;
+      slots = all_more l.i _ l.invariant.slots (slot_is _ _ _ l.i _ k (omega arith) l.invariant.struck ∙ le-leb 1 _ taken);
     }
 
 returns_3 : tie.Need-returns-3 invariant-loop decreases-loop

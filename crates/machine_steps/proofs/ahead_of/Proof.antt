@@ -29,8 +29,8 @@ sits c =
 hold_at_requires : tie.Need-hold-at-requires invariant-loop decreases-loop
 hold_at_requires c κs =
     let t = turn c.before in
-    let p = (start t.before).pre in
-    let low = p.tables.seats_low _ (seat_within p.resource p.core t.loop-test.taken) in
+    let p = (start t.before).requires in
+    let low = p.tables.seats_low _ (seat_within p.resource p.core t.loop-test.true) in
     record { long = p.tables.figures_long; row = omega (arith, sits c.before, low, c.if1.false); resource = p.resource }
 
 loop_again : tie.Need-loop-preserved invariant-loop decreases-loop
@@ -46,8 +46,8 @@ ahead_of_spec =
     invariant-loop decreases-loop (λ c. search rules) (λ c κs. search rules) (λ c. search rules) (λ c. search rules) (λ c. counted_none _ _ _ _)
     (λ c. search rules) (λ c. search rules) (λ c κs. search rules) (λ c. search rules)
     (λ c. let t = turn c.before in
-    found_empty _ _ _ _ _ _ t.before.loop.inv t.loop-test.taken (sym (sits c.before) ∙ c.if1.true))
+    found_empty _ _ _ _ _ _ t.before.loop.invariant t.loop-test.true (sym (sits c.before) ∙ c.if1.true))
     (λ c. omega arith) hold_at_requires
-    (λ c. search rules) (λ c. let i = (turn c.before.before).before.loop.inv in omega (arith, i.few, i.small)) (λ c. search rules)
+    (λ c. search rules) (λ c. let i = (turn c.before.before).before.loop.invariant in omega (arith, i.few, i.small)) (λ c. search rules)
     (λ c. search rules) loop_again (λ c. omega arith)
     (λ c. found_none _ _ _ _ _ _ c.before.loop.invariant c.loop-test.false))

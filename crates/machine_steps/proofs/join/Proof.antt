@@ -25,7 +25,7 @@ returns c =
     let b = c.before.before in
     let w = wide b in
     simp (
-      eq-eqb _ _ w.before.if1.taken,
+      eq-eqb _ _ w.before.if1.true,
       w.before.before.in_line.ensures,
       c.push.ensures.0,
       b.budget-at.ensures,
@@ -45,5 +45,5 @@ join_spec =
     (λ c κs. search rules) (λ c. search rules) (λ c. search rules) (λ c κs. search rules)
     (λ c κs. let p = (start c).requires in record { long = p.figures_long; row = p.task; resource = low c }) (λ c κs. search rules)
     budget_at_requires (λ c. omega (arith, low (wide c))) (λ c. omega (arith, low (wide c)))
-    (λ c κs. let w = wide c.before in rw w.wide.ensures.same ((start w).pre.room w.before.if1.taken))
+    (λ c κs. let w = wide c.before in rw w.wide.ensures.same ((start w).requires.room w.before.if1.true))
     (λ c. omega (arith, low (wide c.before.before))) (λ c. omega (arith, low (wide c.before.before))) returns returns_2)

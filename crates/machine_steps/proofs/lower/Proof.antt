@@ -30,7 +30,7 @@ lower_spec =
     tie.close
     (tie.spec
     invariant-loop decreases-loop loop_holds (λ c. omega arith) (λ c. omega arith) (λ c. omega arith)
-    (λ c. omega (arith, (start c.before.before).pre.keys_long)) (λ c. omega arith) (λ c. omega arith)
+    (λ c. omega (arith, (start c.before.before).requires.keys_long)) (λ c. omega arith) (λ c. omega arith)
     (λ c. let t = c.before.before in omega (arith, (start t).requires.keys_low t.before.loop.u t.loop-test.true))
     (λ c. let t = c.before.before.before in
     omega (arith, (start t).requires.ended_long, (start t).requires.keys_low t.before.loop.u t.loop-test.true))

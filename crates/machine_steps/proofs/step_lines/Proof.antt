@@ -39,17 +39,17 @@ step_requires : tie.Need-step-requires invariant-loop decreases-loop
 step_requires c κs =
     let t = turn c in
     let l = t.before.loop in
-    let lt = t.loop-test.taken in
-    let e = line_kept _ _ _ l.q l.inv.lines in
-    let p = (start t).pre in
+    let lt = t.loop-test.true in
+    let e = line_kept _ _ _ l.q l.invariant.lines in
+    let p = (start t).requires in
     record { tables = p.0; resource = lt; running = λ h. rw e (p.1 l.q lt (rw e at h)) }
 
 add_grants : tie.Need-overflow-add-grants invariant-loop decreases-loop
 add_grants c =
     let on = asked c in
     let l = (turn on).before.loop in
-    let b = grant_bit _ _ _ l.q l.inv.lines on.cuts-holder.ensures c.before.before.before.step.ensures c.bit2.ensures in
-    record { fits = word_fits _ 16 _ l.inv.granted b (omega arith) }
+    let b = grant_bit _ _ _ l.q l.invariant.lines on.cuts-holder.ensures c.before.before.before.step.ensures c.bit2.ensures in
+    record { fits = word_fits _ 16 _ l.invariant.granted b (omega arith) }
 
 array_write_lost : tie.Need-array-write-lost invariant-loop decreases-loop
 array_write_lost c =
@@ -57,9 +57,9 @@ array_write_lost c =
     let on = asked marked.before in
     let t = turn on in
     let l = t.before.loop in
-    let e = kept_queued _ _ _ l.q l.inv.lines on.cuts-holder.ensures marked.if1.true in
-    let r = ((start t).pre.1 l.q t.loop-test.taken e).ready in
-    let k = ap (λ (x : LineRow). slot x 0) (line_kept _ _ _ l.q l.inv.lines) in
+    let e = kept_queued _ _ _ l.q l.invariant.lines on.cuts-holder.ensures marked.if1.true in
+    let r = ((start t).requires.1 l.q t.loop-test.true e).ready in
+    let k = ap (λ (x : LineRow). slot x 0) (line_kept _ _ _ l.q l.invariant.lines) in
     omega (arith, c.wide.ensures.same, k, r.placed 0 r.some)
 
 loop_again : tie.Need-loop-preserved invariant-loop decreases-loop
@@ -67,7 +67,7 @@ loop_again c =
     let after = c.before.before.before.before in
     let on = after.before.cuts-holder.ensures in
     let l = (turn after.before).before.loop in
-    let i = l.inv in
+    let i = l.invariant in
     record {
       few = omega arith;
       lines = each_step _ _ _ _ i.lines after.step.ensures;
@@ -98,7 +98,7 @@ step_lines_spec =
     (λ c. omega arith) (λ c κs. omega arith)
     (λ c. let on = c.before.before in
     let l = (turn on).before.loop in
-    let b = cut_bit _ _ _ l.q l.inv.lines on.cuts-holder.ensures c.bit.ensures in
-    record { fits = word_fits _ 16 _ l.inv.cut b (omega arith) })
+    let b = cut_bit _ _ _ l.q l.invariant.lines on.cuts-holder.ensures c.bit.ensures in
+    record { fits = word_fits _ 16 _ l.invariant.cut b (omega arith) })
     (λ c κs. omega arith) add_grants (λ c. omega arith) (λ c. omega arith)
     (λ c κs. tt) (λ c. omega arith) array_write_lost (λ c. omega arith) (λ c. omega arith) (λ c. omega arith) loop_again returns)

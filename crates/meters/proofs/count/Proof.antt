@@ -84,7 +84,7 @@ module _ {M : Type 1} {𝓤 : Ura M} (𝓛 : Logic 𝓤) (at_mem : Memory → SP
   abbrev to_counted : (Counted 𝓛 at_mem run).Ghost
   to_counted = ((tt, tt, tt, given, (T'.lowered h ∷ [], (mark_vals k, tt))), tt)
 
-  goes_counted : Is T.the_row h (T'.lowered h ∷ []) → ent 𝓤 (emp 𝓤) ((Counted 𝓛 at_mem run).pre to_counted)
+  goes_counted : Is T.the_row h (T'.lowered h ∷ []) → ent 𝓤 (emp 𝓤) ((Counted 𝓛 at_mem run).requires to_counted)
   goes_counted is =
       qed 𝓛 [] ∵ nothing ! $ owned ! K.the_row (Is K.the_row) (LL.makes K.the_type K'.the_plain 𝓛) k _ k-is $ fjoin ! $
       owned ! T.the_row (Is T.the_row) (LL.makes T.the_type T'.the_plain 𝓛) h _ is $ fjoin ! $ nothing ! $ join ! $ frame ! $ done !
@@ -118,7 +118,7 @@ module _ {M : Type 1} {𝓤 : Ura M} (𝓛 : Logic 𝓤) (at_mem : Memory → SP
         assigns ! (of_opd ! (load ! (from ! (hop ! (look ! 13 refl) (stop !))) (look_raw ! 0 refl))) (from ! (stop !))
         (init ! 7 refl ((LL.lawful T.the_type T'.the_laws 𝓛).typed h _ was).0) $
         -- `counted` is called
-        use0 𝓛 (raw ((Counted 𝓛 at_mem run).pre to_counted)) (goes_counted was) $
+        use0 𝓛 (raw ((Counted 𝓛 at_mem run).requires to_counted)) (goes_counted was) $
         calls_at ! fm (Counted 𝓛 at_mem run) known to_counted
         (and_then ! (load ! (from ! (stop !)) (look ! 8 refl)) (and_then ! (load ! (from ! (stop !)) (look ! 12 refl)) (no_more !))) (λ w.
         use1 𝓛 (later (some (λ (r : Meter). (‵ ftrue ⊛ ‵ ((T.the_row).own_val r (w ∷ []))) ⊛ raw (Said r)))) (id⊢ 𝓤 _) $ await ! tt $ pick ! (λ r.

@@ -154,7 +154,7 @@ module _ {M : Type 1} {𝓤 : Ura M} (𝓛 : Logic 𝓤) (at_mem : Memory → SP
   abbrev to_mark : ℕ → (MarkAt 𝓛 at_mem run).Ghost
   to_mark i = ((tt, tt, tt, (ks, (i, tt)), (marks_vals ks, (vint w64 i ∷ [], tt))), tt)
 
-  goes_mark : (i : ℕ) → i < 16 → ent 𝓤 (emp 𝓤) ((MarkAt 𝓛 at_mem run).pre (to_mark i))
+  goes_mark : (i : ℕ) → i < 16 → ent 𝓤 (emp 𝓤) ((MarkAt 𝓛 at_mem run).requires (to_mark i))
   goes_mark i l =
       let small : i ≤ 16 = omega arith in
       qed 𝓛 [] ∵ says ! l $ nothing ! $ owned ! usize (Is usize) (uint_Makes 𝓛 w64) i _ (refl, index_fits small) $ fjoin ! $
@@ -174,7 +174,7 @@ module _ {M : Type 1} {𝓤 : Ura M} (𝓛 : Logic 𝓤) (at_mem : Memory → SP
 
   goes_count : (i : ℕ) (k : Mark) → Is K.the_row k (mark_vals k) → (ν : ℕ) (δ : GName)
       → ent 𝓤 (sep 𝓤 (A.lft (ν ∷ []) full_share) (sem 𝓛 ((MutRef (named 0) (ν ∷ []) R).own_val (lent i δ) (vptr b (p i) ∷ []))))
-      ((Count 𝓛 at_mem run).pre (to_count i k ν δ))
+      ((Count 𝓛 at_mem run).requires (to_count i k ν δ))
   goes_count i k k-is ν δ =
       qed 𝓛 (‵ (flft (ν ∷ []) full_share) ∷ ‵ ((MutRef (named 0) (ν ∷ []) R).own_val (lent i δ) (vptr b (p i) ∷ [])) ∷ []) ∵
       nothing ! $ owned ! K.the_row (Is K.the_row) (LL.makes K.the_type K'.the_plain 𝓛) k _ k-is $ fjoin ! $
@@ -233,7 +233,7 @@ module _ {M : Type 1} {𝓤 : Ura M} (𝓛 : Logic 𝓤) (at_mem : Memory → SP
           rewrite ! 14 (λ (t : Bool). ‵ (fat full_share ty_bool l₅ 0 (vbool t))) (lt-ltb i.0 16 l) refl $
           stays ! (load ! (from ! (stop !)) (look ! 14 refl)) $
           -- the mark
-          use0 𝓛 (raw ((MarkAt 𝓛 at_mem run).pre (to_mark i.0))) (goes_mark i.0 l) $
+          use0 𝓛 (raw ((MarkAt 𝓛 at_mem run).requires (to_mark i.0))) (goes_mark i.0 l) $
           calls_at ! (fm_of 𝓤 H 𝓛.laws 𝓣) (MarkAt 𝓛 at_mem run) known-mark (to_mark i.0)
           (and_then ! (load ! (from ! (stop !)) (look ! 21 refl)) (and_then ! (load ! (from ! (stop !)) (look ! 19 refl)) (no_more !))) (λ w.
           use1 𝓛 (later (some (λ (k : Mark). (‵ ftrue ⊛ ‵ ((K.the_row).own_val k (w ∷ []))) ⊛ raw (MarkSaid i.0 k)))) (id⊢ 𝓤 _) $ await ! tt $ pick ! (λ k.
@@ -255,7 +255,7 @@ module _ {M : Type 1} {𝓤 : Ura M} (𝓛 : Logic 𝓤) (at_mem : Memory → SP
           lft_new ! tt (λ ν. move ! (1 ∷ 0 ∷ []) $
           use1 𝓛 (later (some (λ (δ : GName). ‵ ((MutRef (named 0) (ν ∷ []) R).own_val (lent i.0 δ) (vptr b (p i.0) ∷ [])) ⊛ ‵ (flent (ν ∷ []) (Body (mem R) b (p i.0) δ)))))
           (lends_ref 𝓛 R (named 0) (ν ∷ []) (m i.0) b (p i.0)) $ await ! tt $ pick ! (λ δ. split ! $
-          move ! (2 ∷ 0 ∷ []) $ use2 𝓛 (raw ((Count 𝓛 at_mem run).pre (to_count i.0 k ν δ))) (goes_count i.0 k (owed k w-is) ν δ) $
+          move ! (2 ∷ 0 ∷ []) $ use2 𝓛 (raw ((Count 𝓛 at_mem run).requires (to_count i.0 k ν δ))) (goes_count i.0 k (owed k w-is) ν δ) $
           calls_at ! (fm_of 𝓤 H 𝓛.laws 𝓣) (Count 𝓛 at_mem run) known-count (to_count i.0 k ν δ)
           (and_then ! (load ! (from ! (stop !)) (look ! 6 refl)) (and_then ! (load ! (from ! (stop !)) (look ! 18 refl)) (no_more !))) (λ u.
           use1 𝓛 (later (some (λ (r : Unit {0}). ((‵ (flft (ν ∷ []) full_share) ⊛ ‵ ftrue) ⊛ ‵ (unit.own_val r (u ∷ [])))

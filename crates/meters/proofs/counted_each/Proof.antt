@@ -101,7 +101,7 @@ module _ {M : Type 1} {𝓤 : Ura M} (𝓛 : Logic 𝓤) (at_mem : Memory → SP
 
   goes_each : (l ν : ℕ) (δ : GName)
       → ent 𝓤 (sep 𝓤 (A.lft (ν ∷ []) full_share) (sem 𝓛 ((MutRef (named 0) (ν ∷ []) Rs).own_val (lent l δ) (vptr l 0 ∷ []))))
-      ((CountEach 𝓛 at_mem run).pre (to_each l ν δ))
+      ((CountEach 𝓛 at_mem run).requires (to_each l ν δ))
   goes_each l ν δ =
       qed 𝓛 (‵ (flft (ν ∷ []) full_share) ∷ ‵ ((MutRef (named 0) (ν ∷ []) Rs).own_val (lent l δ) (vptr l 0 ∷ [])) ∷ []) ∵ nothing ! $
       owned ! Ks (Is Ks) (Array-Makes 𝓛 K.the_row (LL.makes K.the_type K'.the_plain 𝓛) 16) ks _ ks-are $ fjoin ! $
@@ -133,7 +133,7 @@ module _ {M : Type 1} {𝓤 : Ura M} (𝓛 : Logic 𝓤) (at_mem : Memory → SP
         lft_new ! tt (λ ν. move ! (1 ∷ 0 ∷ []) $
         use1 𝓛 (later (some (λ (δ : GName). ‵ ((MutRef (named 0) (ν ∷ []) Rs).own_val (lent l₃ δ) (vptr l₃ 0 ∷ [])) ⊛ ‵ (flent (ν ∷ []) (Body (mem Rs) l₃ 0 δ)))))
         (lends_ref 𝓛 Rs (named 0) (ν ∷ []) ms l₃ 0) $ await ! tt $ pick ! (λ δ. split ! $
-        move ! (2 ∷ 0 ∷ []) $ use2 𝓛 (raw ((CountEach 𝓛 at_mem run).pre (to_each l₃ ν δ))) (goes_each l₃ ν δ) $
+        move ! (2 ∷ 0 ∷ []) $ use2 𝓛 (raw ((CountEach 𝓛 at_mem run).requires (to_each l₃ ν δ))) (goes_each l₃ ν δ) $
         calls_at ! fm (CountEach 𝓛 at_mem run) known (to_each l₃ ν δ)
         (and_then ! (load ! (from ! (stop !)) (look ! 2 refl)) (and_then ! (load ! (from ! (stop !)) (look ! 7 refl)) (no_more !))) (λ u.
         use1 𝓛 (later (some (λ (n : Unit {0}). ((‵ (flft (ν ∷ []) full_share) ⊛ ‵ ftrue) ⊛ ‵ (unit.own_val n (u ∷ [])))

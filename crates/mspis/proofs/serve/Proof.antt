@@ -57,7 +57,7 @@ made c =
     let calls = (start (turn c).before).args.calls.now in
     let part = ap length (part_rest i.used calls) ∙ length-drop i.used calls in
     let more = leb-true call_width (length calls - i.used) (tested (turn c)).1 in
-    record { some = λ z. h.some z (omega (arith, part)); within = omega (arith, h.written.within, part, i.inv.within) }
+    record { some = λ z. h.some z (omega (arith, part)); within = omega (arith, h.written.within, part, i.invariant.within) }
 
 loop_less : tie.Need-loop-smaller invariant-loop decreases-loop
 loop_less c =
@@ -68,7 +68,7 @@ loop_less c =
 loop_again : tie.Need-loop-preserved invariant-loop decreases-loop
 loop_again c =
     let l = printed c in
-    record { within = omega (arith, (made l).within); long = l.lines.ensures.written.long ∙ (turn l).before.loop.inv.long }
+    record { within = omega (arith, (made l).within); long = l.lines.ensures.written.long ∙ (turn l).before.loop.invariant.long }
 
 pub serve_spec : {M : Type 1} → statement M
 serve_spec =

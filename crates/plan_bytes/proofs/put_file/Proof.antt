@@ -35,7 +35,7 @@ put_tasks_requires : tie.Need-put-tasks-requires
 put_tasks_requires c κs =
     let o = offsets c.before.before.before.before in
     let g = ranges o in
-    record { few = omega arith; tags = rw c.wide.ensures.same (begun o).pre.tags; room = simp (length-take, length-drop) (omega arith) }
+    record { few = omega arith; tags = rw c.wide.ensures.same (begun o).requires.tags; room = simp (length-take, length-drop) (omega arith) }
 
 put_resources_requires : tie.Need-put-resources-requires
 put_resources_requires c κs =
@@ -47,7 +47,7 @@ put_sections_requires c κs =
     let o = offsets (headed (rowed c.before.before.before)) in
     let e = o.before.sections_at.ensures in
     let g = ranges o in
-    (omega arith, omega (arith, (begun o).pre.room))
+    (omega arith, omega (arith, (begun o).requires.room))
 
 returns : tie.Need-returns
 returns c =
@@ -60,7 +60,7 @@ returns c =
     let a = begun o in
     let rows = a.args.rows in
     let names = a.args.names.now in
-    let room = a.pre.room in
+    let room = a.requires.room in
     let names_at_lem = o.names_at in
     let sections_at_lem = o.before.sections_at in
     let resources_at_lem = o.before.before.resources_at in

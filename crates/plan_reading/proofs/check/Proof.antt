@@ -8,6 +8,6 @@ pub check_spec : {M : Type 1} → statement M
 check_spec =
     tie.close
     (tie.spec
-    (λ c κs. search rules) (λ c. sym (header_fails _ c.before.header-code.ensures c.if1.true))
-    (λ c κs. (header_facts _ (sym c.before.header-code.ensures ∙ c.if1.false)).long) (λ c κs. search rules)
-    (λ c. c.rows_code.ensures ∙ sym (header_holds _ c.before.before.before.header-code.ensures c.before.before.if1.false)))
+    (λ c κs. search rules) (λ c. sym (header_fails _ c.before.header_code-code.ensures c.if-code-ne0.true))
+    (λ c κs. (header_facts _ (sym c.before.header_code-code.ensures ∙ c.if-code-ne0.false)).long) (λ c κs. search rules)
+    (λ c. c.rows_code.ensures ∙ sym (header_holds _ c.before.before.before.header_code-code.ensures c.before.before.if-code-ne0.false)))

@@ -7,20 +7,20 @@ use Rattle.plan_writing.proofs.write.Tie as tie
 
 returns : tie.Need-returns
 returns c =
-    let e = code_values _ _ _ _ c.before.values-code.ensures c.if1.taken in
-    ended_so _ _ _ (kept_back _ _ _ _ e c.if1.taken) refl refl
+    let e = code_values _ _ _ _ c.before.values-code.ensures c.if1.true in
+    ended_so _ _ _ (kept_back _ _ _ _ e c.if1.true) refl refl
 
 returns_2 : tie.Need-returns-2
 returns_2 c =
     let v = c.before.before.before in
     let a = v.before.before.before.args in
-    let short : length a.buf.now < file_length a.c a.names.now = omega (arith, c.before.names_at.ensures, c.if2.taken) in
-    let e = code_short _ _ _ _ v.values-code.ensures c.before.before.if1.left short in
+    let short : length a.buf.now < file_length a.c a.names.now = omega (arith, c.before.names_at.ensures, c.if2.true) in
+    let e = code_short _ _ _ _ v.values-code.ensures c.before.before.if1.false short in
     ended_so _ _ _ (kept_back _ _ _ _ e (λ z. omega arith)) refl refl
 
 put_file_requires : tie.Need-put-file-requires
 put_file_requires c κs =
-    let z = sized _ _ _ (sym c.before.before.before.before.values-code.ensures ∙ c.before.before.before.if1.left) in
+    let z = sized _ _ _ (sym c.before.before.before.before.values-code.ensures ∙ c.before.before.before.if1.false) in
     record { counts = z.rules.counts; tags = tags_kept _ _ _ _ z.rules.tests.tasks; short = z.short; room = omega arith }
 
 cast_t13 : tie.Need-cast-t13
@@ -28,7 +28,7 @@ cast_t13 c =
     let i = c.before.before.before.before in
     let n = i.before in
     let v = n.before.before in
-    let z = sized _ _ _ (sym v.values-code.ensures ∙ n.before.if1.left) in
+    let z = sized _ _ _ (sym v.values-code.ensures ∙ n.before.if1.false) in
     omega (arith, n.names_at.ensures, z.short, z.ranges.tasks, z.ranges.resources, z.ranges.sections)
 
 returns_3 : tie.Need-returns-3
@@ -37,8 +37,8 @@ returns_3 c =
     let n = i.before in
     let v = n.before.before in
     let a = v.before.before.before.args in
-    let fits : file_length a.c a.names.now ≤ length a.buf.now = omega (arith, n.names_at.ensures, i.if2.left) in
-    let e = code_fits _ _ _ _ v.values-code.ensures n.before.if1.left fits in
+    let fits : file_length a.c a.names.now ≤ length a.buf.now = omega (arith, n.names_at.ensures, i.if2.false) in
+    let e = code_fits _ _ _ _ v.values-code.ensures n.before.if1.false fits in
     ended_so _ _ _ (wrote _ _ _ _ e) (ap (λ (k : ℕ). Written (k + length a.names.now)) n.names_at.ensures)
     c.before.before.put-file.ensures
 

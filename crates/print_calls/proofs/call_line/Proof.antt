@@ -35,7 +35,7 @@ returns_2 c =
     let h = over c.before in
     let i = (put h).before.before.before in
     let line = rw (front_part (put h).put-call.ensures.line.put) at h.hand-over.ensures in
-    let e = none_before i.before.state_refusal.ensures _ _ i.if1.left line in
+    let e = none_before i.before.state_refusal.ensures _ _ i.if1.false line in
     (e.0, (e.1, (λ z. absurd (c.if2.true z), λ d. refl)))
 
 returns_3 : tie.Need-returns-3
@@ -43,7 +43,7 @@ returns_3 c =
     let h = over c.before in
     let i = (put h).before.before.before in
     let line = rw (front_part (put h).put-call.ensures.line.put) at h.hand-over.ensures in
-    let e = none_before i.before.state_refusal.ensures _ _ i.if1.left line in
+    let e = none_before i.before.state_refusal.ensures _ _ i.if1.false line in
     (e.0, (e.1, (λ z. (put h).put-call.ensures.after, λ d. absurd (d c.if2.false))))
 
 pub call_line_spec : {M : Type 1} → statement M

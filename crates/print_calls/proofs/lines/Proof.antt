@@ -52,11 +52,11 @@ loop_holds c =
 loop_again : tie.Need-loop-preserved invariant-loop decreases-loop
 loop_again c =
     let t = turn (made c).before in
-    let w = t.before.loop.inv.written in
+    let w = t.before.loop.invariant.written in
     record {
-      plan = t.before.loop.inv.plan;
+      plan = t.before.loop.invariant.plan;
       written =
-          written_step _ _ _ _ w (left t) (room_left w t.loop-test.taken) (search rules) (made c).bytes-at.ensures
+          written_step _ _ _ _ w (left t) (room_left w t.loop-test.true) (search rules) (made c).bytes-at.ensures
           c.before.before.before.put-call.ensures;
       begun = inr (omega arith);
     }
@@ -81,6 +81,6 @@ lines_spec =
     loop_holds
     (λ c. c.loop.invariant.written.within) (λ c. let w = c.loop.invariant.written in rw w.long w.fits) (λ c. search rules)
     (λ c κs. record { least = omega arith; most = omega arith; whole = left (turn c) })
-    (λ c κs. let t = turn c.before in let room = room_left t.before.loop.inv.written t.loop-test.taken in search rules)
+    (λ c κs. let t = turn c.before in let room = room_left t.before.loop.invariant.written t.loop-test.true in search rules)
     (λ c. omega (arith, small (turn (made c).before))) (λ c. omega (arith, left (turn (made c).before))) loop_again
     (λ c. c.before.loop.invariant.written.long) returns_2)

@@ -27,7 +27,7 @@ first c =
 put_field_requires : tie.Need-put-field-requires invariant-loop decreases-loop
 put_field_requires c κs =
     let s = first c.before.before in
-    record { named = left_first _ _ _ _ s; room = omega (arith, s.room, s.long, (start c.before.before).pre.room) }
+    record { named = left_first _ _ _ _ s; room = omega (arith, s.room, s.long, (start c.before.before).requires.room) }
 
 loop_again : tie.Need-loop-preserved invariant-loop decreases-loop
 loop_again c =

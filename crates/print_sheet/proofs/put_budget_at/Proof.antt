@@ -22,7 +22,7 @@ share : (w : tie.After-wide) → let a = (start w).args in TotalPlace a.totals.n
 share w =
     let a = start w in
     let l = low a in
-    record { long = a.pre.added.totals.sums.long; processor = l.0; resource = rw w.wide.ensures.same l.1 }
+    record { long = a.requires.added.totals.sums.long; processor = l.0; resource = rw w.wide.ensures.same l.1 }
 
 returns : tie.Need-returns
 returns c =
@@ -30,7 +30,7 @@ returns c =
     let a = start w in
     let l = low a in
     let q = w.wide.ensures.same in
-    rw (unused _ (valid a) a.pre.added.totals l.0 l.1 (rw q at c.before.users-at.ensures) c.if1.true) (line_out _ _ _)
+    rw (unused _ (valid a) a.requires.added.totals l.0 l.1 (rw q at c.before.users-at.ensures) c.if1.true) (line_out _ _ _)
 
 returns_2 : tie.Need-returns-2
 returns_2 c =
@@ -42,10 +42,10 @@ returns_2 c =
     let a = start w in
     let l = low a in
     let q = w.wide.ensures.same in
-    let budget = b.budget-at.ensures ∙ budget_of_lem _ _ a.pre.added.known.figures refl q l.0 l.1 in
-    let wait = m.wait_at.ensures ∙ wait_read _ a.pre.added.totals q a.pre.row a.pre.resource in
+    let budget = b.budget-at.ensures ∙ budget_of_lem _ _ a.requires.added.known.figures refl q l.0 l.1 in
+    let wait = m.wait_at.ensures ∙ wait_read _ a.requires.added.totals q a.requires.row a.requires.resource in
     let line = put_wider budget_room p.put-line.ensures (omega arith) in
-    rw (used _ (valid a) a.pre.added.totals l.0 l.1 (rw q at i.before.users-at.ensures) i.if1.false) (rw (budget, wait) at line)
+    rw (used _ (valid a) a.requires.added.totals l.0 l.1 (rw q at i.before.users-at.ensures) i.if1.false) (rw (budget, wait) at line)
 
 pub put_budget_at_spec : {M : Type 1} → statement M
 put_budget_at_spec =

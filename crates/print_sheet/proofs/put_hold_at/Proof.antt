@@ -21,7 +21,7 @@ told : (h : tie.After-hold-at) → let a = (start h.before).args in
 told h =
     let a = start h.before in
     let l = low a in
-    h.hold_at.ensures ∙ hold_of_lem _ _ a.pre.added.known.figures h.before.wide.ensures.same l.0 l.1
+    h.hold_at.ensures ∙ hold_of_lem _ _ a.requires.added.known.figures h.before.wide.ensures.same l.0 l.1
 
 longest_of_requires : tie.Need-longest-of-requires
 longest_of_requires c κs =
@@ -30,7 +30,7 @@ longest_of_requires c κs =
     let a = start w in
     let g = hold_global _ (valid a) _ _ (told i.before) i.if1.false in
     let q = w.wide.ensures.same in
-    record { added = a.pre.added; task = a.pre.row; used = rw q g.1; shared = rw q g.0 }
+    record { added = a.requires.added; task = a.requires.row; used = rw q g.1; shared = rw q g.0 }
 
 returns_2 : tie.Need-returns-2
 returns_2 c =
@@ -52,7 +52,7 @@ put_hold_at_spec =
     (tie.spec
     (λ c κs. search rules)
     (λ c κs. let a = start c in let l = low a in
-    record { long = a.pre.added.known.figures.long; row = l.0; resource = rw c.wide.ensures.same l.1 })
+    record { long = a.requires.added.known.figures.long; row = l.0; resource = rw c.wide.ensures.same l.1 })
     (λ c. rw (hold_none _ (valid (start c.before.before)) _ _ (told c.before) c.if1.true) (line_out _ _ _))
     (λ c κs. search rules) longest_of_requires (λ c. search rules) (λ c. search rules) (λ c. search rules) (λ c. search rules)
     (λ c. search rules)

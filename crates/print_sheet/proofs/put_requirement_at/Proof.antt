@@ -12,7 +12,7 @@ low a = let v = valid_plan _ a.requires.prepared.plan in omega arith
 
 -- what the table says
 told : (n : tie.After-count-at) → let a = (start n.before).args in n.count_at.result ≡ global_count (plan_of a.file.now) a.i
-told n = let a = start n.before in n.count_at.ensures ∙ a.pre.prepared.terms.count _ (low a)
+told n = let a = start n.before in n.count_at.ensures ∙ a.requires.prepared.terms.count _ (low a)
 
 returns_2 : tie.Need-returns-2
 returns_2 c =

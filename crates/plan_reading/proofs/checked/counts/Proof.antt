@@ -7,7 +7,7 @@ use Rattle.plan_reading.proofs.checked.counts.Tie as tie
 returns : tie.Need-returns
 unfolding plan_of
 returns c =
-    let e = c.counts-at.ensures in
+    let e = c.counts_at.ensures in
     record {
       processors = ap (λ (n : Counts). n.processors) e;
       tasks = ap (λ (n : Counts). n.tasks) e;

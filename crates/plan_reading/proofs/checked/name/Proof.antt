@@ -11,39 +11,39 @@ asked : (c : tie.Start) → Named c.args.file.now c.args.resource
 asked c = name_facts _ _ c.requires.0.none (rw (← plan_resources) c.requires.1)
 
 -- where the resource rows begin, and that they lie in the file
-begin : (c : tie.After-resources-at) → c.resources_at.result ≡ resources_at (counts_of c.before.before.before.args.file.now)
-begin c = c.resources_at.ensures ∙ ap resources_at c.before.counts-at.ensures
+begin : (c : tie.After-resources_at-resources_at) → c.resources_at-resources_at.result ≡ resources_at (counts_of c.before.before.before.args.file.now)
+begin c = c.resources_at-resources_at.ensures ∙ ap resources_at c.before.counts_at-counts.ensures
 
-inside : (c : tie.After-resources-at) → c.resources_at.result ≤ length c.before.before.before.args.file.now
+inside : (c : tie.After-resources_at-resources_at) → c.resources_at-resources_at.result ≤ length c.before.before.before.args.file.now
 inside c = omega (arith, (asked c.before.before.before).whole.header.ends, begin c)
 
 -- the beginning, seen from the row
-abbrev rows : tie.After-resource-at → tie.After-resources-at
+abbrev rows : tie.After-resource_at-row → tie.After-resources_at-resources_at
 rows c = c.before.before.before
 
-abbrev start : tie.After-resource-at → tie.Start
+abbrev start : tie.After-resource_at-row → tie.Start
 start c = (rows c).before.before.before
 
 -- the row's start and length, said of the file
-start_said : (c : tie.After-resource-at) → c.resource-at.result.start ≡ start_in (start c).args.file.now (start c).args.resource
-start_said c = cc (part_rest (rows c).resources_at.result (start c).args.file.now, begin (rows c))
+start_said : (c : tie.After-resource_at-row) → c.resource_at-row.result.start ≡ start_in (start c).args.file.now (start c).args.resource
+start_said c = cc (part_rest (rows c).resources_at-resources_at.result (start c).args.file.now, begin (rows c))
 
-length_said_lem : (c : tie.After-resource-at) → c.resource-at.result.length ≡ length_in (start c).args.file.now (start c).args.resource
-length_said_lem c = cc (part_rest (rows c).resources_at.result (start c).args.file.now, begin (rows c))
+length_said_lem : (c : tie.After-resource_at-row) → c.resource_at-row.result.length ≡ length_in (start c).args.file.now (start c).args.resource
+length_said_lem c = cc (part_rest (rows c).resources_at-resources_at.result (start c).args.file.now, begin (rows c))
 
-names_begin : (c : tie.After-names-at) → c.names_at.result ≡ names_at (counts_of (start c.before).args.file.now)
-names_begin c = c.names_at.ensures ∙ ap names_at (rows c.before).before.counts-at.ensures
+names_begin : (c : tie.After-names_at) → c.names_at.result ≡ names_at (counts_of (start c.before).args.file.now)
+names_begin c = c.names_at.ensures ∙ ap names_at (rows c.before).before.counts_at-counts.ensures
 
-resource_at_requires : tie.Need-resource-at-requires
+resource_at_requires : tie.Need-resource_at-row-requires
 resource_at_requires c κs =
     let s = c.before.before in
     let n = asked s.before.before.before in simp (part_rest, length-drop) (omega (arith, n.whole.header, n.below, begin s))
 
-part_result_end : tie.Need-slice-bounds-result-end
+part_result_end : tie.Need-slice_bounds-result-end
 part_result_end c =
     let n = c.before.before in
     let r = n.before in
-    omega (arith, (asked (start r)).fits, names_begin n, start_said r, length_said_lem r, c.wide2.ensures.same)
+    omega (arith, (asked (start r)).fits, names_begin n, start_said r, length_said_lem r, c.wide-2.ensures.same)
 
 returns : tie.Need-returns
 unfolding name_part
@@ -51,9 +51,9 @@ returns c =
     let w = c.before in
     let n = w.before.before in
     let r = n.before in
-    let from : ℕ = n.names_at.result + r.resource-at.result.start in
-    let span = part_span from w.wide2.result (start r).args.file.now in
-    name_said _ _ _ (asked (start r)) (span ∙ cc (w.wide2.ensures.same, length_said_lem r, names_begin n, start_said r))
+    let from : ℕ = n.names_at.result + r.resource_at-row.result.start in
+    let span = part_span from w.wide-2.result (start r).args.file.now in
+    name_said _ _ _ (asked (start r)) (span ∙ cc (w.wide-2.ensures.same, length_said_lem r, names_begin n, start_said r))
 
 pub name_spec : {M : Type 1} → statement M
 name_spec =

@@ -4,11 +4,11 @@ use Rattle.plan_reading.proofs.Laws.{whole_facts, plan_tasks}
 use Rattle.plan_reading.proofs.checked.task.Statement.{statement}
 use Rattle.plan_reading.proofs.checked.task.Tie as tie
 
-task_at_requires : tie.Need-task-at-requires
+task_at_requires : tie.Need-task_at-requires
 task_at_requires c κs =
     let a = c.before.before in
-    let h = (whole_facts _ a.pre.0.none).header in
-    simp (part_rest, length-drop) (omega (arith, a.pre.1, plan_tasks a.args.file.now, h.ranges.tasks, h.ends))
+    let h = (whole_facts _ a.requires.0.none).header in
+    simp (part_rest, length-drop) (omega (arith, a.requires.1, plan_tasks a.args.file.now, h.ranges.tasks, h.ends))
 
 returns : tie.Need-returns
 unfolding plan_of
@@ -18,5 +18,5 @@ pub task_spec : {M : Type 1} → statement M
 task_spec =
     tie.close
     (tie.spec
-    (λ c. omega (arith, (whole_facts _ c.before.pre.0.none).header.long))
-    (λ c. omega (arith, (whole_facts _ c.before.pre.0.none).header.long)) (λ c. search rules) task_at_requires returns)
+    (λ c. omega (arith, (whole_facts _ c.before.requires.0.none).header.long))
+    (λ c. omega (arith, (whole_facts _ c.before.requires.0.none).header.long)) (λ c. search rules) task_at_requires returns)
