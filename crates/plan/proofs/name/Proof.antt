@@ -6,20 +6,20 @@ use Rattle.plan.proofs.Laws.{name_answered, none_failed}
 use Rattle.plan.proofs.name.Statement.{statement}
 use Rattle.plan.proofs.name.Tie as tie
 
-returns : tie.Need-returns
+returns : tie.Need-returns-then-name_refusal-ne0
 unfolding name_of
-returns c = rw (ne_eqb _ _ (λ e. c.before.if1.true (c.before.before.name-refusal.ensures ∙ e)))
+returns c = rw (ne_eqb _ _ (λ e. c.before.if-name_refusal-ne0.true (c.before.before.name_refusal.ensures ∙ e)))
 
 name_requires : tie.Need-name-requires
 name_requires c κs =
-    let a = name_answered _ _ (sym c.before.name-refusal.ensures ∙ c.if1.false) in
-    (record { none = none_failed _ a.none; bytes = λ i l. (c.before.before.shared-slice-known.given i).fits }, rw plan_resources a.below)
+    let a = name_answered _ _ (sym c.before.name_refusal.ensures ∙ c.if-name_refusal-ne0.false) in
+    (record { none = none_failed _ a.none; bytes = λ i l. (c.before.before.shared_slice_known-1.given i).fits }, rw plan_resources a.below)
 
-returns_2 : tie.Need-returns-2
+returns_2 : tie.Need-returns
 unfolding name_of
 returns_2 c =
     let u = c.before in
-    rw (eq-eqb _ _ (sym u.before.name-refusal.ensures ∙ u.if1.false)) c.name.ensures.0
+    rw (eq-eqb _ _ (sym u.before.name_refusal.ensures ∙ u.if-name_refusal-ne0.false)) c.name.ensures.0
 
 pub name_spec : {M : Type 1} → statement M
 name_spec =

@@ -5,21 +5,21 @@ use Rattle.plan.proofs.Laws.{none_failed, read_refused, read_accepted, given_tol
 use Rattle.plan.proofs.read.Statement.{statement}
 use Rattle.plan.proofs.read.Tie as tie
 
-returns : tie.Need-returns
+returns : tie.Need-returns-then-code-ne0
 returns c =
-    let e = c.refused.ensures ∙ sym (read_refused _ c.before.before.check.ensures c.before.if1.true) in
+    let e = c.refused.ensures ∙ sym (read_refused _ c.before.before.check-code.ensures c.before.if-code-ne0.true) in
     (e, ap (λ (r : Reading). read_outcome r.answer) e ∙ given_told _)
 
 load_requires : tie.Need-load-requires
 load_requires c κs =
     let i = c.before in
-    record { none = header_clear _ (none_failed _ (sym i.before.check.ensures ∙ i.if1.false)); counts = c.counts-at.ensures }
+    record { none = header_clear _ (none_failed _ (sym i.before.check-code.ensures ∙ i.if-code-ne0.false)); counts = c.counts_at-counts.ensures }
 
-returns_2 : tie.Need-returns-2
+returns_2 : tie.Need-returns
 returns_2 c =
     let a = c.before.before.before in
-    let made : Reading = record { answer = Accepted c.before.counts-at.result; rows = c.load.result } in
-    let e : made ≡ reading a.before.before.args.file.now = rw (c.load.ensures, c.before.counts-at.ensures) (sym (read_accepted _ a.check.ensures c.before.before.if1.false)) in
+    let made : Reading = record { answer = Accepted c.before.counts_at-counts.result; rows = c.load.result } in
+    let e : made ≡ reading a.before.before.args.file.now = rw (c.load.ensures, c.before.counts_at-counts.ensures) (sym (read_accepted _ a.check-code.ensures c.before.before.if-code-ne0.false)) in
     (e, ap (λ (r : Reading). read_outcome r.answer) e ∙ given_told _)
 
 pub read_spec : {M : Type 1} → statement M
@@ -27,5 +27,5 @@ read_spec =
     tie.close
     (tie.spec
     (λ c κs. search rules) (λ c κs. search rules) returns
-    (λ c κs. (whole_facts _ (none_failed _ (sym c.before.check.ensures ∙ c.if1.false))).header.long)
+    (λ c κs. (whole_facts _ (none_failed _ (sym c.before.check-code.ensures ∙ c.if-code-ne0.false))).header.long)
     load_requires returns_2)

@@ -5,4 +5,4 @@ use Rattle.plan.proofs.refused.Tie as tie
 
 pub refused_spec : {M : Type 1} → statement M
 refused_spec = tie.close (tie.spec
-    (λ c κs. search rules) (λ c κs. search rules) (λ c. rw (c.no-section.ensures, c.before.no-task.ensures)))
+    (λ c κs. search rules) (λ c κs. search rules) (λ c. rw (c.no_section-section.ensures, c.before.no_task-task.ensures)))
