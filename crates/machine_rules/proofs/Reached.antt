@@ -124,7 +124,8 @@ module _ (p : Plan) (v : Valid p) (tags : (a b : ℕ) → a < p.tasks → b < p.
           let self : among i us ≡ false = is_not_true _
           (λ a. let (_, f) = among_below p.tasks i (fellow p i q) a in (fellow_facts p q i i f).other refl) in
           let new = held_without t j k i us (λ s. other (ap (processor_of p) s)) self in
-          only_told p q (held_by t j k us) _ tag (comers_wait p.tasks (omega arith)) u (rw e new) ∙ rw (e, held_tasks t j k other us)
+          let asked : in_line (task_number p tag) (held_by t j k us) ≡ false = rw e new in
+          only_told p q (held_by t j k us) _ tag (comers_wait p.tasks (omega arith)) u asked ∙ rw (e, held_tasks t j k other us)
 
 pub each_reached : (p : Plan) → Valid p → ((a b : ℕ) → a < p.tasks → b < p.tasks → (p.task a).tag ≡ (p.task b).tag → a ≡ b) → EachReached p
 each_reached p v tags tag q e =

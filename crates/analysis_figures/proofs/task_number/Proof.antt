@@ -7,41 +7,41 @@ use Rattle.analysis_equations.specs.Questions.{task_number}
 use Rattle.analysis_figures.proofs.task_number.Statement.{statement}
 use Rattle.analysis_figures.proofs.task_number.Tie as tie
 
-abbrev invariant-loop : tie.invariant-loop
-invariant-loop file tag n j₀ j = (j ≤ n) × (all_below j (λ k. not (eqb ((plan_of file).task k).tag tag)) ≡ true)
+abbrev invariant-loop-j : tie.invariant-loop-j
+invariant-loop-j file tag n j₀ j = (j ≤ n) × (all_below j (λ k. not (eqb ((plan_of file).task k).tag tag)) ≡ true)
 
-abbrev decreases-loop : tie.decreases-loop
-decreases-loop file tag n j₀ j = n - j
+abbrev decreases-loop-j : tie.decreases-loop-j
+decreases-loop-j file tag n j₀ j = n - j
 
-abbrev start : tie.After-wide invariant-loop decreases-loop → tie.Start invariant-loop decreases-loop
+abbrev start : tie.After-wide-n invariant-loop-j decreases-loop-j → tie.Start invariant-loop-j decreases-loop-j
 start c = c.before.before.before
 
-loop_holds : tie.Need-loop-init invariant-loop decreases-loop
+loop_holds : tie.Need-loop-j-init invariant-loop-j decreases-loop-j
 unfolding all_below
 loop_holds c = (omega arith, refl)
 
-returns : tie.Need-returns invariant-loop decreases-loop
+returns : tie.Need-returns-then-row-tag invariant-loop-j decreases-loop-j
 unfolding task_number
 returns c =
-    let l = c.before.before.before.before.loop in
-    sym (find_at _ l.j _ (omega arith) l.invariant.1 (rw (← c.before.before.task.ensures) (eq-eqb _ _ c.if1.true)))
+    let l = c.before.before.before.before.loop-j in
+    sym (find_at _ l.j _ (omega arith) l.invariant.1 (rw (← c.before.before.task-row.ensures) (eq-eqb _ _ c.if-row-tag.true)))
 
-loop_again : tie.Need-loop-preserved invariant-loop decreases-loop
+loop_again : tie.Need-loop-j-preserved invariant-loop-j decreases-loop-j
 loop_again c =
-    let l = c.before.before.before.before.loop in
-    (omega arith, all_more _ _ l.invariant.1 (rw (← c.before.before.task.ensures, ne_eqb _ _ c.if1.false)))
+    let l = c.before.before.before.before.loop-j in
+    (omega arith, all_more _ _ l.invariant.1 (rw (← c.before.before.task-row.ensures, ne_eqb _ _ c.if-row-tag.false)))
 
-returns_2 : tie.Need-returns-2 invariant-loop decreases-loop
+returns_2 : tie.Need-returns invariant-loop-j decreases-loop-j
 unfolding task_number
 returns_2 c =
     let turn = c.before in
     let counted = turn.before in
-    let e : turn.loop.j ≡ (plan_of (start counted).args.file.now).tasks = omega arith in
-    counted.wide.ensures.same ∙ counted.before.counts.ensures.tasks ∙ sym (find_none _ _ (rw e at turn.loop.invariant.1))
+    let e : turn.loop-j.j ≡ (plan_of (start counted).args.file.now).tasks = omega arith in
+    counted.wide-n.ensures.same ∙ counted.before.counts-counts.ensures.tasks ∙ sym (find_none _ _ (rw e at turn.loop-j.invariant.1))
 
 pub task_number_spec : {M : Type 1} → statement M
 task_number_spec =
     tie.close
     (tie.spec
-    invariant-loop decreases-loop (λ c κs. c.before.requires) (λ c κs. search rules) loop_holds (λ c κs. ((start c.before.before).requires, omega arith)) returns
+    invariant-loop-j decreases-loop-j (λ c κs. c.before.requires) (λ c κs. search rules) loop_holds (λ c κs. ((start c.before.before).requires, omega arith)) returns
     (λ c. omega arith) (λ c. omega arith) loop_again returns_2)

@@ -10,7 +10,7 @@ names_fit c κs =
     let o = n.before.before in
     let a = o.before.before.before in
     let g = counts_facts a.args.c a.requires.counts in
-    omega (arith, n.names_at.ensures)
+    omega (arith, n.names_at-names_at.ensures)
 
 returns : tie.Need-returns
 unfolding header_bytes row_bytes digits

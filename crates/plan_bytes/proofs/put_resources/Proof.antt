@@ -14,34 +14,34 @@ record Written (r : ℕ) (lengths before now : List ℕ) (end i : ℕ) : Type 0 
   start : end ≡ sum_below i (length_of lengths)
   small : end ≤ 255 * i
 
-abbrev invariant-loop : tie.invariant-loop
-invariant-loop buf₀ r lengths start₀ i₀ buf start i = Written r lengths buf₀ buf start i
+abbrev invariant-loop-i : tie.invariant-loop-i
+invariant-loop-i buf₀ r lengths start₀ i₀ buf start i = Written r lengths buf₀ buf start i
 
-abbrev decreases-loop : tie.decreases-loop
-decreases-loop buf₀ r lengths start₀ i₀ buf start i = r - i
+abbrev decreases-loop-i : tie.decreases-loop-i
+decreases-loop-i buf₀ r lengths start₀ i₀ buf start i = r - i
 
-loop_holds : tie.Need-loop-init invariant-loop decreases-loop
+loop_holds : tie.Need-loop-i-init invariant-loop-i decreases-loop-i
 unfolding sum_below
 loop_holds c = record { rows = rows_none; start = refl; small = omega arith }
 
-loop_again : tie.Need-loop-preserved invariant-loop decreases-loop
+loop_again : tie.Need-loop-i-preserved invariant-loop-i decreases-loop-i
 unfolding resource_bytes
 loop_again c =
     let b = c.before.before.before in
     let t = b.before.before.before in
-    let l = t.loop in
+    let l = t.loop-i in
     let a = t.before.before in
     record {
-      rows = rows_more (resource_length a.args.t2) l.invariant.rows (rw l.invariant.start at b.put-resource.ensures) (omega arith) (omega arith);
-      start = sum_step _ _ l.invariant.start c.wide.ensures.same;
-      small = omega (arith, c.wide.ensures.low);
+      rows = rows_more (resource_length a.args.lengths) l.invariant.rows (rw l.invariant.start at b.put_resource.ensures) (omega arith) (omega arith);
+      start = sum_step _ _ l.invariant.start c.wide-start.ensures.same;
+      small = omega (arith, c.wide-start.ensures.low);
     }
 
 pub put_resources_spec : {M : Type 1} → statement M
 put_resources_spec =
     tie.close
     (tie.spec
-    invariant-loop decreases-loop loop_holds (λ c. omega arith) (λ c. omega arith) (λ c. omega arith) (λ c. omega arith) (λ c. omega arith)
+    invariant-loop-i decreases-loop-i loop_holds (λ c. omega arith) (λ c. omega arith) (λ c. omega arith) (λ c. omega arith) (λ c. omega arith)
     (λ c κs. (simp (length-take, length-drop) (omega arith), omega arith)) (λ c κs. omega arith) (λ c. omega arith)
-    (λ c. omega arith) (λ c. omega arith) loop_again (λ c. c.before.loop.invariant.rows.front.kept)
-    (λ c. rows_all c.before.loop.invariant.rows (omega arith)))
+    (λ c. omega arith) (λ c. omega arith) loop_again (λ c. c.before.loop-i.invariant.rows.front.kept)
+    (λ c. rows_all c.before.loop-i.invariant.rows (omega arith)))

@@ -5,23 +5,23 @@ use Rattle.plan_bytes.proofs.Put.{section_length}
 use Rattle.plan_bytes.proofs.put_sections.Statement.{statement}
 use Rattle.plan_bytes.proofs.put_sections.Tie as tie
 
-abbrev invariant-loop : tie.invariant-loop
-invariant-loop buf₀ s sections i₀ buf i = Rowed s section_width (section_bytes edition1 sections) buf₀ buf i
+abbrev invariant-loop-i : tie.invariant-loop-i
+invariant-loop-i buf₀ s sections i₀ buf i = Rowed s section_width (section_bytes edition1 sections) buf₀ buf i
 
-abbrev decreases-loop : tie.decreases-loop
-decreases-loop buf₀ s sections i₀ buf i = s - i
+abbrev decreases-loop-i : tie.decreases-loop-i
+decreases-loop-i buf₀ s sections i₀ buf i = s - i
 
-loop_again : tie.Need-loop-preserved invariant-loop decreases-loop
+loop_again : tie.Need-loop-i-preserved invariant-loop-i decreases-loop-i
 unfolding section_bytes
 loop_again c =
     let p = c.before.before in
     let l = p.before.before.before.before in
-    rows_more (section_length l.before.before.args.t2) l.loop.invariant p.put-section.ensures (omega arith) (omega arith)
+    rows_more (section_length l.before.before.args.sections) l.loop-i.invariant p.put_section.ensures (omega arith) (omega arith)
 
 pub put_sections_spec : {M : Type 1} → statement M
 put_sections_spec =
     tie.close
     (tie.spec
-    invariant-loop decreases-loop (λ c. rows_none) (λ c. omega arith) (λ c. omega arith) (λ c. omega arith) (λ c. omega arith) (λ c. omega arith)
+    invariant-loop-i decreases-loop-i (λ c. rows_none) (λ c. omega arith) (λ c. omega arith) (λ c. omega arith) (λ c. omega arith) (λ c. omega arith)
     (λ c. omega arith) (λ c κs. simp (length-take, length-drop) (omega arith)) (λ c. omega arith) (λ c. omega arith) loop_again
-    (λ c. c.before.loop.invariant.front.kept) (λ c. rows_all c.before.loop.invariant (omega arith)))
+    (λ c. c.before.loop-i.invariant.front.kept) (λ c. rows_all c.before.loop-i.invariant (omega arith)))

@@ -5,28 +5,28 @@ use Rattle.plan_bytes.proofs.Put.{task_length, tag_at}
 use Rattle.plan_bytes.proofs.put_tasks.Statement.{statement}
 use Rattle.plan_bytes.proofs.put_tasks.Tie as tie
 
-abbrev invariant-loop : tie.invariant-loop
-invariant-loop buf₀ n tasks i₀ buf i = Rowed n task_width (task_bytes edition1 tasks) buf₀ buf i
+abbrev invariant-loop-i : tie.invariant-loop-i
+invariant-loop-i buf₀ n tasks i₀ buf i = Rowed n task_width (task_bytes edition1 tasks) buf₀ buf i
 
-abbrev decreases-loop : tie.decreases-loop
-decreases-loop buf₀ n tasks i₀ buf i = n - i
+abbrev decreases-loop-i : tie.decreases-loop-i
+decreases-loop-i buf₀ n tasks i₀ buf i = n - i
 
-put_task_requires : tie.Need-put-task-requires invariant-loop decreases-loop
+put_task_requires : tie.Need-put_task-requires invariant-loop-i decreases-loop-i
 put_task_requires c κs =
     let t = c.before.before in
-    (simp (length-take, length-drop) (omega arith), tag_at _ _ _ _ t.before.before.before.requires.tags t.loop-test.true)
+    (simp (length-take, length-drop) (omega arith), tag_at _ _ _ _ t.before.before.before.requires.tags t.loop-i-test.true)
 
-loop_again : tie.Need-loop-preserved invariant-loop decreases-loop
+loop_again : tie.Need-loop-i-preserved invariant-loop-i decreases-loop-i
 unfolding task_bytes
 loop_again c =
     let p = c.before.before in
     let l = p.before.before.before.before in
-    rows_more (task_length l.before.before.args.t2) l.loop.invariant p.put-task.ensures (omega arith) (omega arith)
+    rows_more (task_length l.before.before.args.tasks) l.loop-i.invariant p.put_task.ensures (omega arith) (omega arith)
 
 pub put_tasks_spec : {M : Type 1} → statement M
 put_tasks_spec =
     tie.close
     (tie.spec
-    invariant-loop decreases-loop (λ c. rows_none) (λ c. omega arith) (λ c. omega arith) (λ c. omega arith) (λ c. omega arith) (λ c. omega arith)
-    (λ c. omega arith) put_task_requires (λ c. omega arith) (λ c. omega arith) loop_again (λ c. c.before.loop.invariant.front.kept)
-    (λ c. rows_all c.before.loop.invariant (omega arith)))
+    invariant-loop-i decreases-loop-i (λ c. rows_none) (λ c. omega arith) (λ c. omega arith) (λ c. omega arith) (λ c. omega arith) (λ c. omega arith)
+    (λ c. omega arith) put_task_requires (λ c. omega arith) (λ c. omega arith) loop_again (λ c. c.before.loop-i.invariant.front.kept)
+    (λ c. rows_all c.before.loop-i.invariant (omega arith)))
