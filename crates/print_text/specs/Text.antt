@@ -45,7 +45,7 @@ text_below zero text = []
 text_below (suc n) text = text_below n text ++ text n
 
 -- the number that a text of digits says, read from left to right after `so` has been read; `decimal` is held to it by the laws
--- `decimal-value`, `decimal_digit` and `decimal-first`
+-- `decimal_value`, `decimal_digit` and `decimal_first`
 unfoldable pub value_from : ℕ → List ℕ → ℕ
 value_from so [] = so
 value_from so (d ∷ text) = value_from (so * 10 + (d - 48)) text

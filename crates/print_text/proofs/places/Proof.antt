@@ -16,24 +16,24 @@ one_more_lem n count rest zero m f s h = let bad : ⊥ = omega arith in absurd b
 one_more_lem n count rest (suc left) m f s h =
     record { left = left; most = omega arith; fits = omega arith; same = omega (arith, places_more left rest h) }
 
-abbrev invariant-loop : tie.invariant-loop
-invariant-loop n count₀ rest₀ count rest = Counted n count rest
+abbrev invariant-loop-rest : tie.invariant-loop-rest
+invariant-loop-rest n count₀ rest₀ count rest = Counted n count rest
 
-abbrev decreases-loop : tie.decreases-loop
-decreases-loop n count₀ rest₀ count rest = rest
+abbrev decreases-loop-rest : tie.decreases-loop-rest
+decreases-loop-rest n count₀ rest₀ count rest = rest
 
-loop_again : tie.Need-loop-preserved invariant-loop decreases-loop
+loop_again : tie.Need-loop-rest-preserved invariant-loop-rest decreases-loop-rest
 loop_again c =
-    let i = c.before.loop.invariant in
-    one_more_lem c.before.before.args.n c.before.loop.count c.before.loop.rest i.left i.most i.fits i.same (omega arith)
+    let i = c.before.loop-rest.invariant in
+    one_more_lem c.before.before.args.n c.before.loop-rest.count c.before.loop-rest.rest i.left i.most i.fits i.same (omega arith)
 
-returns : tie.Need-returns invariant-loop decreases-loop
+returns : tie.Need-returns invariant-loop-rest decreases-loop-rest
 returns c =
-    let i = c.before.loop.invariant in
-    omega (arith, places_one i.left c.before.loop.rest (omega arith), places_low 19 c.before.before.args.n)
+    let i = c.before.loop-rest.invariant in
+    omega (arith, places_one i.left c.before.loop-rest.rest (omega arith), places_low 19 c.before.before.args.n)
 
 pub places_spec : {M : Type 1} → statement M
 places_spec =
     tie.close (tie.spec
-    invariant-loop decreases-loop (λ c. record { left = 19; most = omega arith; fits = omega arith; same = omega arith }) (λ c. omega arith)
+    invariant-loop-rest decreases-loop-rest (λ c. record { left = 19; most = omega arith; fits = omega arith; same = omega arith }) (λ c. omega arith)
     (λ c. omega arith) loop_again returns)

@@ -10,26 +10,26 @@ record PutTo (before now : List ℕ) (at : ℕ) (text : List ℕ) (k : ℕ) : Ty
   held : now ≡ paste before at text k
   long : length now ≡ length before
 
-abbrev invariant-loop : tie.invariant-loop
-invariant-loop buf₀ at text k₀ buf k = PutTo buf₀ buf at text k
+abbrev invariant-loop-k : tie.invariant-loop-k
+invariant-loop-k buf₀ at text k₀ buf k = PutTo buf₀ buf at text k
 
-abbrev decreases-loop : tie.decreases-loop
-decreases-loop buf₀ at text k₀ buf k = length text - k
+abbrev decreases-loop-k : tie.decreases-loop-k
+decreases-loop-k buf₀ at text k₀ buf k = length text - k
 
-loop_again : tie.Need-loop-preserved invariant-loop decreases-loop
+loop_again : tie.Need-loop-k-preserved invariant-loop-k decreases-loop-k
 loop_again c =
     let a = c.before.before.before.args in
-    let l = c.before.before.loop in
+    let l = c.before.before.loop-k in
     record {
       turn = omega arith;
       held = rw (l.invariant.held, add-one) (paste-suc a.buf.now a.at a.text.now l.k 0 (omega arith) (omega arith));
       long = simp length-set l.invariant.long;
     }
 
-returns : tie.Need-returns invariant-loop decreases-loop
+returns : tie.Need-returns invariant-loop-k decreases-loop-k
 returns c =
     let a = c.before.before.args in
-    let l = c.before.loop in
+    let l = c.before.loop-k in
     let s = a.text.now in
     let e : l.k ≡ length s = omega arith in
     record {
@@ -41,7 +41,7 @@ pub put_spec : {M : Type 1} → statement M
 put_spec =
     tie.close
     (tie.spec
-    invariant-loop decreases-loop
+    invariant-loop-k decreases-loop-k
     (λ c. record { turn = omega arith; held = paste-zero c.args.buf.now c.args.at c.args.text.now; long = refl })
     (λ c. omega arith) (λ c. omega arith) (λ c. omega arith) (λ c. omega arith) (λ c. omega arith) loop_again (λ c. omega arith)
     (λ c. omega arith) returns)

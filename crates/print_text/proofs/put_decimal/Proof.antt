@@ -30,27 +30,27 @@ record Left (before now : List ℕ) (at n count rest k : ℕ) : Type 0 where
   same : placed now at k rest ≡ placed before at count n
   long : length now ≡ length before
 
-abbrev invariant-loop : tie.invariant-loop
-invariant-loop buf₀ at n count rest₀ k₀ buf rest k = Left buf₀ buf at n count rest k
+abbrev invariant-loop-k : tie.invariant-loop-k
+invariant-loop-k buf₀ at n count rest₀ k₀ buf rest k = Left buf₀ buf at n count rest k
 
-abbrev decreases-loop : tie.decreases-loop
-decreases-loop buf₀ at n count rest₀ k₀ buf rest k = k
+abbrev decreases-loop-k : tie.decreases-loop-k
+decreases-loop-k buf₀ at n count rest₀ k₀ buf rest k = k
 
-loop_again : tie.Need-loop-preserved invariant-loop decreases-loop
+loop_again : tie.Need-loop-k-preserved invariant-loop-k decreases-loop-k
 loop_again c =
     let at = c.before.before.before.before.args.at in
-    let l = c.before.loop in
+    let l = c.before.loop-k in
     record {
       few = omega arith;
       same = one_more_lem l.buf at (l.k - 1) l.k l.rest (omega arith) (omega arith) ∙ l.invariant.same;
       long = simp length-set l.invariant.long;
     }
 
-returns : tie.Need-returns invariant-loop decreases-loop
+returns : tie.Need-returns invariant-loop-k decreases-loop-k
 returns c =
     let p = c.before.before in
-    let l = c.before.loop in
-    let count = p.places.ensures.same in
+    let l = c.before.loop-k in
+    let count = p.places-count.ensures.same in
     record {
       put = record {
         held = sym (none_left l.buf p.before.before.args.at l.k l.rest (omega arith)) ∙ l.invariant.same ∙ rw (digits_length, count);
@@ -63,5 +63,5 @@ pub put_decimal_spec : {M : Type 1} → statement M
 put_decimal_spec =
     tie.close
     (tie.spec
-    invariant-loop decreases-loop (λ c κs. search rules) (λ c. record { few = omega arith; same = refl; long = refl }) (λ c. omega arith) (λ c. omega arith)
+    invariant-loop-k decreases-loop-k (λ c κs. search rules) (λ c. record { few = omega arith; same = refl; long = refl }) (λ c. omega arith) (λ c. omega arith)
     (λ c. omega arith) (λ c. omega arith) (λ c. omega arith) (λ c. omega arith) loop_again (λ c. omega arith) (λ c. omega arith) returns)

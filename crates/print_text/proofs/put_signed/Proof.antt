@@ -30,7 +30,7 @@ held z = to_z w64 (of_z w64 z)
 casts : (z : ℤ) → SFits w64 z → lt_z (held z) (pos 0) ≡ false → T (non_neg (held z)) × Fits w64 (nat_abs (held z))
 casts z s t = (not_below (held z) t, rw (to_z-of_z s) (Fits-nat_abs tt s))
 
-returns : tie.Need-returns
+returns : tie.Need-returns-then-z-lt0
 returns c =
     let d = c.before.before in
     let b = d.before in
@@ -38,19 +38,19 @@ returns c =
     let i = p.before.before.before in
     let a = i.before.before in
     let z = a.args.z in
-    put_held signed z a.ranges.z (put_below (held z) i.if1.true b.below_zero.ensures p.put.ensures d.put-decimal.ensures)
+    put_held signed z a.ranges.z (put_below (held z) i.if-z-lt0.true b.below_zero.ensures p.put-a.ensures d.put_decimal.ensures)
 
-returns_2 : tie.Need-returns-2
+returns_2 : tie.Need-returns
 returns_2 c =
     let i = c.before.before.before.before in
     let a = i.before.before in
     let z = a.args.z in
-    put_held signed z a.ranges.z (put_not_below (held z) (not_below (held z) i.if1.false) c.before.before.put-decimal2.ensures)
+    put_held signed z a.ranges.z (put_not_below (held z) (not_below (held z) i.if-z-lt0.false) c.before.before.put_decimal-2.ensures)
 
 pub put_signed_spec : {M : Type 1} → statement M
 put_signed_spec =
     tie.close
     (tie.spec
-    (λ c. search rules) (λ c κs. search rules) (λ c κs. search rules) (λ c κs. search rules) (λ c. search rules) returns
-    (λ c. casts _ c.before.before.before.ranges.z c.before.if1.false) (λ c κs. search rules) (λ c. search rules)
+    (λ c κs. search rules) (λ c κs. search rules) (λ c κs. search rules) (λ c. search rules) returns
+    (λ c. casts _ c.before.before.before.ranges.z c.before.if-z-lt0.false) (λ c κs. search rules) (λ c. search rules)
     returns_2)
