@@ -124,7 +124,7 @@ module _ (p : Plan) (v : Valid p) (tags : (a b : ℕ) → a < p.tasks → b < p.
           let self : among i us ≡ false = is_not_true _
           (λ a. let (_, f) = among_below p.tasks i (fellow p i q) a in (fellow_facts p q i i f).other refl) in
           let new = held_without t j k i us (λ s. other (ap (processor_of p) s)) self in
-          let asked : in_line (task_number p tag) (held_by t j k us) ≡ false = rw e new in
+          let asked = subst (λ (x : ℕ). in_line x (held_by t j k us) ≡ false) (sym e) new in
           only_told p q (held_by t j k us) _ tag (comers_wait p.tasks (omega arith)) u asked ∙ rw (e, held_tasks t j k other us)
 
 pub each_reached : (p : Plan) → Valid p → ((a b : ℕ) → a < p.tasks → b < p.tasks → (p.task a).tag ≡ (p.task b).tag → a ≡ b) → EachReached p

@@ -70,13 +70,13 @@ returns c =
     let header : Front (header_bytes a.args.c end) (tasks_at a.args.c) a.args.buf.now _ =
     put_front h.put_header.ensures (header_length_lem a.args.c end) (omega arith) in
     let f1 =
-    rows_part task_width _ (task_length rows.tasks-1) tasks.result resources_at_lem.result header
+    rows_part task_width _ (task_length rows.tasks) tasks.result resources_at_lem.result header
     t.put_tasks.ensures (omega arith) (omega arith) in
     let f2 =
-    rows_part resource_width _ (resource_length rows.lengths-1) resources.result sections_at_lem.result f1
+    rows_part resource_width _ (resource_length rows.lengths) resources.result sections_at_lem.result f1
     r.put_resources.ensures (omega arith) (omega arith) in
     let f3 =
-    rows_part section_width _ (section_length rows.sections-1) a.args.c.sections-1 names_at_lem.result f2
+    rows_part section_width _ (section_length rows.sections) a.args.c.sections names_at_lem.result f2
     s.put_sections.ensures (omega arith) (omega arith) in
     let f4 = part_more names (length names) end f3 n.put_bytes.ensures refl refl (omega arith) in
     f4.bytes ∙ file_same a.args.c rows names _ tasks.ensures.same resources.ensures.same (ap (λ (n : ℕ). n + length names) names_at_lem.ensures)
