@@ -11,16 +11,16 @@ record Turn (f figures : List ℕ) (q : ℕ) (t : List ℕ) : Type 0 where
   known : Known f figures
   terms : TermsBelow (plan_of f) q 0 0 0 t
 
-abbrev invariant-loop : tie.invariant-loop
-invariant-loop file figures terms₀ q₀ terms q = Turn file figures q terms
+abbrev invariant-loop-q : tie.invariant-loop-q
+invariant-loop-q file figures terms₀ q₀ terms q = Turn file figures q terms
 
-abbrev decreases-loop : tie.decreases-loop
-decreases-loop file figures terms₀ q₀ terms q = most_resources - q
+abbrev decreases-loop-q : tie.decreases-loop-q
+decreases-loop-q file figures terms₀ q₀ terms q = most_resources - q
 
-loop_again : tie.Need-loop-preserved invariant-loop decreases-loop
+loop_again : tie.Need-loop-q-preserved invariant-loop-q decreases-loop-q
 loop_again c =
-    let l = c.before.before.before.loop in
-    let e = c.chosen.ensures ∙ ap (λ (b : Bool). cond b 1 0) c.before.is_global.ensures in
+    let l = c.before.before.before.loop-q in
+    let e = c.chosen.ensures ∙ ap (λ (b : Bool). cond b 1 0) c.before.is_global-shared.ensures in
     let terms = terms_shared _ l.q l.terms l.invariant.terms (omega arith) e in
     search rules
 
@@ -28,10 +28,10 @@ pub put_shared_spec : {M : Type 1} → statement M
 put_shared_spec =
     tie.close
     (tie.spec
-    invariant-loop decreases-loop
+    invariant-loop-q decreases-loop-q
     (λ c. let h = c.before.before.before.requires in record { within = omega arith; known = h.0; terms = terms_none _ h.1 })
     (λ c κs. search rules) (λ c κs. search rules) (λ c. omega arith) (λ c. omega arith)
-    (λ c. omega (arith, c.before.before.before.loop.invariant.terms.long)) (λ c. omega arith) (λ c. omega arith) loop_again
+    (λ c. omega (arith, c.before.before.before.loop-q.invariant.terms.long)) (λ c. omega arith) (λ c. omega arith) loop_again
     (λ c. let l = c.before in
-    l.loop.invariant.terms.long ∙ sym (rw l.before.before.before.before.requires.1 (length-replicate {A = ℕ} term_count 0)))
-    (λ c. let l = c.before.loop in let e : l.q ≡ most_resources = omega arith in rw e at l.invariant.terms))
+    l.loop-q.invariant.terms.long ∙ sym (rw l.before.before.before.before.requires.1 (length-replicate {A = ℕ} term_count 0)))
+    (λ c. let l = c.before.loop-q in let e : l.q ≡ most_resources = omega arith in rw e at l.invariant.terms))

@@ -9,7 +9,7 @@ abbrev start : tie.After-wide → tie.Start
 start c = let own = c.before in own.before.before.before.before
 
 own : (c : tie.After-wide) → let a = (start c).args in c.wide.result ≡ processor_of (plan_of a.file.now) a.i
-own c = c.wide.ensures.same ∙ ap (λ (r : TaskRow). r.processor) c.before.task.ensures
+own c = c.wide.ensures.same ∙ ap (λ (r : TaskRow). r.processor) c.before.task-own.ensures
 
 -- the cells of its processor and the resource are there
 there : (c : tie.After-wide) → let a = (start c).args in TotalPlace a.totals.now c.wide.result a.q
@@ -19,7 +19,7 @@ returns : tie.Need-returns
 returns c =
     let h = c.before.before in
     let u = (start h.before).requires in
-    (omega (arith, users_of u (own h.before)), omega (arith, holds_of u (own h.before) h.hold_at.ensures))
+    (omega (arith, users_of u (own h.before)), omega (arith, holds_of u (own h.before) h.hold_at-hold.ensures))
 
 pub fellows_of_spec : {M : Type 1} → statement M
 fellows_of_spec =
@@ -33,5 +33,5 @@ fellows_of_spec =
     (λ c. let w = c.before.before in omega (arith, users_of (start w).requires (own w)))
     (λ c. let s = there c.before.before in omega arith) (λ c. let s = there c.before.before in omega arith)
     (λ c. let s = there c.before.before.before in omega arith) (λ c. search rules)
-    (λ c. let h = c.before.before in let w = h.before in omega (arith, holds_of (start w).requires (own w) h.hold_at.ensures))
+    (λ c. let h = c.before.before in let w = h.before in omega (arith, holds_of (start w).requires (own w) h.hold_at-hold.ensures))
     returns)

@@ -4,19 +4,19 @@ use Rattle.plan_rules.proofs.Loops.{Tested, tested_none, tested_one, tested_all}
 use Rattle.plan_writing.proofs.tags_ok.Statement.{statement}
 use Rattle.plan_writing.proofs.tags_ok.Tie as tie
 
-abbrev invariant-loop : tie.invariant-loop
-invariant-loop n tasks ok₀ i₀ ok i = Tested n (λ k. leb (task_of tasks k).tag (format_of edition1).most_tag) ok i
+abbrev invariant-loop-i : tie.invariant-loop-i
+invariant-loop-i n tasks ok₀ i₀ ok i = Tested n (λ k. leb (task_of tasks k).tag (format_of edition1).most_tag) ok i
 
-abbrev decreases-loop : tie.decreases-loop
-decreases-loop n tasks ok₀ i₀ ok i = n - i
+abbrev decreases-loop-i : tie.decreases-loop-i
+decreases-loop-i n tasks ok₀ i₀ ok i = n - i
 
-returns : tie.Need-returns invariant-loop decreases-loop
+returns : tie.Need-returns invariant-loop-i decreases-loop-i
 unfolding tags_ok
-returns c = tested_all c.before.loop.invariant (omega arith)
+returns c = tested_all c.before.loop-i.invariant (omega arith)
 
 pub tags_ok_spec : {M : Type 1} → statement M
 tags_ok_spec =
     tie.close
     (tie.spec
-    invariant-loop decreases-loop (λ c. tested_none) (λ c. omega arith) (λ c. omega arith) (λ c. omega arith) (λ c. omega arith)
-    (λ c. tested_one c.before.before.before.loop.invariant (omega arith) refl) returns)
+    invariant-loop-i decreases-loop-i (λ c. tested_none) (λ c. omega arith) (λ c. omega arith) (λ c. omega arith) (λ c. omega arith)
+    (λ c. tested_one c.before.before.before.loop-i.invariant (omega arith) refl) returns)

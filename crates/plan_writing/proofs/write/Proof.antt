@@ -5,42 +5,42 @@ use Rattle.plan_writing.proofs.Outcome.{code_values, code_short, code_fits, wrot
 use Rattle.plan_writing.proofs.write.Statement.{statement}
 use Rattle.plan_writing.proofs.write.Tie as tie
 
-returns : tie.Need-returns
+returns : tie.Need-returns-then-code-ne0
 returns c =
-    let e = code_values _ _ _ _ c.before.values-code.ensures c.if1.true in
-    ended_so _ _ _ (kept_back _ _ _ _ e c.if1.true) refl refl
+    let e = code_values _ _ _ _ c.before.values_code-code.ensures c.if-code-ne0.true in
+    ended_so _ _ _ (kept_back _ _ _ _ e c.if-code-ne0.true) refl refl
 
-returns_2 : tie.Need-returns-2
+returns_2 : tie.Need-returns-then-buf-len
 returns_2 c =
     let v = c.before.before.before in
     let a = v.before.before.before.args in
-    let short : length a.buf.now < file_length a.c a.names.now = omega (arith, c.before.names_at.ensures, c.if2.true) in
-    let e = code_short _ _ _ _ v.values-code.ensures c.before.before.if1.false short in
+    let short : length a.buf-1.now < file_length a.c a.names.now = omega (arith, c.before.names_at.ensures, c.if-buf-len.true) in
+    let e = code_short _ _ _ _ v.values_code-code.ensures c.before.before.if-code-ne0.false short in
     ended_so _ _ _ (kept_back _ _ _ _ e (λ z. omega arith)) refl refl
 
-put_file_requires : tie.Need-put-file-requires
+put_file_requires : tie.Need-put_file-requires
 put_file_requires c κs =
-    let z = sized _ _ _ (sym c.before.before.before.before.values-code.ensures ∙ c.before.before.before.if1.false) in
+    let z = sized _ _ _ (sym c.before.before.before.before.values_code-code.ensures ∙ c.before.before.before.if-code-ne0.false) in
     record { counts = z.rules.counts; tags = tags_kept _ _ _ _ z.rules.tests.tasks; short = z.short; room = omega arith }
 
-cast_t13 : tie.Need-cast-t13
+cast_t13 : tie.Need-overflow_cast-result
 cast_t13 c =
     let i = c.before.before.before.before in
     let n = i.before in
     let v = n.before.before in
-    let z = sized _ _ _ (sym v.values-code.ensures ∙ n.before.if1.false) in
+    let z = sized _ _ _ (sym v.values_code-code.ensures ∙ n.before.if-code-ne0.false) in
     omega (arith, n.names_at.ensures, z.short, z.ranges.tasks, z.ranges.resources, z.ranges.sections)
 
-returns_3 : tie.Need-returns-3
+returns_3 : tie.Need-returns
 returns_3 c =
     let i = c.before.before.before.before in
     let n = i.before in
     let v = n.before.before in
     let a = v.before.before.before.args in
-    let fits : file_length a.c a.names.now ≤ length a.buf.now = omega (arith, n.names_at.ensures, i.if2.false) in
-    let e = code_fits _ _ _ _ v.values-code.ensures n.before.if1.false fits in
+    let fits : file_length a.c a.names.now ≤ length a.buf-1.now = omega (arith, n.names_at.ensures, i.if-buf-len.false) in
+    let e = code_fits _ _ _ _ v.values_code-code.ensures n.before.if-code-ne0.false fits in
     ended_so _ _ _ (wrote _ _ _ _ e) (ap (λ (k : ℕ). Written (k + length a.names.now)) n.names_at.ensures)
-    c.before.before.put-file.ensures
+    c.before.before.put_file.ensures
 
 pub write_spec : {M : Type 1} → statement M
 write_spec =
