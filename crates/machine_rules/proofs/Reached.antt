@@ -14,6 +14,8 @@ use Rattle.analysis_equations.specs.Sharing.{used_on}
 use Rattle.analysis_equations.specs.Questions.{sharing_code}
 use Rattle.analysis_equations.proofs.Laws.{used_out}
 use Rattle.queue_rules.specs.Rules.{Terms, free}
+use Rattle.folds.proofs.Ground.{subst}
+use Rattle.queue_rules.specs.Rules.{limit}
 use Rattle.queue_rules.proofs.Lists.{among_below}
 use Rattle.queue_rules.proofs.Held.{held_by, held_without, held_tasks, held_entered}
 use Rattle.machine_rules.specs.Machine.{run}
@@ -125,7 +127,9 @@ module _ (p : Plan) (v : Valid p) (tags : (a b : ℕ) → a < p.tasks → b < p.
           (λ a. let (_, f) = among_below p.tasks i (fellow p i q) a in (fellow_facts p q i i f).other refl) in
           let new = held_without t j k i us (λ s. other (ap (processor_of p) s)) self in
           let asked = subst (λ (x : ℕ). in_line x (held_by t j k us) ≡ false) (sym e) new in
-          only_told p q (held_by t j k us) _ tag (comers_wait p.tasks (omega arith)) u asked ∙ rw (e, held_tasks t j k other us)
+          only_told p q (held_by t j k us) _ tag (comers_wait p.tasks (omega arith)) u asked
+          ∙ subst (λ (x : ℕ). request_answer p x q (held_by t j k us) ≡ Waits (length us) (limit t i us)) (sym e)
+          (ap (λ (l : List ℕ). Waits (length l) (limit t i l)) (held_tasks t j k other us))
 
 pub each_reached : (p : Plan) → Valid p → ((a b : ℕ) → a < p.tasks → b < p.tasks → (p.task a).tag ≡ (p.task b).tag → a ≡ b) → EachReached p
 each_reached p v tags tag q e =
