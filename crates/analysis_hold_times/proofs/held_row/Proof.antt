@@ -3,18 +3,18 @@ use Rattle.analysis_hold_times.proofs.Ground.{◌+◌, ◌-◌, cond, eqb, get_o
 use Rattle.analysis_hold_times.proofs.held_row.Statement.{statement}
 use Rattle.analysis_hold_times.proofs.held_row.Tie as tie
 
-abbrev invariant-loop : tie.invariant-loop
-invariant-loop own above row₀ q₀ row q = Made (λ x. cond (eqb (get_or own x 0) 0) 0 (get_or own x 0 + get_or above x 0)) own q row
+abbrev invariant-loop-q : tie.invariant-loop-q
+invariant-loop-q own above row₀ q₀ row q = Made (λ x. cond (eqb (get_or own x 0) 0) 0 (get_or own x 0 + get_or above x 0)) own q row
 
-abbrev decreases-loop : tie.decreases-loop
-decreases-loop own above row₀ q₀ row q = 16 - q
+abbrev decreases-loop-q : tie.decreases-loop-q
+decreases-loop-q own above row₀ q₀ row q = 16 - q
 
 pub held_row_spec : {M : Type 1} → statement M
 held_row_spec =
     tie.close
     (tie.spec
-    invariant-loop decreases-loop (λ c. row_none _ _) (λ c. omega arith) (λ c. omega arith) (λ c. omega arith) (λ c. omega arith) (λ c. omega arith) (λ c. omega arith)
-    (λ c. omega (arith, c.before.before.requires c.before.loop.q (omega arith))) (λ c κs. search rules)
+    invariant-loop-q decreases-loop-q (λ c. row_none _ _) (λ c. omega arith) (λ c. omega arith) (λ c. omega arith) (λ c. omega arith) (λ c. omega arith) (λ c. omega arith)
+    (λ c. omega (arith, c.before.before.requires c.before.loop-q.q (omega arith))) (λ c κs. search rules)
     (λ c. omega arith) (λ c. omega arith) (λ c. omega arith) (λ c. omega arith)
-    (λ c. let l = c.before.before.loop in row_next l.q _ _ l.invariant (omega arith) c.chosen.ensures)
-    (λ c. let l = c.before.loop in row_done l.q _ _ l.invariant (omega arith) (search rules)))
+    (λ c. let l = c.before.before.loop-q in row_next l.q _ _ l.invariant (omega arith) c.chosen.ensures)
+    (λ c. let l = c.before.loop-q in row_done l.q _ _ l.invariant (omega arith) (search rules)))

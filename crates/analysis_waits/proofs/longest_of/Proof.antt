@@ -13,20 +13,20 @@ abbrev start : tie.After-wide → tie.Start
 start c = let task = c.before in task.before.before.before.before
 
 own : (c : tie.After-wide) → let a = (start c).args in c.wide.result ≡ processor_of (plan_of a.file.now) a.i
-own c = c.wide.ensures.same ∙ ap (λ (r : TaskRow). r.processor) c.before.task.ensures
+own c = c.wide.ensures.same ∙ ap (λ (r : TaskRow). r.processor) c.before.task-task.ensures
 
 -- from where the fellows are known
-abbrev read : tie.After-fellows-of → tie.After-wide
+abbrev read : tie.After-fellows_of-found → tie.After-wide
 read c = c.before.before
 
-valid : (c : tie.After-fellows-of) → Valid (plan_of (start (read c)).args.file.now)
+valid : (c : tie.After-fellows_of-found) → Valid (plan_of (start (read c)).args.file.now)
 valid c = valid_plan _ (start (read c)).requires.added.known.plan
 
-found : (c : tie.After-fellows-of) → let a = (start (read c)).args in let r = c.fellows-of.result in
-    Found (plan_of a.file.now) a.i a.q r.count r.holds c.before.wait_at.result
+found : (c : tie.After-fellows_of-found) → let a = (start (read c)).args in let r = c.fellows_of-found.result in
+    Found (plan_of a.file.now) a.i a.q r.count r.holds c.before.wait_at-wait.result
 found c =
-    let f = c.fellows-of.ensures in
-    record { fellows = f.0; times = f.1; turn = c.before.wait_at.ensures ∙ wait_of_lem (start (read c)).requires (own (read c)) }
+    let f = c.fellows_of-found.ensures in
+    record { fellows = f.0; times = f.1; turn = c.before.wait_at-wait.ensures ∙ wait_of_lem (start (read c)).requires (own (read c)) }
 
 returns : tie.Need-returns
 returns c =

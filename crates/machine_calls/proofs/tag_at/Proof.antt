@@ -10,4 +10,4 @@ tag_at_spec =
     (tie.spec
     (λ c. omega arith) (λ c. omega arith) (λ c κs. search rules) (λ c. c.tag_of.ensures ∙ tag_one _ _ _ (omega arith))
     (λ c. omega arith) (λ c. omega arith) (λ c. omega arith) (λ c. omega arith) (λ c κs. search rules)
-    (λ c. c.tag-of2.ensures ∙ tag_two _ _ _ (omega arith)))
+    (λ c. c.tag_of-2.ensures ∙ tag_two _ _ _ (omega arith)))

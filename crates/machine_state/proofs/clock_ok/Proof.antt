@@ -4,44 +4,44 @@ use Rattle.machine_state.proofs.Passing.{head_low}
 use Rattle.machine_state.proofs.clock_ok.Statement.{statement}
 use Rattle.machine_state.proofs.clock_ok.Tie as tie
 
-returns : tie.Need-returns
+returns : tie.Need-returns-then-line-eq0
 unfolding clock_test
-returns c = rw (eq-eqb _ _ c.if1.true)
+returns c = rw (eq-eqb _ _ c.if-line-eq0.true)
 
 -- ── where the queue is not empty ──
-abbrev start : tie.Else1 → tie.Start
+abbrev start : tie.Else-line-eq0 → tie.Start
 start c = c.before.before.before.before
 
-headed : (c : tie.Else1) → Headed (start c).args.seats.now (start c).args.q (start c).args.line
+headed : (c : tie.Else-line-eq0) → Headed (start c).args.seats.now (start c).args.q (start c).args.line
 headed c = (start c).requires.head (omega arith)
 
 -- ── once its first task is read ──
-abbrev busy : tie.After-wide2 → tie.Else1
+abbrev busy : tie.After-wide-first → tie.Else-line-eq0
 busy c = c.before.before.before.before
 
-first : (c : tie.After-wide2) → (1 ≤ c.wide2.result) × (c.wide2.result ≤ most_tasks)
+first : (c : tie.After-wide-first) → (1 ≤ c.wide-first.result) × (c.wide-first.result ≤ most_tasks)
 first c =
     let head = headed (busy c) in
-    rw (c.wide2.ensures.same, c.before.before.wide.ensures.same)
+    rw (c.wide-first.ensures.same, c.before.before.wide-head.ensures.same)
     (rw add-zero at head.some, rw add-zero at (head_low (start (busy c)).requires.tables head))
 
-hold_at_requires : tie.Need-hold-at-requires
+hold_at_requires : tie.Need-hold_at-most-requires
 hold_at_requires c κs =
     let tables = (start (busy c)).requires.tables in
     record { long = tables.sized.figures_long; row = omega (arith, first c); resource = tables.resource }
 
-budget_at_requires : tie.Need-budget-at-requires
+budget_at_requires : tie.Need-budget_at-budget-requires
 budget_at_requires c κs =
     let tables = (start (busy c.before)).requires.tables in
     record { long = tables.sized.figures_long; row = omega (arith, headed (busy c.before)); resource = tables.resource }
 
-returns_2 : tie.Need-returns-2
+returns_2 : tie.Need-returns
 unfolding clock_test
 returns_2 c =
     let task = c.before.before in
     let head = task.before.before in
-    rw (ne_eqb _ _ (busy task).if1.false, c.before.hold_at.ensures, c.budget-at.ensures)
-    (rw (task.wide2.ensures.same, head.wide.ensures.same, add-zero))
+    rw (ne_eqb _ _ (busy task).if-line-eq0.false, c.before.hold_at-most.ensures, c.budget_at-budget.ensures)
+    (rw (task.wide-first.ensures.same, head.wide-head.ensures.same, add-zero))
 
 pub clock_ok_spec : {M : Type 1} → statement M
 clock_ok_spec =

@@ -12,7 +12,7 @@ returns c =
     let start = high.before.before.before.before in
     record {
       is = omega (arith, c.before.before, high, high.before.before);
-      low = λ k l. let byte : Fits w8 (get_or start.args.t1 k 0) = search rules in byte.fits;
+      low = λ k l. let byte : Fits w8 (get_or start.args.b k 0) = search rules in byte.fits;
     }
 
 pub eight_spec : {M : Type 1} → statement M

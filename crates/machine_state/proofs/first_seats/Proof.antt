@@ -4,13 +4,13 @@ use Rattle.folds.proofs.Arrays.{placed_done}
 use Rattle.machine_state.proofs.first_seats.Statement.{statement}
 use Rattle.machine_state.proofs.first_seats.Tie as tie
 
-abbrev invariant-loop : tie.invariant-loop
-invariant-loop seats q first₀ k₀ first k = (k ≤ 8) × (first ≡ placed_below k (first_seat seats q) first₀)
+abbrev invariant-loop-k : tie.invariant-loop-k
+invariant-loop-k seats q first₀ k₀ first k = (k ≤ 8) × (first ≡ placed_below k (first_seat seats q) first₀)
 
-abbrev decreases-loop : tie.decreases-loop
-decreases-loop seats q first₀ k₀ first k = 8 - k
+abbrev decreases-loop-k : tie.decreases-loop-k
+decreases-loop-k seats q first₀ k₀ first k = 8 - k
 
-loop_holds : tie.Need-loop-init invariant-loop decreases-loop
+loop_holds : tie.Need-loop-k-init invariant-loop-k decreases-loop-k
 unfolding placed_below
 loop_holds c = (omega arith, refl)
 
@@ -18,6 +18,6 @@ pub first_seats_spec : {M : Type 1} → statement M
 first_seats_spec =
     tie.close
     (tie.spec
-    invariant-loop decreases-loop loop_holds (λ c. omega arith) (λ c. omega arith) (λ c. omega arith) (λ c. omega arith) (λ c. omega arith)
-    (λ c. omega arith) (λ c. omega arith) (λ c. (omega arith, placed_step _ _ _ c.before.before.loop.invariant.1 (rw add-zero)))
-    (λ c. placed_done 8 c.before.loop.k _ _ (omega arith) c.before.loop.invariant.1))
+    invariant-loop-k decreases-loop-k loop_holds (λ c. omega arith) (λ c. omega arith) (λ c. omega arith) (λ c. omega arith) (λ c. omega arith)
+    (λ c. omega arith) (λ c. omega arith) (λ c. (omega arith, placed_step _ _ _ c.before.before.loop-k.invariant.1 (rw add-zero)))
+    (λ c. placed_done 8 c.before.loop-k.k _ _ (omega arith) c.before.loop-k.invariant.1))

@@ -3,58 +3,60 @@ use Rattle.machine_state.proofs.Ground.{◌≤◌, ◌-◌, ◌≡◌, refl, sym
 use Rattle.machine_state.proofs.Ground.{placed_below, placed_step, plan_of, Valid, valid_plan, Standing, standing, no_seat}
 use Rattle.plan_rules.specs.declared.TaskRow.{TaskRow}
 use Rattle.machine_state.proofs.Tables.{low_processor, keys_below, keys_done, row_low, key_at_lem, key_off, placed_skip}
+use Rattle.machine_state.proofs.key_table.Lts.{then-s, else-s}
 use Rattle.machine_state.proofs.key_table.Statement.{statement}
 use Rattle.machine_state.proofs.key_table.Tie as tie
 
-abbrev invariant-loop : tie.invariant-loop
-invariant-loop file tasks n keys₀ u₀ keys u = (u ≤ n) × (keys ≡ keys_below (plan_of file) tasks u)
+abbrev invariant-loop-u : tie.invariant-loop-u
+invariant-loop-u file tasks n keys₀ u₀ keys u = (u ≤ n) × (keys ≡ keys_below (plan_of file) tasks u)
 
-abbrev decreases-loop : tie.decreases-loop
-decreases-loop file tasks n keys₀ u₀ keys u = n - u
+abbrev decreases-loop-u : tie.decreases-loop-u
+decreases-loop-u file tasks n keys₀ u₀ keys u = n - u
 
-abbrev start : tie.At-loop invariant-loop decreases-loop → tie.Start invariant-loop decreases-loop
+abbrev start : tie.At-loop-u invariant-loop-u decreases-loop-u → tie.Start invariant-loop-u decreases-loop-u
 start c = c.before.before.before.before
 
-valid : (c : tie.At-loop invariant-loop decreases-loop) → Valid (plan_of (start c).args.file.now)
+valid : (c : tie.At-loop-u invariant-loop-u decreases-loop-u) → Valid (plan_of (start c).args.file.now)
 valid c = valid_plan _ (start c).requires
 
 -- ── once the row of the turn's task is read ──
-abbrev turn : tie.After-task invariant-loop decreases-loop → tie.At-loop invariant-loop decreases-loop
+abbrev turn : tie.After-task-row invariant-loop-u decreases-loop-u → tie.At-loop-u invariant-loop-u decreases-loop-u
 turn c = c.before.before
 
-abbrev own : tie.After-task invariant-loop decreases-loop → Standing
-own c = standing (start (turn c)).args.t2 (turn c).loop.u
+abbrev own : tie.After-task-row invariant-loop-u decreases-loop-u → Standing
+own c = standing (start (turn c)).args.tasks (turn c).loop-u.u
 
-loop_holds : tie.Need-loop-init invariant-loop decreases-loop
+loop_holds : tie.Need-loop-u-init invariant-loop-u decreases-loop-u
 unfolding placed_below
 loop_holds c = (omega arith, refl)
 
-seat_of_requires : tie.Need-seat-of-requires invariant-loop decreases-loop
+seat_of_requires : tie.Need-seat_of-requires invariant-loop-u decreases-loop-u
 seat_of_requires c κs =
     let read = c.before.before.before.before in
-    row_low (own read) _ (rw read.task.ensures (low_processor _ (valid (turn read)) _ (omega arith))) c.if1.true
+    row_low (own read) _ (rw read.task-row.ensures (low_processor _ (valid (turn read)) _ (omega arith))) c.if-s.true
 
-loop_again : tie.Need-loop-preserved invariant-loop decreases-loop
+loop_again : tie.Need-loop-u-preserved invariant-loop-u decreases-loop-u
 loop_again c =
     let read = c.before.before.before.before in
-    let l = (turn read).loop in
+    let l = (turn read).loop-u in
     let s = own read in
-    let own-core = ap (λ (row : TaskRow). row.processor) read.task.ensures in
+    let own-core = ap (λ (row : TaskRow). row.processor) read.task-row.ensures in
     let few = (valid (turn read)).tasks in (
       omega arith,
-      ⊎_elim
-          (λ t. rw t.2 (placed_step l.u _ _ l.invariant.1 (t.1.ensures ∙ key_at_lem s _ own-core t.0.taken)))
-          (λ t. rw t.1 (placed_skip l.u _ _ l.invariant.1
-          (key_off s _ t.0.left ∙ sym (get_or-replicate most_tasks l.u no_seat 0 (omega arith)))))
-          c.if1.branch,
+      elim c.if-s.branch [
+        | then-s w ↦ rw w.keys-is (placed_step l.u _ _ l.invariant.1 (w.seat_of.ensures ∙ key_at_lem s _ own-core w.if-s.true))
+        | else-s w ↦
+            rw w.keys-is (placed_skip l.u _ _ l.invariant.1
+            (key_off s _ w.if-s.false ∙ sym (get_or-replicate most_tasks l.u no_seat 0 (omega arith))))
+      ],
     )
 
 pub key_table_spec : {M : Type 1} → statement M
 key_table_spec =
     tie.close
     (tie.spec
-    invariant-loop decreases-loop (λ c κs. search rules) (λ c κs. search rules) loop_holds (λ c κs. search rules) (λ c. omega arith)
+    invariant-loop-u decreases-loop-u (λ c κs. search rules) (λ c κs. search rules) loop_holds (λ c κs. search rules) (λ c. omega arith)
     (λ c. omega (arith, (valid (turn c)).tasks)) seat_of_requires (λ c. omega arith)
     (λ c. let test = c.before in omega (arith, (valid (turn test.before.before.before.before)).tasks))
     (λ c. omega arith) (λ c. omega arith) loop_again
-    (λ c. keys_done _ (valid c.before) _ c.before.loop.u (omega arith) c.before.loop.invariant.1))
+    (λ c. keys_done _ (valid c.before) _ c.before.loop-u.u (omega arith) c.before.loop-u.invariant.1))

@@ -5,13 +5,13 @@ use Rattle.folds.proofs.Tests.{held, failed, all_left}
 use Rattle.machine_state.proofs.lines_ok.Statement.{statement}
 use Rattle.machine_state.proofs.lines_ok.Tie as tie
 
-abbrev invariant-loop : tie.invariant-loop
-invariant-loop figures seats lines q₀ q = (q ≤ most_resources) × (all_below q (λ k. line_test figures seats k (get_or lines k no_line)) ≡ true)
+abbrev invariant-loop-q : tie.invariant-loop-q
+invariant-loop-q figures seats lines q₀ q = (q ≤ most_resources) × (all_below q (λ k. line_test figures seats k (get_or lines k no_line)) ≡ true)
 
-abbrev decreases-loop : tie.decreases-loop
-decreases-loop figures seats lines q₀ q = most_resources - q
+abbrev decreases-loop-q : tie.decreases-loop-q
+decreases-loop-q figures seats lines q₀ q = most_resources - q
 
-loop_holds : tie.Need-loop-init invariant-loop decreases-loop
+loop_holds : tie.Need-loop-q-init invariant-loop-q decreases-loop-q
 unfolding all_below
 loop_holds c = (omega arith, refl)
 
@@ -19,9 +19,9 @@ pub lines_ok_spec : {M : Type 1} → statement M
 lines_ok_spec =
     tie.close
     (tie.spec
-    invariant-loop decreases-loop loop_holds (λ c. omega arith) (λ c. omega arith) (λ c κs. search rules)
-    (λ c. all_left _ c.before.before.before.before.loop.q _ (omega arith) (failed c.before.line_ok.ensures c.if1.true))
+    invariant-loop-q decreases-loop-q loop_holds (λ c. omega arith) (λ c. omega arith) (λ c κs. search rules)
+    (λ c. all_left _ c.before.before.before.before.loop-q.q _ (omega arith) (failed c.before.line_ok.ensures c.if-not-line_ok.true))
     (λ c. omega arith) (λ c. omega arith)
-    (λ c. let l = c.before.before.before.before.loop in
-    (omega arith, all_more l.q _ l.invariant.1 (held c.before.line_ok.ensures c.if1.false)))
-    (λ c. all_done _ c.before.loop.q _ (omega arith) (sym c.before.loop.invariant.1)))
+    (λ c. let l = c.before.before.before.before.loop-q in
+    (omega arith, all_more l.q _ l.invariant.1 (held c.before.line_ok.ensures c.if-not-line_ok.false)))
+    (λ c. all_done _ c.before.loop-q.q _ (omega arith) (sym c.before.loop-q.invariant.1)))

@@ -5,29 +5,29 @@ use Rattle.machine_state.proofs.SoundTest.{sound_test}
 use Rattle.machine_state.proofs.seat_tasks.Statement.{statement}
 use Rattle.machine_state.proofs.seat_tasks.Tie as tie
 
-abbrev start : tie.After-tasks → tie.Start
+abbrev start : tie.After-tasks-1 → tie.Start
 start c = c.before.before.before.before
 
 -- ── once the tasks are seated ──
-abbrev keyed : tie.After-fill-seats → tie.After-key-table
+abbrev keyed : tie.After-fill_seats → tie.After-key_table-keys
 keyed c = c.before.before.before
 
-abbrev filled : tie.After-passes-arg → tie.After-fill-seats
-filled c = c.before.before.before.before
+abbrev filled : tie.After-keys-2-1 → tie.After-fill_seats
+filled c = c.before.before.before
 
-passes_requires : tie.Need-passes-requires
+passes_requires : tie.Need-passes-sound-requires
 passes_requires c κs =
     let read = keyed (filled c) in
     let known = (start read.before).requires.0 in
-    sized_by _ (valid_plan _ known.plan) _ _ read.key-table.ensures known.figures (filled c).fill-seats.ensures
+    sized_by _ (valid_plan _ known.plan) _ _ read.key_table-keys.ensures known.figures (filled c).fill_seats.ensures
 
 returns : tie.Need-returns
 returns c =
     let read = keyed (filled c.before) in
     let known = (start read.before).requires.0 in
-    let keys = read.key-table.ensures in
-    let seats = (filled c.before).fill-seats.ensures in
-    record { keys = keys; seats = seats; sound = c.passes.ensures ∙ sound_test _ (valid_plan _ known.plan) _ _ _ _ known.figures keys seats }
+    let keys = read.key_table-keys.ensures in
+    let seats = (filled c.before).fill_seats.ensures in
+    record { keys = keys; seats = seats; sound = c.passes-sound.ensures ∙ sound_test _ (valid_plan _ known.plan) _ _ _ _ known.figures keys seats }
 
 pub seat_tasks_spec : {M : Type 1} → statement M
 seat_tasks_spec =

@@ -7,7 +7,7 @@ use Rattle.machine_state.proofs.tail_ok.Tie as tie
 returns : tie.Need-returns
 returns c =
     let count = c.before.before.requires in
-    let bytes = c.before.eight.ensures in
+    let bytes = c.before.eight-taken.ensures in
     rw (bytes.is, c.byte.ensures.same) (part_tail _ bytes.low _ count.few count.some)
 
 pub tail_ok_spec : {M : Type 1} → statement M

@@ -28,18 +28,18 @@ module _ (seats : List ℕ) (key u : ℕ) where
       rw (eq-eqb (key % most_tasks) 0 z, k)
       (and_assoc a _ _ ∙ ap (λ (x : Bool). a && x) (own_taken (eqb (get_or seats key 0) (u + 1)) refl) ∙ sym (and_assoc a _ true))
 
-returns : tie.Need-returns
+returns : tie.Need-returns-then-key-eq-NO_SEAT
 unfolding task_test
-returns c = rw (eq-eqb _ _ c.before.if1.true) c.is-idle.ensures
+returns c = rw (eq-eqb _ _ c.before.if-key-eq-NO_SEAT.true) c.is_idle.ensures
 
-returns_2 : tie.Need-returns-2
+returns_2 : tie.Need-returns
 unfolding task_test
 returns_2 c =
     let seated = c.before.before.before.before in
     let start = seated.before.before.before in
     let a = start.args in
     let hold : (a.base + a.key) / resource_seats ≡ hold_cell a.u (a.key / resource_seats) = omega (arith, start.requires.counted) in
-    rw (ne_eqb _ _ seated.if1.false, c.before.wide.ensures.same, hold)
+    rw (ne_eqb _ _ seated.if-key-eq-NO_SEAT.false, c.before.wide.ensures.same, hold)
     (back_same a.seats.now a.key a.u (leb 1 (get_or a.figures.now (hold_cell a.u (a.key / resource_seats)) 0)) _ refl)
 
 pub task_ok_spec : {M : Type 1} → statement M
