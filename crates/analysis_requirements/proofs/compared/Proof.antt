@@ -7,5 +7,5 @@ use Rattle.analysis_requirements.proofs.compared.Tie as tie
 
 pub compared_spec : {M : Type 1} → statement M
 compared_spec = tie.close (tie.spec (λ c. search rules) (λ c κs. search rules) (λ c κs. search rules)
-    (λ c. let s = c.before.minus in
-    comparison_told (to_z-of_z c.before.before.ranges.tolerance) (back _ s.type-inv) s.ensures c.at_most.ensures))
+    (λ c. let s = c.before.minus-slack in
+    comparison_told (to_z-of_z c.before.before.ranges.tolerance) (back _ s.type_inv) s.ensures c.at_most.ensures))

@@ -12,27 +12,27 @@ record Turn (periods times : List ℕ) (m own period best t : ℕ) : Type 0 wher
   asked : Scanned periods times m own period
   told : to_z w64 best ≡ greatest_to (t - 1) (left_of periods times m own)
 
-abbrev invariant-loop : tie.invariant-loop
-invariant-loop periods times m own period best₀ t₀ best t = Turn periods times m own period best t
+abbrev invariant-loop-t : tie.invariant-loop-t
+invariant-loop-t periods times m own period best₀ t₀ best t = Turn periods times m own period best t
 
-abbrev decreases-loop : tie.decreases-loop
-decreases-loop periods times m own period best₀ t₀ best t = period - t
+abbrev decreases-loop-t : tie.decreases-loop-t
+decreases-loop-t periods times m own period best₀ t₀ best t = period - t
 
-loop_again : tie.Need-loop-preserved invariant-loop decreases-loop
+loop_again : tie.Need-loop-t-preserved invariant-loop-t decreases-loop-t
 loop_again c =
-    let l = c.before.before.before.before.loop in
+    let l = c.before.before.before.before.loop-t in
     let i = l.invariant in
-    let x = back _ c.before.difference2.type-inv ∙ c.before.difference2.ensures in
-    let told = back _ c.greater.type-inv
-    ∙ left_step _ _ _ _ l.t i.low i.told c.before.before.demand-of2.ensures.told x c.greater.ensures in
+    let x = back _ c.before.difference.type_inv ∙ c.before.difference.ensures in
+    let told = back _ c.greater-best.type_inv
+    ∙ left_step _ _ _ _ l.t i.low i.told c.before.before.demand_of-in-loop-t.ensures.told x c.greater-best.ensures in
     search rules
 
 pub scan_spec : {M : Type 1} → statement M
 scan_spec =
     tie.close
     (tie.spec
-    invariant-loop decreases-loop (λ c κs. search rules) (λ c. omega arith) (λ c κs. omega arith)
-    (λ c. let told = back _ c.difference.type-inv ∙ left_first _ _ _ _ c.before.demand-of.ensures.told c.difference.ensures in search rules)
+    invariant-loop-t decreases-loop-t (λ c κs. search rules) (λ c. omega arith) (λ c κs. omega arith)
+    (λ c. let told = back _ c.difference-best.type_inv ∙ left_first _ _ _ _ c.before.demand_of.ensures.told c.difference-best.ensures in search rules)
     (λ c. omega arith) (λ c κs. search rules)
     (λ c. omega arith) (λ c. omega arith) (λ c κs. omega arith) (λ c κs. tt) (λ c. omega arith) loop_again
-    (λ c. let l = c.before.loop in left_done _ _ _ _ _ l.t (omega arith) l.invariant.told))
+    (λ c. let l = c.before.loop-t in left_done _ _ _ _ _ l.t (omega arith) l.invariant.told))

@@ -5,6 +5,7 @@ use Rattle.analysis_equations.proofs.Rows.{SectionRead}
 use Rattle.analysis_terms.proofs.Terms.{Cells}
 use Rattle.analysis_terms.proofs.Raising.{there, top_low, blocked_more, blocked_same, blocked_done}
 use Rattle.analysis_terms.proofs.put_blocked.Statement.{statement}
+use Rattle.analysis_terms.proofs.put_blocked.Lts.{then-terms-q-eq0, else-terms-q-eq0}
 use Rattle.analysis_terms.proofs.put_blocked.Tie as tie
 
 record Turn (f : List ℕ) (n s : ℕ) (t : List ℕ) : Type 0 where
@@ -56,10 +57,10 @@ loop_again c =
       all = i.all;
       table = record {
         plan = t.plan;
-        terms = ⊎_elim
-            (λ x. rw x.7 (blocked_more _ v (read r) _ t.terms x.0.taken x.4.ensures))
-            (λ x. rw x.1 (blocked_same _ v (read r) _ t.terms x.0.left))
-            c.if-terms-q-eq0.branch;
+        terms = elim c.if-terms-q-eq0.branch [
+          | then-terms-q-eq0 x ↦ rw x.terms-is (blocked_more _ v (read r) _ t.terms x.if-terms-q-eq0.true x.raise_blocked.ensures)
+          | else-terms-q-eq0 x ↦ rw x.terms-is (blocked_same _ v (read r) _ t.terms x.if-terms-q-eq0.false)
+        ];
       };
     }
 
@@ -76,8 +77,8 @@ put_blocked_spec =
     (λ c. omega (arith, low c.before.before.before))
     (λ c. omega arith) (λ c. omega arith) (λ c. let h = cells c.before.before.before.before in omega arith)
     (λ c. omega (arith, low c.before.before.before.before))
-    (λ c κs. let t = c.before in (turn t.before.before.before.before).loop-s.invariant.table.terms-1.long)
+    (λ c κs. let t = c.before in (turn t.before.before.before.before).loop-s.invariant.table.terms.long)
     (λ c. omega arith) (λ c. omega arith) loop_again
-    (λ c. let b = c.before.before.before.before in c.before.loop-s.invariant.table.terms-1.long ∙ sym b.before.before.requires.1.long)
+    (λ c. let b = c.before.before.before.before in c.before.loop-s.invariant.table.terms.long ∙ sym b.before.before.requires.1.long)
     (λ c. let l = c.before.loop-s in let t = l.invariant.table in
     blocked_done _ (valid_plan _ t.plan) l.s (omega (arith, l.invariant.all)) t.terms))

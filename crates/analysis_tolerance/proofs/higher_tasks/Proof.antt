@@ -5,6 +5,7 @@ use Rattle.analysis_tolerance.proofs.Precedences.{table_above}
 use Rattle.analysis_terms.proofs.Over.{Over, over}
 use Rattle.analysis_tolerance.proofs.Demand.{higher_none, higher_taken, higher_skipped, higher_done}
 use Rattle.analysis_tolerance.proofs.higher_tasks.Statement.{statement}
+use Rattle.analysis_tolerance.proofs.higher_tasks.Lts.{then-mine-theirs, else-mine-theirs}
 use Rattle.analysis_tolerance.proofs.higher_tasks.Tie as tie
 
 record Turn (f t : List ℕ) (i n top j m : ℕ) (periods times : List ℕ) : Type 0 where
@@ -13,18 +14,18 @@ record Turn (f t : List ℕ) (i n top j m : ℕ) (periods times : List ℕ) : Ty
   next : top ≡ (processor_of (plan_of f) i + 1) * 256
   packed : HigherTasks (plan_of f) i j m periods times
 
-abbrev invariant-loop : tie.invariant-loop
-invariant-loop file terms i n mine top count₀ periods₀ times₀ j₀ count periods times j = Turn file terms i n top j count periods times
+abbrev invariant-loop-j : tie.invariant-loop-j
+invariant-loop-j file terms i n mine top count₀ periods₀ times₀ j₀ count periods times j = Turn file terms i n top j count periods times
 
-abbrev decreases-loop : tie.decreases-loop
-decreases-loop file terms i n mine top count₀ periods₀ times₀ j₀ count periods times j = n - j
+abbrev decreases-loop-j : tie.decreases-loop-j
+decreases-loop-j file terms i n mine top count₀ periods₀ times₀ j₀ count periods times j = n - j
 
-loop_holds : tie.Need-loop-init invariant-loop decreases-loop
+loop_holds : tie.Need-loop-j-init invariant-loop-j decreases-loop-j
 loop_holds c =
     let w = c.before.before.before in
     let h = w.before.before.before.before.requires in
-    let own = c.before.before.task.ensures in
-    let e = w.wide.ensures.same ∙ w.before.counts.ensures.tasks in
+    let own = c.before.before.task-own.ensures in
+    let e = w.wide-n.ensures.same ∙ w.before.counts-counts.ensures.tasks in
     record {
       within = omega arith;
       over = over h e;
@@ -32,9 +33,9 @@ loop_holds c =
       packed = higher_none _ _;
     }
 
-loop_again : tie.Need-loop-preserved invariant-loop decreases-loop
+loop_again : tie.Need-loop-j-preserved invariant-loop-j decreases-loop-j
 loop_again c =
-    let l = c.before.before.before.loop in
+    let l = c.before.before.before.loop-j in
     let i = l.invariant in
     let h = i.over.asked in
     let test = table_above _ (valid_plan _ h.plan) _ h.terms _ l.j h.task (omega (arith, i.over.all)) in
@@ -42,20 +43,20 @@ loop_again c =
       within = omega arith;
       over = i.over;
       next = i.next;
-      packed = ⊎_elim
-          (λ t. let row = t.1.ensures in
-          rw (t.4, t.5, t.6)
-          (higher_taken i.packed (sym test ∙ (rw i.next at t.0.taken)) (ap (λ (r : TaskRow). r.period) row) (ap (λ (r : TaskRow). r.execution) row)))
-          (λ t. rw (t.1, t.2, t.3) (higher_skipped i.packed (sym test ∙ (rw i.next at t.0.left))))
-          c.if1.branch;
+      packed = elim c.if-mine-theirs.branch [
+        | then-mine-theirs t ↦ let row = t.task-row.ensures in
+            rw (t.count-is, t.periods-is, t.times-is)
+            (higher_taken i.packed (sym test ∙ (rw i.next at t.if-mine-theirs.true)) (ap (λ (r : TaskRow). r.period) row) (ap (λ (r : TaskRow). r.execution) row))
+        | else-mine-theirs t ↦ rw (t.count-is, t.periods-is, t.times-is) (higher_skipped i.packed (sym test ∙ (rw i.next at t.if-mine-theirs.false)))
+      ];
     }
 
-mul_top : tie.Need-overflow-mul-top invariant-loop decreases-loop
+mul_top : tie.Need-overflow_mul-top invariant-loop-j decreases-loop-j
 mul_top c =
     let t = c.before.before in
     let w = t.before in
     let h = w.before.before.before.before.requires in
-    let processor = c.half.ensures.same ∙ ap (λ (r : TaskRow). r.processor) t.task.ensures in
+    let processor = c.half.ensures.same ∙ ap (λ (r : TaskRow). r.processor) t.task-own.ensures in
     let valid = valid_plan _ h.plan in
     omega (arith, processor, valid.processors, valid.every_task_fits _ h.task)
 
@@ -63,10 +64,10 @@ pub higher_tasks_spec : {M : Type 1} → statement M
 higher_tasks_spec =
     tie.close
     (tie.spec
-    invariant-loop decreases-loop (λ c κs. search rules) (λ c κs. tt) (λ c κs. search rules) (λ c. omega arith)
+    invariant-loop-j decreases-loop-j (λ c κs. search rules) (λ c κs. tt) (λ c κs. search rules) (λ c. omega arith)
     (λ c. omega arith) (λ c. omega arith) (λ c κs. tt) (λ c. omega arith) mul_top loop_holds
     (λ c. omega arith) (λ c. omega arith) (λ c. omega arith)
     (λ c κs. search rules)
     (λ c. omega arith) (λ c. omega arith) (λ c. omega arith) (λ c. omega arith) (λ c. omega arith) (λ c. omega arith) (λ c. omega arith)
     (λ c. omega arith) (λ c. omega arith) loop_again
-    (λ c. let i = c.before.loop.invariant in higher_done i.packed (omega (arith, i.over.all))))
+    (λ c. let i = c.before.loop-j.invariant in higher_done i.packed (omega (arith, i.over.all))))

@@ -15,17 +15,17 @@ record Turn (periods times : List ℕ) (m own period : ℕ) (ends : List ℕ) (d
   demanded : demand ≡ own + demand_of periods times m t
   told : to_z w64 best ≡ greatest_to (t - 1) (left_of periods times m own)
 
-abbrev invariant-loop : tie.invariant-loop
-invariant-loop periods times m own period ends₀ demand₀ best₀ t₀ ends demand best t = Turn periods times m own period ends demand best t
+abbrev invariant-loop-t : tie.invariant-loop-t
+invariant-loop-t periods times m own period ends₀ demand₀ best₀ t₀ ends demand best t = Turn periods times m own period ends demand best t
 
-abbrev decreases-loop : tie.decreases-loop
-decreases-loop periods times m own period ends₀ demand₀ best₀ t₀ ends demand best t = period - t
+abbrev decreases-loop-t : tie.decreases-loop-t
+decreases-loop-t periods times m own period ends₀ demand₀ best₀ t₀ ends demand best t = period - t
 
 -- ── the first time ──
-first_requires : tie.Need-pass-requires invariant-loop decreases-loop
+first_requires : tie.Need-pass-requires invariant-loop-t decreases-loop-t
 first_requires c κs = counted_none c.before.before.before.requires.above
 
-loop_holds : tie.Need-loop-init invariant-loop decreases-loop
+loop_holds : tie.Need-loop-t-init invariant-loop-t decreases-loop-t
 loop_holds c =
     let p = c.before.before in
     let h = p.before.before.before.before in
@@ -38,37 +38,37 @@ loop_holds c =
       asked = h.requires;
       counted = counted_next begun passed.moved (omega arith);
       demanded = demanded;
-      told = back _ c.difference.type-inv ∙ left_first _ _ _ _ demanded c.difference.ensures;
+      told = back _ c.difference-best.type_inv ∙ left_first _ _ _ _ demanded c.difference-best.ensures;
     }
 
 -- ── a turn ──
-abbrev turn : tie.After-greater invariant-loop decreases-loop → tie.At-loop invariant-loop decreases-loop
+abbrev turn : tie.After-greater-best invariant-loop-t decreases-loop-t → tie.At-loop-t invariant-loop-t decreases-loop-t
 turn c = let p = c.before.before.before in p.before.before.before
 
-loop_again : tie.Need-loop-preserved invariant-loop decreases-loop
+loop_again : tie.Need-loop-t-preserved invariant-loop-t decreases-loop-t
 loop_again c =
-    let l = (turn c).loop in
+    let l = (turn c).loop-t in
     let i = l.invariant in
-    let passed = c.before.before.before.pass2.ensures in
+    let passed = c.before.before.before.pass-in-loop-t.ensures in
     let demanded = demanded_next i.counted _ i.demanded passed.told in
-    let x = back _ c.before.difference2.type-inv ∙ c.before.difference2.ensures in
+    let x = back _ c.before.difference.type_inv ∙ c.before.difference.ensures in
     record {
       low = omega arith;
       within = omega arith;
       asked = i.asked;
       counted = counted_next i.counted passed.moved (omega (arith, i.asked.high));
       demanded = demanded;
-      told = back _ c.greater.type-inv ∙ left_step _ _ _ _ l.t i.low i.told demanded x c.greater.ensures;
+      told = back _ c.greater-best.type_inv ∙ left_step _ _ _ _ l.t i.low i.told demanded x c.greater-best.ensures;
     }
 
 -- the demand at the turn's end, in its range
-high : (c : tie.After-ends4 invariant-loop decreases-loop) → c.before.before.before.before.loop.demand + c.before.pass2.result ≤ most_period + most_demand
+high : (c : tie.After-ends-in-loop-t-2-1 invariant-loop-t decreases-loop-t) → c.before.before.before.before.loop-t.demand + c.before.pass-in-loop-t.result ≤ most_period + most_demand
 high c =
-    let l = c.before.before.before.before.loop in
+    let l = c.before.before.before.before.loop-t in
     let i = l.invariant in
     omega (
       arith,
-      demanded_next i.counted _ i.demanded c.before.pass2.ensures.told,
+      demanded_next i.counted _ i.demanded c.before.pass-in-loop-t.ensures.told,
       i.asked.own,
       demand_high {t = l.t + 1} i.asked.above (omega (arith, i.asked.high)),
     )
@@ -77,8 +77,8 @@ pub scan_spec : {M : Type 1} → statement M
 scan_spec =
     tie.close
     (tie.spec
-    invariant-loop decreases-loop (λ c. search rules) first_requires (λ c. omega arith) (λ c. let p = c.before.pass.ensures in omega arith)
+    invariant-loop-t decreases-loop-t (λ c. search rules) first_requires (λ c. omega arith) (λ c. let p = c.before.pass.ensures in omega arith)
     (λ c κs. let p = c.before.pass.ensures in omega arith) loop_holds
-    (λ c. omega arith) (λ c. search rules) (λ c κs. c.before.before.loop.invariant.counted) (λ c. omega arith)
+    (λ c. omega arith) (λ c. search rules) (λ c κs. c.before.before.loop-t.invariant.counted) (λ c. omega arith)
     (λ c. omega (arith, high c)) (λ c. omega arith) (λ c κs. omega (arith, high c)) (λ c κs. tt) (λ c. omega arith) loop_again
-    (λ c. let l = c.before.loop in left_done _ _ _ _ _ l.t (omega arith) l.invariant.told))
+    (λ c. let l = c.before.loop-t in left_done _ _ _ _ _ l.t (omega arith) l.invariant.told))
