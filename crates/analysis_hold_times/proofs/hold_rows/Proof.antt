@@ -86,9 +86,9 @@ hold_rows_spec =
     (λ c. let l = c.before.before.loop-x in let w = l.invariant.walk in order_there _ l.x w.plan w.tasks w.processor (omega arith))
     (λ c κs. search rules)
     (λ c. let i = c.before.before.before.before.loop-x.invariant in i.held.long ∙ sym i.walk.long) returns (λ c. omega arith)
-    (λ c κs. let n = next c.before in record { long = n.held.long; task = low n; low = product_high n })
+    (λ c κs. let n = next c in record { long = n.held.long; task = low n; low = product_high n })
     (λ c κs. let own = c.before in let n = next own.before in λ q l. (own_high n own.shared_row-own.ensures q l, above_high n q l))
-    (λ c κs. let n = next c.before.before.before.before in (omega (arith, n.held.long, low n), n.held.long))
+    (λ c κs. let n = next c.before.before.before in (omega (arith, n.held.long, low n), n.held.long))
     longer_row_requires
     (λ c. omega (arith, low_seat c)) (λ c. omega (arith, low_seat c.before, (next (seat c.before)).held.long))
     (λ c. omega (arith, low_seat c.before)) (λ c. omega (arith, low_seat c.before))

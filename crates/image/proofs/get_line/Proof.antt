@@ -5,7 +5,7 @@ use Rattle.image.proofs.get_line.Tie as tie
 
 returns : tie.Need-returns
 unfolding fields number
-returns c = rw (c.before.before.before.two.ensures, c.two2.ensures)
+returns c = rw (c.before.before.before.two.ensures, c.two-2.ensures)
 
 pub get_line_spec : {M : Type 1} → statement M
 get_line_spec =

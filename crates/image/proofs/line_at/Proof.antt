@@ -8,7 +8,7 @@ returns : tie.Need-returns
 unfolding line_in
 returns c =
     let a = c.before.before.before.args in
-    c.get-line.ensures ∙ ap line_from (row_part line_widths a.image.now 4 a.q)
+    c.get_line.ensures ∙ ap line_from (row_part line_widths a.image.now 4 a.q)
 
 pub line_at_spec : {M : Type 1} → statement M
 line_at_spec =

@@ -6,7 +6,7 @@ use Rattle.image.proofs.put_head.Tie as tie
 cast_t7 : tie.Need-overflow-cast-t7
 cast_t7 c =
     let v = valid_plan _ c.before.before.before.before.requires.0 in
-    omega (arith, v.resources, c.standing-rows-at.ensures)
+    omega (arith, v.resources, c.standing_rows_at-at.ensures)
 
 returns : tie.Need-returns
 unfolding head_bytes row_bytes digits

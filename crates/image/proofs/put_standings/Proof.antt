@@ -4,25 +4,25 @@ use Rattle.image.proofs.Rows.{standing_length}
 use Rattle.image.proofs.put_standings.Statement.{statement}
 use Rattle.image.proofs.put_standings.Tie as tie
 
-abbrev invariant-loop : tie.invariant-loop
-invariant-loop buf₀ n tasks i₀ buf i = Rowed n standing_width (standing_row tasks) buf₀ buf i
+abbrev invariant-loop-i : tie.invariant-loop-i
+invariant-loop-i buf₀ n tasks i₀ buf i = Rowed n standing_width (standing_row tasks) buf₀ buf i
 
-abbrev decreases-loop : tie.decreases-loop
-decreases-loop buf₀ n tasks i₀ buf i = n - i
+abbrev decreases-loop-i : tie.decreases-loop-i
+decreases-loop-i buf₀ n tasks i₀ buf i = n - i
 
-put_standing_requires : tie.Need-put-standing-requires invariant-loop decreases-loop
+put_standing_requires : tie.Need-put_standing-requires invariant-loop-i decreases-loop-i
 put_standing_requires c κs = simp (length-take, length-drop) (omega arith)
 
-loop_again : tie.Need-loop-preserved invariant-loop decreases-loop
+loop_again : tie.Need-loop-i-preserved invariant-loop-i decreases-loop-i
 loop_again c =
     let p = c.before.before in
     let l = p.before.before.before.before in
-    rows_more (λ k. standing_length _) l.loop.invariant p.put-standing.ensures (omega arith) (omega arith)
+    rows_more (λ k. standing_length _) l.loop-i.invariant p.put_standing.ensures (omega arith) (omega arith)
 
 pub put_standings_spec : {M : Type 1} → statement M
 put_standings_spec =
     tie.close
     (tie.spec
-    invariant-loop decreases-loop (λ c. rows_none) (λ c. omega arith) (λ c. omega arith) (λ c. omega arith) (λ c. omega arith) (λ c. omega arith)
-    (λ c. omega arith) put_standing_requires (λ c. omega arith) (λ c. omega arith) loop_again (λ c. c.before.loop.invariant.front.kept)
-    (λ c. rows_all c.before.loop.invariant (omega arith)))
+    invariant-loop-i decreases-loop-i (λ c. rows_none) (λ c. omega arith) (λ c. omega arith) (λ c. omega arith) (λ c. omega arith) (λ c. omega arith)
+    (λ c. omega arith) put_standing_requires (λ c. omega arith) (λ c. omega arith) loop_again (λ c. c.before.loop-i.invariant.front.kept)
+    (λ c. rows_all c.before.loop-i.invariant (omega arith)))

@@ -7,7 +7,7 @@ use Rattle.image.proofs.standing_at.Tie as tie
 returns : tie.Need-returns
 returns c =
     let a = c.before.before.before.args in
-    c.get-standing.ensures ∙ ap standing_from (row_part standing_widths a.image.now a.from a.i)
+    c.get_standing.ensures ∙ ap standing_from (row_part standing_widths a.image.now a.from a.i)
 
 pub standing_at_spec : {M : Type 1} → statement M
 standing_at_spec =

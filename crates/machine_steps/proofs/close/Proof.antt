@@ -3,25 +3,25 @@ use Rattle.folds.proofs.Ground.{le-ltb}
 use Rattle.machine_steps.proofs.close.Statement.{statement}
 use Rattle.machine_steps.proofs.close.Tie as tie
 
-returns : tie.Need-returns
+returns : tie.Need-returns-then-s-place
 unfolding closed
-returns c = simp (c.idle.ensures, c.before.before.before.if1.true, eq-eqb _ _ c.before.if2.true)
+returns c = simp (c.idle.ensures, c.before.before.before.if-on.true, eq-eqb _ _ c.before.if-s-place.true)
 
-returns_2 : tie.Need-returns-2
+returns_2 : tie.Need-returns-then-place-s
 unfolding closed
 returns_2 c =
     let e = c.before.before.before in
-    simp (c.moved_up.ensures, e.before.before.if1.true, ne_eqb _ _ e.if2.false, lt-ltb _ _ c.before.if3.true)
+    simp (c.moved_up.ensures, e.before.before.if-on.true, ne_eqb _ _ e.if-s-place.false, lt-ltb _ _ c.before.if-place-s.true)
 
-returns_3 : tie.Need-returns-3
+returns_3 : tie.Need-returns-else-place-s
 unfolding closed
 returns_3 c =
     let e = c.before.before in
-    simp (e.before.before.if1.true, ne_eqb _ _ e.if2.false, le-ltb _ _ c.if3.false)
+    simp (e.before.before.if-on.true, ne_eqb _ _ e.if-s-place.false, le-ltb _ _ c.if-place-s.false)
 
-returns_4 : tie.Need-returns-4
+returns_4 : tie.Need-returns-else-on
 unfolding closed
-returns_4 c = simp c.if1.false
+returns_4 c = simp c.if-on.false
 
 pub close_spec : {M : Type 1} → statement M
 close_spec =

@@ -28,31 +28,31 @@ below_more l k {queue} {past} {j} b a =
     read true = refl
     read false = let e : j + 0 ≡ j = omega arith in ap (λ (i : ℕ). get_or l i 0) e
 
-abbrev invariant-loop : tie.invariant-loop
-invariant-loop line k l queue₀ past₀ j₀ queue past j = Below l k queue past j
+abbrev invariant-loop-j : tie.invariant-loop-j
+invariant-loop-j line k l queue₀ past₀ j₀ queue past j = Below l k queue past j
 
-abbrev decreases-loop : tie.decreases-loop
-decreases-loop line k l queue₀ past₀ j₀ queue past j = 7 - j
+abbrev decreases-loop-j : tie.decreases-loop-j
+decreases-loop-j line k l queue₀ past₀ j₀ queue past j = 7 - j
 
 -- whether k stood in one of the slots up to this
-abbrev on : tie.In-loop invariant-loop decreases-loop → Bool
-on c = let l = c.before in let a = l.before.before.args in l.loop.past || eqb (get_or a.line.queue l.loop.j 0) a.k
+abbrev on : tie.In-loop-j invariant-loop-j decreases-loop-j → Bool
+on c = let l = c.before in let a = l.before.before.args in l.loop-j.past || eqb (get_or a.line.queue l.loop-j.j 0) a.k
 
-loop_holds : tie.Need-loop-init invariant-loop decreases-loop
+loop_holds : tie.Need-loop-j-init invariant-loop-j decreases-loop-j
 unfolding any_below placed_below
 loop_holds c = record { few = omega arith; passed = refl; slots = refl }
 
-returns : tie.Need-returns invariant-loop decreases-loop
+returns : tie.Need-returns invariant-loop-j decreases-loop-j
 unfolding dropped
 returns c =
     let l = c.before.before in
     let a = l.before.before.args in
-    rw (placed_done 7 l.loop.j (besides a.line.queue a.k) (replicate 8 255) (omega arith) l.loop.invariant.slots)
+    rw (placed_done 7 l.loop-j.j (besides a.line.queue a.k) (replicate 8 255) (omega arith) l.loop-j.invariant.slots)
 
 pub drop_core_spec : {M : Type 1} → statement M
 drop_core_spec =
     tie.close
     (tie.spec
-    invariant-loop decreases-loop loop_holds (λ c. omega arith) (λ c. tt) (λ c. omega (arith, flag-low (on c))) (λ c. omega (arith, flag-low (on c)))
-    (λ c. omega arith) (λ c. omega arith) (λ c. omega arith) (λ c. below_more _ _ c.before.loop.invariant c.loop-test.true) (λ c. omega arith)
+    invariant-loop-j decreases-loop-j loop_holds (λ c. omega arith) (λ c. tt) (λ c. omega (arith, flag-low (on c))) (λ c. omega (arith, flag-low (on c)))
+    (λ c. omega arith) (λ c. omega arith) (λ c. omega arith) (λ c. below_more _ _ c.before.loop-j.invariant c.loop-j-test.true) (λ c. omega arith)
     returns)

@@ -5,19 +5,19 @@ use Rattle.machine_steps.proofs.hold_of.Statement.{statement}
 use Rattle.machine_steps.proofs.hold_of.Tie as tie
 
 -- the processor's number is read, and before it nothing
-abbrev core : tie.After-wide2 → tie.After-wide
+abbrev core : tie.After-wide-sits → tie.After-wide
 core c = c.before.before
 
-abbrev start : tie.After-wide2 → tie.Start
+abbrev start : tie.After-wide-sits → tie.Start
 start c = (core c).before.before.before
 
 -- who sits there
-sits : (c : tie.After-wide2) → let a = (start c).args in c.wide2.result ≡ get_or a.seats.now (seat a.q a.k a.j) 0
+sits : (c : tie.After-wide-sits) → let a = (start c).args in c.wide-sits.result ≡ get_or a.seats.now (seat a.q a.k a.j) 0
 sits c =
     let a = (start c).args in
-    seat_read a.seats.now a.q a.k a.j (core c).wide.ensures.same c.wide2.ensures.same
+    seat_read a.seats.now a.q a.k a.j (core c).wide.ensures.same c.wide-sits.ensures.same
 
-hold_at_requires : tie.Need-hold-at-requires
+hold_at_requires : tie.Need-hold_at-requires
 hold_at_requires c κs =
     let p = (start c).requires in
     let q = p.queue in

@@ -4,39 +4,39 @@ use Rattle.machine_steps.proofs.join.Statement.{statement}
 use Rattle.machine_steps.proofs.join.Tie as tie
 
 -- ── where nobody is ahead ──
-abbrev start : tie.After-wide → tie.Start
+abbrev start : tie.After-wide-r → tie.Start
 start c = c.before.before.before.before
 
-abbrev wide : tie.After-budget-at → tie.After-wide
+abbrev wide : tie.After-budget_at-budget → tie.After-wide-r
 wide c = c.before.before.before
 
-low : (c : tie.After-wide) → c.wide.result < 16
-low c = omega (arith, (start c).requires.resource, c.wide.ensures.same)
+low : (c : tie.After-wide-r) → c.wide-r.result < 16
+low c = omega (arith, (start c).requires.resource, c.wide-r.ensures.same)
 
-budget_at_requires : tie.Need-budget-at-requires
+budget_at_requires : tie.Need-budget_at-budget-requires
 budget_at_requires c κs =
     let w = c.before.before in
     let p = (start w).requires in
-    record { long = p.figures_long; row = omega (arith, p.core, c.wide2.ensures.same); resource = low w }
+    record { long = p.figures_long; row = omega (arith, p.core, c.wide.ensures.same); resource = low w }
 
-returns : tie.Need-returns
+returns : tie.Need-returns-then-ahead-eq0
 unfolding joined_lines
 returns c =
     let b = c.before.before in
     let w = wide b in
     simp (
-      eq-eqb _ _ w.before.if1.true,
-      w.before.before.in_line.ensures,
+      eq-eqb _ _ w.before.if-ahead-eq0.true,
+      w.before.before.in_line-row.ensures,
       c.push.ensures.0,
-      b.budget-at.ensures,
-      b.before.before.hold_at.ensures,
-      b.before.wide2.ensures.same,
-      w.wide.ensures.same,
+      b.budget_at-budget.ensures,
+      b.before.before.hold_at-hold.ensures,
+      b.before.wide.ensures.same,
+      w.wide-r.ensures.same,
     )
 
-returns_2 : tie.Need-returns-2
+returns_2 : tie.Need-returns-else-ahead-eq0
 unfolding joined_lines
-returns_2 c = simp (ne_eqb _ _ c.if1.false, c.before.in_line.ensures)
+returns_2 c = simp (ne_eqb _ _ c.if-ahead-eq0.false, c.before.in_line-row.ensures)
 
 pub join_spec : {M : Type 1} → statement M
 join_spec =
@@ -45,5 +45,5 @@ join_spec =
     (λ c κs. search rules) (λ c. search rules) (λ c. search rules) (λ c κs. search rules)
     (λ c κs. let p = (start c).requires in record { long = p.figures_long; row = p.task; resource = low c }) (λ c κs. search rules)
     budget_at_requires (λ c. omega (arith, low (wide c))) (λ c. omega (arith, low (wide c)))
-    (λ c κs. let w = wide c.before in rw w.wide.ensures.same ((start w).requires.room w.before.if1.true))
+    (λ c κs. let w = wide c.before in rw w.wide-r.ensures.same ((start w).requires.room w.before.if-ahead-eq0.true))
     (λ c. omega (arith, low (wide c.before.before))) (λ c. omega (arith, low (wide c.before.before))) returns returns_2)

@@ -12,4 +12,4 @@ leave_spec =
     let p = line.before.before.before.before.requires in
     omega (arith, p.resource, p.ready.placed 0 p.ready.some, c.wide.ensures))
     (λ c. search rules) (λ c κs. search rules) (λ c κs. search rules) (λ c. search rules) (λ c. search rules)
-    (λ c. rw (c.pass.ensures, c.before.lower.ensures, c.before.before.before.before.wide.ensures.same)))
+    (λ c. rw (c.pass-after.ensures, c.before.lower-tasks.ensures, c.before.before.before.before.wide.ensures.same)))

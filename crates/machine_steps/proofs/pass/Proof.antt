@@ -7,27 +7,27 @@ use Rattle.machine_steps.proofs.pass.Tie as tie
 abbrev start : tie.After-wide → tie.Start
 start c = c.before.before.before.before
 
-returns : tie.Need-returns
+returns : tie.Need-returns-then-next-eq0
 unfolding passed
 returns c =
     let then = c.before.before in
     let w = then.before.before in
     let a = (start w).args in
-    let none = seat_read a.seats.now a.q (slot a.line 0) 1 w.wide.ensures.same (sym then.if1.true) in
+    let none = seat_read a.seats.now a.q (slot a.line 0) 1 w.wide.ensures.same (sym then.if-next-eq0.true) in
     rw (eq-eqb _ _ (sym none)) c.begin.ensures
 
 -- ── where the head has another task ──
-abbrev second : tie.Else1 → ℕ
+abbrev second : tie.Else-next-eq0 → ℕ
 second c = let a = (start c.before.before).args in get_or a.seats.now (seat a.q (slot a.line 0) 1) 0
 
 -- its seat
-next_seat : (c : tie.Else1) → 1 ≤ second c
+next_seat : (c : tie.Else-next-eq0) → 1 ≤ second c
 next_seat c =
     let w = c.before.before in
     let a = (start w).args in
-    omega (arith, seat_read a.seats.now a.q (slot a.line 0) 1 w.wide.ensures.same refl, c.if1.false)
+    omega (arith, seat_read a.seats.now a.q (slot a.line 0) 1 w.wide.ensures.same refl, c.if-next-eq0.false)
 
-hold_of_requires : tie.Need-hold-of-requires
+hold_of_requires : tie.Need-hold_of-hold-requires
 hold_of_requires c κs =
     let p = (start c.before.before).requires in
     record {
@@ -36,22 +36,22 @@ hold_of_requires c κs =
       taken = next_seat c;
     }
 
-abbrev budget : tie.After-hold-of → ℕ
+abbrev budget : tie.After-hold_of-hold → ℕ
 budget h = (start h.before.before.before).args.line.budget_left
 
-returns_2 : tie.Need-returns-2
+returns_2 : tie.Need-returns-then-hold-line
 unfolding passed
 returns_2 c =
     let h = c.before.before in
     let some = ne_eqb (second h.before) 0 (λ z. omega (arith, next_seat h.before)) in
-    rw (some, ← h.hold_of.ensures, le-leb h.hold_of.result (budget h) (omega arith))
+    rw (some, ← h.hold_of-hold.ensures, le-leb h.hold_of-hold.result (budget h) (omega arith))
 
-returns_3 : tie.Need-returns-3
+returns_3 : tie.Need-returns
 unfolding passed
 returns_3 c =
     let h = c.before.before.before.before in
     let some = ne_eqb (second h.before) 0 (λ z. omega (arith, next_seat h.before)) in
-    rw (some, ← h.hold_of.ensures, lt-leb h.hold_of.result (budget h) (omega arith)) c.begin2.ensures
+    rw (some, ← h.hold_of-hold.ensures, lt-leb h.hold_of-hold.result (budget h) (omega arith)) c.begin-2.ensures
 
 pub pass_spec : {M : Type 1} → statement M
 pass_spec =

@@ -3,14 +3,14 @@ use Rattle.machine_steps.proofs.Ground.{arith, eq-eqb, ne_eqb, Running, stepped}
 use Rattle.machine_steps.proofs.step.Statement.{statement}
 use Rattle.machine_steps.proofs.step.Tie as tie
 
-abbrev start : tie.Else1 → tie.Start
+abbrev start : tie.Else-line-eq0 → tie.Start
 start c = c.before.before.before.before
 
-abbrev held : tie.After-struct-known4 → tie.Else1
+abbrev held : tie.After-struct_known-4-1 → tie.Else-line-eq0
 held c = c.before.before.before.before
 
-runs : (c : tie.Else1) → let a = (start c).args in Running a.seats.now a.q a.line
-runs c = (start c).requires.running (omega (arith, c.if1.false))
+runs : (c : tie.Else-line-eq0) → let a = (start c).args in Running a.seats.now a.q a.line
+runs c = (start c).requires.running (omega (arith, c.if-line-eq0.false))
 
 pass_requires : tie.Need-pass-requires
 pass_requires c κs =
@@ -22,17 +22,17 @@ pass_requires c κs =
       ready = record { some = r.some; few = r.few; placed = r.placed; once = r.once; seated = r.seated };
     }
 
-returns : tie.Need-returns
+returns : tie.Need-returns-then-line-eq0
 unfolding stepped
-returns c = rw (eq-eqb _ _ c.if1.true)
+returns c = rw (eq-eqb _ _ c.if-line-eq0.true)
 
-returns_2 : tie.Need-returns-2
+returns_2 : tie.Need-returns-then-line-eq1
 unfolding stepped
-returns_2 c = rw (ne_eqb _ _ (held c.before.before).if1.false, eq-eqb _ _ c.before.if2.true) c.pass.ensures
+returns_2 c = rw (ne_eqb _ _ (held c.before.before).if-line-eq0.false, eq-eqb _ _ c.before.if-line-eq1.true) c.pass.ensures
 
-returns_3 : tie.Need-returns-3
+returns_3 : tie.Need-returns
 unfolding stepped
-returns_3 c = rw (ne_eqb _ _ (held c.before).if1.false, ne_eqb _ _ c.if2.false)
+returns_3 c = rw (ne_eqb _ _ (held c.before).if-line-eq0.false, ne_eqb _ _ c.if-line-eq1.false)
 
 pub step_spec : {M : Type 1} → statement M
 step_spec =
