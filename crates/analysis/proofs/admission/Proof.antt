@@ -6,6 +6,6 @@ use Rattle.analysis.proofs.admission.Tie as tie
 
 pub admission_spec : {M : Type 1} → statement M
 admission_spec = tie.close (tie.spec
-    (λ c κs. search rules) (λ c. admission_refused _ c.before.check.ensures c.if1.true)
-    (λ c κs. checked_file c.before.check.ensures c.if1.false (λ i. (c.before.before.shared-slice-known.given i).fits))
-    (λ c. admission_decided _ c.before.before.check.ensures c.before.if1.false c.decided.ensures))
+    (λ c κs. search rules) (λ c. admission_refused _ c.before.check-code.ensures c.if-code-ne0.true)
+    (λ c κs. checked_file c.before.check-code.ensures c.if-code-ne0.false (λ i. (c.before.before.shared_slice_known-1.given i).fits))
+    (λ c. admission_decided _ c.before.before.check-code.ensures c.before.if-code-ne0.false c.decided.ensures))

@@ -12,36 +12,36 @@ record Turn (f t sides : List ℕ) (n i : ℕ) : Type 0 where
   prepared : Prepared f t sides
   told : all_below i (λ j. not (asks (plan_of f) j) || met (plan_of f) j) ≡ true
 
-abbrev invariant-loop : tie.invariant-loop
-invariant-loop file terms sides n i₀ i = Turn file terms sides n i
+abbrev invariant-loop-i : tie.invariant-loop-i
+invariant-loop-i file terms sides n i₀ i = Turn file terms sides n i
 
-abbrev decreases-loop : tie.decreases-loop
-decreases-loop file terms sides n i₀ i = n - i
+abbrev decreases-loop-i : tie.decreases-loop-i
+decreases-loop-i file terms sides n i₀ i = n - i
 
-loop_holds : tie.Need-loop-init invariant-loop decreases-loop
+loop_holds : tie.Need-loop-i-init invariant-loop-i decreases-loop-i
 unfolding all_below
 loop_holds c =
-    let all = c.wide.ensures.same ∙ c.before.counts.ensures.tasks in
+    let all = c.wide-n.ensures.same ∙ c.before.counts-counts.ensures.tasks in
     search rules
 
-returns : tie.Need-returns invariant-loop decreases-loop
+returns : tie.Need-returns-then-not-passes invariant-loop-i decreases-loop-i
 unfolding admitted
 returns c =
-    let l = c.before.before.before.loop in
-    all_left _ l.i _ (omega (arith, l.invariant.all)) (failed c.before.passes.ensures c.if1.true)
+    let l = c.before.before.before.loop-i in
+    all_left _ l.i _ (omega (arith, l.invariant.all)) (failed c.before.passes.ensures c.if-not-passes.true)
 
-loop_again : tie.Need-loop-preserved invariant-loop decreases-loop
+loop_again : tie.Need-loop-i-preserved invariant-loop-i decreases-loop-i
 loop_again c =
-    let told = all_more _ _ c.before.before.before.loop.invariant.told (held c.before.passes.ensures c.if1.false) in
+    let told = all_more _ _ c.before.before.before.loop-i.invariant.told (held c.before.passes.ensures c.if-not-passes.false) in
     search rules
 
-returns_2 : tie.Need-returns-2 invariant-loop decreases-loop
+returns_2 : tie.Need-returns invariant-loop-i decreases-loop-i
 unfolding admitted
-returns_2 c = let l = c.before.loop in all_done _ l.i _ (omega (arith, l.invariant.all)) (sym l.invariant.told)
+returns_2 c = let l = c.before.loop-i in all_done _ l.i _ (omega (arith, l.invariant.all)) (sym l.invariant.told)
 
 pub all_pass_spec : {M : Type 1} → statement M
 all_pass_spec =
     tie.close
     (tie.spec
-    invariant-loop decreases-loop (λ c κs. search rules) (λ c κs. search rules) loop_holds
+    invariant-loop-i decreases-loop-i (λ c κs. search rules) (λ c κs. search rules) loop_holds
     (λ c κs. search rules) returns (λ c. omega arith) (λ c. omega arith) loop_again returns_2)

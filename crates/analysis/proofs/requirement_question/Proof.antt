@@ -8,36 +8,36 @@ use Rattle.analysis.proofs.requirement_question.Tie as tie
 abbrev Filled : Type 0
 Filled = tie.After-prepare
 
-abbrev known : Filled → tie.Else1
+abbrev known : Filled → tie.Else-wide-i
 known c = c.before.before.before
 
-abbrev found : Filled → tie.After-task-number
+abbrev found : Filled → tie.After-task_number-i
 found c = (known c).before.before
 
 abbrev plan : Filled → Plan
 plan c = plan_of (found c).before.before.before.args.file.now
 
-below : (c : Filled) → (found c).task-number.result < (plan c).tasks
+below : (c : Filled) → (found c).task_number-i.result < (plan c).tasks
 below c = omega arith
 
 -- ── and the task's global sections are counted ──
-abbrev filled : tie.After-count-at → Filled
+abbrev filled : tie.After-count_at → Filled
 filled c = c.before.before.before.before
 
-counted : (c : tie.After-count-at) → c.count_at.result ≡ global_count (plan (filled c)) (found (filled c)).task-number.result
+counted : (c : tie.After-count_at) → c.count_at.result ≡ global_count (plan (filled c)) (found (filled c)).task_number-i.result
 counted c = count_told (filled c).prepare.ensures (below (filled c)) c.count_at.ensures
 
-returns_2 : tie.Need-returns-2
+returns_2 : tie.Need-returns-then-count_at-eq0
 returns_2 c =
     let t = filled c.before in
-    requirement_refused _ (not_asked _ _ (found t).task-number.ensures (below t) (counted c.before) c.if2.true) (λ e. omega arith)
+    requirement_refused _ (not_asked _ _ (found t).task_number-i.ensures (below t) (counted c.before) c.if-count_at-eq0.true) (λ e. omega arith)
 
-returns_3 : tie.Need-returns-3
+returns_3 : tie.Need-returns
 returns_3 c =
     let e = c.before.before.before in
     let t = filled e.before in
-    let i = (found t).task-number.ensures in
-    requirement_given_lem (task_asked _ _ i (below t) (counted e.before) e.if2.false) (c.requirement-of.ensures ∙ ap (requirement_of _) i)
+    let i = (found t).task_number-i.ensures in
+    requirement_given_lem (task_asked _ _ i (below t) (counted e.before) e.if-count_at-eq0.false) (c.requirement_of.ensures ∙ ap (requirement_of _) i)
 
 pub requirement_question_spec : {M : Type 1} → statement M
 requirement_question_spec =

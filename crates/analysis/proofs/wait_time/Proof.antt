@@ -6,6 +6,6 @@ use Rattle.analysis.proofs.wait_time.Tie as tie
 
 pub wait_time_spec : {M : Type 1} → statement M
 wait_time_spec = tie.close (tie.spec
-    (λ c κs. search rules) (λ c. figure_refused _ c.before.share-refusal.ensures c.if1.true)
-    (λ c κs. share_clear _ _ _ c.before.share-refusal.ensures c.if1.false (λ i. (c.before.before.shared-slice-known.given i).fits))
-    (λ c. let e = c.before in figure_given e.before.share-refusal.ensures e.if1.false c.shares_of.ensures.wait))
+    (λ c κs. search rules) (λ c. figure_refused _ c.before.share_refusal-code.ensures c.if-code-ne0.true)
+    (λ c κs. share_clear _ _ _ c.before.share_refusal-code.ensures c.if-code-ne0.false (λ i. (c.before.before.shared_slice_known-1.given i).fits))
+    (λ c. let e = c.before in figure_given e.before.share_refusal-code.ensures e.if-code-ne0.false c.shares_of-shares.ensures.wait))

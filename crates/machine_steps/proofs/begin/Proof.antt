@@ -12,7 +12,7 @@ hold_of_requires : tie.Need-hold_of-requires
 hold_of_requires c κs =
     let a = c.before.before.before in
     let head = a.requires.head (omega (arith, c.if-c-eq0.false)) in
-    let low = flag-low (eqb (get_or a.args.t1 0 0) a.args.gone) in
+    let low = flag-low (eqb (get_or a.args.queue 0 0) a.args.gone) in
     record {
       queue = record { tables = a.requires.tables; resource = a.requires.resource; core = head.core };
       place = omega (arith, low);

@@ -38,6 +38,9 @@ decreases-loop-j line k l queue₀ past₀ j₀ queue past j = 7 - j
 abbrev on : tie.In-loop-j invariant-loop-j decreases-loop-j → Bool
 on c = let l = c.before in let a = l.before.before.args in l.loop-j.past || eqb (get_or a.line.queue l.loop-j.j 0) a.k
 
+abbrev on_unread : tie.In-loop-j-unread-2 invariant-loop-j decreases-loop-j → Bool
+on_unread c = let l = c.before in let a = l.before.before.args in l.loop-j.past || eqb (get_or a.line.queue l.loop-j.j 0) a.k
+
 loop_holds : tie.Need-loop-j-init invariant-loop-j decreases-loop-j
 unfolding any_below placed_below
 loop_holds c = record { few = omega arith; passed = refl; slots = refl }
@@ -53,6 +56,6 @@ pub drop_core_spec : {M : Type 1} → statement M
 drop_core_spec =
     tie.close
     (tie.spec
-    invariant-loop-j decreases-loop-j loop_holds (λ c. omega arith) (λ c. tt) (λ c. omega (arith, flag-low (on c))) (λ c. omega (arith, flag-low (on c)))
+    invariant-loop-j decreases-loop-j loop_holds (λ c. omega arith) (λ c. tt) (λ c. omega (arith, flag-low (on_unread c))) (λ c. omega (arith, flag-low (on_unread c)))
     (λ c. omega arith) (λ c. omega arith) (λ c. omega arith) (λ c. below_more _ _ c.before.loop-j.invariant c.loop-j-test.true) (λ c. omega arith)
     returns)

@@ -4,6 +4,7 @@ use Rattle.machine_steps.proofs.Ground.{each_step, each_done, word_done, LineRow
 use Rattle.machine_steps.proofs.Ground.{stepped_lines, cut_word}
 use Rattle.folds.proofs.WordLaws.{word_step, word_fits}
 use Rattle.machine_steps.proofs.Marks.{ended_done, newly, grants_done, line_kept, kept_queued, mark_cut, mark_kept, cut_bit, grant_bit}
+use Rattle.machine_steps.proofs.step_lines.Lts.{then-on, else-on}
 use Rattle.machine_steps.proofs.step_lines.Statement.{statement}
 use Rattle.machine_steps.proofs.step_lines.Tie as tie
 
@@ -71,10 +72,10 @@ loop_again c =
     record {
       few = omega arith;
       lines = each_step _ _ _ _ i.lines after.step-after.ensures;
-      marks = ⊎_elim
-          (λ t. rw t.2 (mark_cut _ _ _ l.q i.lines on i.marks t.0.taken t.1.ensures.same))
-          (λ t. rw t.1 (mark_kept _ _ _ l.q i.lines on i.marks t.0.left))
-          c.if-on.branch;
+      marks = elim c.if-on.branch [
+        | then-on w ↦ rw w.lost-is (mark_cut _ _ _ l.q i.lines on i.marks w.if-on.true w.wide.ensures.same)
+        | else-on w ↦ rw w.lost-is (mark_kept _ _ _ l.q i.lines on i.marks w.if-on.false)
+      ];
       cut = word_step _ _ i.cut (cut_bit _ _ _ l.q i.lines on c.before.before.before.bit-cuts.ensures);
       granted = word_step _ _ i.granted (grant_bit _ _ _ l.q i.lines on after.step-after.ensures c.before.bit-grants.ensures);
     }

@@ -10,13 +10,13 @@ start c = c.before.before.before.before
 returns : tie.Need-returns-then-stepped-ne0
 returns c =
     let then = c.before.before.before.before in
-    let s = then.before.before.before.step_Lines.ensures in
+    let s = then.before.before.before.step_lines-stepped.ensures in
     record { state = rw (s.lines, c.lower-tasks.ensures, s.marks); cuts = s.cuts; grants = s.grants ∙ ap (grant_word _) (sym s.lines) }
 
 returns_2 : tie.Need-returns-else-stepped-ne0
 returns_2 c =
     let m = c.before.before.before in
-    let s = m.step_Lines.ensures in
+    let s = m.step_lines-stepped.ensures in
     record {
       state = rw (s.lines, rows_kept _ _ _ (start m.before).requires.0.keys_low (sym s.cuts ∙ c.if-stepped-ne0.false));
       cuts = s.cuts;
