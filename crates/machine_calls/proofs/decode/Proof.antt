@@ -9,5 +9,5 @@ unfolding call_of decoded_calls
 decode_spec =
     tie.close
     (tie.spec
-    (λ c. rw c.in-81.foo) (λ c. rw c.in-82.keys) (λ c. rw c.in-87.keys) (λ c. rw c.in-84.keys)
-    (λ c. let n = c.in_default.rest in rw (ne_eqb _ 81 n.0.0.0.1, ne_eqb _ 82 n.0.0.1, ne_eqb _ 87 n.0.1, ne_eqb _ 84 n.1)))
+    (λ c. rw c.in-81.is) (λ c. rw c.in-82.is) (λ c. rw c.in-87.is) (λ c. rw c.in-84.is)
+    (λ c. let n = c.in_default.in_default-own.rest in rw (ne_eqb _ 81 n.0.0.0.1, ne_eqb _ 82 n.0.0.1, ne_eqb _ 87 n.0.1, ne_eqb _ 84 n.1)))
