@@ -110,10 +110,10 @@ header_read f h =
       eq-eqb _ _ h.whole,
       h.edition,
       h.counts,
-      eq-eqb _ _ h.tasks_at,
-      eq-eqb _ _ h.resources_at,
-      eq-eqb _ _ h.sections_at,
-      eq-eqb _ _ h.names_at,
+      eq-eqb _ _ h.tasks_at_lem,
+      eq-eqb _ _ h.resources_at_lem,
+      eq-eqb _ _ h.sections_at_lem,
+      eq-eqb _ _ h.names_at_lem,
       le-leb _ _ h.ends,
     )
 
@@ -180,7 +180,7 @@ read_holds f w =
     let size : length f ≡ file_length c (names_of f) = omega (arith, length-drop (names_at c) f, h.ends) in
     record {
       size = size;
-      header = header_parts f ∙ rw (h.tasks_at, h.resources_at, h.sections_at, h.names_at, h.whole, size);
+      header = header_parts f ∙ rw (h.tasks_at_lem, h.resources_at_lem, h.sections_at_lem, h.names_at_lem, h.whole, size);
       stand = record {
         task = λ i l.
             task_row_lem e tasks i (task_kept e c.tasks tasks c.processors i w.tasks l).spare

@@ -7,20 +7,16 @@ use Rattle.plan_writing.proofs.Outcome.{copy_so, copy_refused}
 use Rattle.plan_writing.proofs.copy.Statement.{statement}
 use Rattle.plan_writing.proofs.copy.Tie as tie
 
--- where the file was read
-abbrev read_at : tie.After-names_at-names_at → tie.After-read-found
-read_at c = let m = c.before.before.before in m.before.before
-
 -- the lent file
 abbrev file : tie.After-names_at-names_at → List ℕ
-file c = (read_at c).before.before.before.args.file.now
+file c = c.args.file.now
 
 -- the plan that was read, said of the file
-got : (c : tie.After-names_at-names_at) → Got (file c) c.before.before.before.answer-1.given.0.0
-got c = got_plan _ _ (sym (ap (λ (x : Reading). x.answer) (read_at c).read-found.ensures.0) ∙ c.before.before.before.answer-1.given.1)
+got : (c : tie.After-names_at-names_at) → Got (file c) c.in-Accepted.counts
+got c = got_plan _ _ (sym (ap (λ (x : Reading). x.answer) c.read-found.ensures.0) ∙ c.in-Accepted.is)
 
-rows_got : (c : tie.After-names_at-names_at) → (read_at c).read-found.result.rows ≡ rows_of (file c)
-rows_got c = ap (λ (x : Reading). x.rows) (read_at c).read-found.ensures.0 ∙ (got c).rows
+rows_got : (c : tie.After-names_at-names_at) → c.read-found.result.rows ≡ rows_of (file c)
+rows_got c = ap (λ (x : Reading). x.rows) c.read-found.ensures.0 ∙ (got c).rows
 
 at_names : (c : tie.After-names_at-names_at) → c.names_at-names_at.result ≡ names_at (counts_of (file c))
 at_names c = c.names_at-names_at.ensures ∙ ap names_at (got c).counts
@@ -32,13 +28,12 @@ returns : tie.Need-returns-in-Accepted
 returns c =
     let w = c.before.before in
     let q = w.before.before.before in
-    let bytes : (i : ℕ) → get_or (file q) i 0 < 256 = λ i. ((read_at q).before.before.shared_slice_known-1.given i).fits in
-    copy_so (file q) bytes (got q).none _ _ _ _ (got q).counts (rows_got q) (names_got q) w.write.ensures.0 w.write.ensures.1.0
+    let bytes : (i : ℕ) → get_or (file q) i 0 < 256 = λ i. (c.shared_slice_known-1.given i).fits in
+    copy_so (file q) bytes (got q).none _ _ _ _ (got q).counts (rows_got q) (names_got q) c.write.ensures.0 c.write.ensures.1.0
 
 returns_2 : tie.Need-returns-in-Refused
 returns_2 c =
-    let read = c.before.before.before.read-found.ensures.0 in
-    let k = got_refusal _ _ (sym (ap (λ (x : Reading). x.answer) read) ∙ c.before.answer-in-Refused-1.given.1) in
+    let k = got_refusal _ _ (sym (ap (λ (x : Reading). x.answer) c.read-found.ensures.0) ∙ c.in-Refused.is) in
     copy_refused _ _ k.0 k.1
 
 pub copy_spec : {M : Type 1} → statement M

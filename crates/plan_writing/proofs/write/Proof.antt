@@ -14,7 +14,7 @@ returns_2 : tie.Need-returns-then-buf-len
 returns_2 c =
     let v = c.before.before.before in
     let a = v.before.before.before.args in
-    let short : length a.buf-1.now < file_length a.c a.names.now = omega (arith, c.before.names_at.ensures, c.if-buf-len.true) in
+    let short : length a.buf.now < file_length a.c a.names.now = omega (arith, c.before.names_at.ensures, c.if-buf-len.true) in
     let e = code_short _ _ _ _ v.values_code-code.ensures c.before.before.if-code-ne0.false short in
     ended_so _ _ _ (kept_back _ _ _ _ e (λ z. omega arith)) refl refl
 
@@ -37,7 +37,7 @@ returns_3 c =
     let n = i.before in
     let v = n.before.before in
     let a = v.before.before.before.args in
-    let fits : file_length a.c a.names.now ≤ length a.buf-1.now = omega (arith, n.names_at.ensures, i.if-buf-len.false) in
+    let fits : file_length a.c a.names.now ≤ length a.buf.now = omega (arith, n.names_at.ensures, i.if-buf-len.false) in
     let e = code_fits _ _ _ _ v.values_code-code.ensures n.before.if-code-ne0.false fits in
     ended_so _ _ _ (wrote _ _ _ _ e) (ap (λ (k : ℕ). Written (k + length a.names.now)) n.names_at.ensures)
     c.before.before.put_file.ensures

@@ -9,39 +9,29 @@ pub put_answer_spec : {M : Type 1} → statement M
 put_answer_spec =
     tie.close
     (tie.spec
-    (λ c. search rules) (λ c. search rules) (λ c κs. search rules)
-    (λ c κs. let i = c.before.before.before in
-    rw c.four.ensures ((rw i.enum_told.given.1 at i.before.before.before.before.requires.0, tt), search rules))
-    (λ c. search rules) (λ c. search rules) (λ c. search rules) (λ c. search rules) (λ c κs. search rules)
-    (λ c κs. let i = c.before.before.before.before in
-    rw c.four2.ensures ((rw i.answer.given.1 at i.before.before.before.before.requires.0, tt), search rules))
+    (λ c. search rules) (λ c κs. search rules)
+    (λ c κs. rw c.four.ensures ((rw c.in-Granted.is at c.requires.0, tt), search rules))
     (λ c. search rules) (λ c. search rules) (λ c. search rules) (λ c κs. search rules)
-    (λ c κs. let i = c.before.before.before.before in
-    rw c.four3.ensures ((rw i.answer2.given.1 at i.before.before.before.before.requires.0, tt), search rules))
+    (λ c κs. rw c.four-in-Waits.ensures ((rw c.in-Waits.is at c.requires.0, tt), search rules))
     (λ c. search rules) (λ c. search rules) (λ c κs. search rules)
-    (λ c κs. let i = c.before.before.before in
-    rw c.four4.ensures ((rw i.enum-told2.given.1 at i.before.before.before.before.requires.0, tt), search rules))
-    (λ c. search rules) (λ c. search rules) (λ c κs. search rules)
-    (λ c κs. let i = c.before.before.before in
-    rw c.four5.ensures ((rw i.enum-told3.given.1 at i.before.before.before.before.requires.0, tt), search rules))
-    (λ c. search rules) (λ c. search rules) (λ c. search rules) (λ c. search rules) (λ c κs. search rules)
-    (λ c κs. rw c.four6.ensures (tt, search rules)) (λ c. search rules) (λ c κs. search rules) (λ c. search rules)
-    (λ c. let p = c.before.before in let f = p.before in let i = f.before.before.before in
-    rw i.enum_told.given.1 (put_wider most_line (rw f.four.ensures at p.put-line.ensures) (omega arith)))
+    (λ c κs. rw c.four-in-Next.ensures ((rw c.in-Next.is at c.requires.0, tt), search rules))
+    (λ c. search rules) (λ c κs. search rules)
+    (λ c κs. rw c.four-in-Free.ensures ((rw c.in-Free.is at c.requires.0, tt), search rules))
+    (λ c. search rules) (λ c κs. search rules)
+    (λ c κs. rw c.four-in-Left.ensures ((rw c.in-Left.is at c.requires.0, tt), search rules))
+    (λ c. search rules) (λ c. search rules) (λ c. search rules) (λ c κs. search rules)
+    (λ c κs. rw c.four-in-Ticked.ensures (tt, search rules))
+    (λ c. search rules) (λ c κs. search rules)
     (λ c. search rules)
-    (λ c. let p = c.before.before in let f = p.before in let i = f.before.before.before.before in
-    rw i.answer.given.1 (put_wider most_line (rw f.four2.ensures at p.put-line2.ensures) (omega arith)))
+    (λ c. rw c.in-Granted.is (put_wider most_line (rw c.four.ensures at c.put_line.ensures) (omega arith)))
     (λ c. search rules)
-    (λ c. let p = c.before.before in let f = p.before in let i = f.before.before.before.before in
-    rw i.answer2.given.1 (put_wider most_line (rw f.four3.ensures at p.put-line3.ensures) (omega arith)))
+    (λ c. rw c.in-Waits.is (put_wider most_line (rw c.four-in-Waits.ensures at c.put_line-in-Waits.ensures) (omega arith)))
     (λ c. search rules)
-    (λ c. let p = c.before.before in let f = p.before in let i = f.before.before.before in
-    rw i.enum-told2.given.1 (put_wider most_line (rw f.four4.ensures at p.put-line4.ensures) (omega arith)))
+    (λ c. rw c.in-Next.is (put_wider most_line (rw c.four-in-Next.ensures at c.put_line-in-Next.ensures) (omega arith)))
     (λ c. search rules)
-    (λ c. let p = c.before.before in let f = p.before in let i = f.before.before.before in
-    rw i.enum-told3.given.1 (put_wider most_line (rw f.four5.ensures at p.put-line5.ensures) (omega arith)))
+    (λ c. rw c.in-Free.is (put_wider most_line (rw c.four-in-Free.ensures at c.put_line-in-Free.ensures) (omega arith)))
     (λ c. search rules)
-    (λ c. let p = c.before.before in let f = p.before in let i = f.before.before.before.before in
-    rw i.answer3.given.1 (put_wider most_line (rw f.four6.ensures at p.put-line6.ensures) (omega arith)))
+    (λ c. rw c.in-Left.is (put_wider most_line (rw c.four-in-Left.ensures at c.put_line-in-Left.ensures) (omega arith)))
     (λ c. search rules)
-    (λ c. let p = c.before.before in rw p.before.before.before.answer4.given.1 p.Put-refused.ensures))
+    (λ c. rw c.in-Ticked.is (put_wider most_line (rw c.four-in-Ticked.ensures at c.put_line-in-Ticked.ensures) (omega arith)))
+    (λ c. search rules) (λ c. rw c.in-Refused.is c.put_refused.ensures))

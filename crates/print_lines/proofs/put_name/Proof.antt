@@ -7,6 +7,5 @@ pub put_name_spec : {M : Type 1} → statement M
 put_name_spec =
     tie.close
     (tie.spec
-    (λ c. search rules) (λ c κs. search rules) (λ c κs. search rules) (λ c κs. search rules) (λ c. search rules)
-    (λ c. let d = c.before.before in let n = d.before in let name = n.name.ensures in
-    put_in_then (put_in 1 n.before.before.before.before.put.ensures (omega arith)) (rw name.0 at (put_in _ d.put2.ensures name.1))))
+    (λ c κs. search rules) (λ c κs. search rules) (λ c κs. search rules) (λ c. search rules)
+    (λ c. let name = c.name.ensures in put_in_then (put_in 1 c.put-a.ensures (omega arith)) (rw name.0 at (put_in _ c.put.ensures name.1))))

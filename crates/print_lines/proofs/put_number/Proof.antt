@@ -7,6 +7,5 @@ pub put_number_spec : {M : Type 1} → statement M
 put_number_spec =
     tie.close
     (tie.spec
-    (λ c. search rules) (λ c κs. search rules) (λ c κs. search rules) (λ c. search rules)
-    (λ c. let d = c.before.before in
-    put_in_then (put_in 1 d.before.before.before.before.put.ensures (omega arith)) d.put-decimal.ensures))
+    (λ c κs. search rules) (λ c κs. search rules) (λ c. search rules)
+    (λ c. put_in_then (put_in 1 c.put-a.ensures (omega arith)) c.put_decimal.ensures))

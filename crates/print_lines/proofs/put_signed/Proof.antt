@@ -8,6 +8,5 @@ pub put_signed_spec : {M : Type 1} → statement M
 put_signed_spec =
     tie.close
     (tie.spec
-    (λ c. search rules) (λ c κs. search rules) (λ c κs. search rules) (λ c. search rules)
-    (λ c. let d = c.before.before in let p = d.before.before.before.before in
-    put_in_then (put_in 1 p.put.ensures (omega arith)) (put_held signed _ p.before.before.before.before.ranges.z d.put-signed.ensures)))
+    (λ c κs. search rules) (λ c κs. search rules) (λ c. search rules)
+    (λ c. put_in_then (put_in 1 c.put-a.ensures (omega arith)) (put_held signed _ c.ranges.z c.put_signed.ensures)))

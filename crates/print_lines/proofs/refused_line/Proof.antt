@@ -9,6 +9,4 @@ refused_line_spec =
     tie.close
     (tie.spec
     (λ c. search rules) (λ c κs. search rules) (λ c. search rules) (λ c. search rules) (λ c. search rules) (λ c κs. search rules)
-    (λ c. search rules)
-    (λ c. let h = c.before.before in let e = h.before in
-    rw (front_part e.before.before.before.before.Put-refused.ensures.put) at h.hand-over.ensures))
+    (λ c. search rules) (λ c. rw (front_part c.put_refused-end.ensures.put) at c.hand_over.ensures))
