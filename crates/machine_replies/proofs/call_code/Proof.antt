@@ -9,6 +9,6 @@ call_code_spec =
     (tie.spec
     (λ c. search rules) (λ c κs. search rules) (λ c. search rules) (λ c κs. search rules) (λ c. search rules) (λ c κs. search rules)
     (λ c. search rules)
-    (λ c. rw c.before.before.call.given.1 c.request-code.ensures)
-    (λ c. rw c.before.before.call2.given.1 c.release-code.ensures)
-    (λ c. rw c.before.before.call3.given.1 c.give-up-code.ensures) (λ c. rw c.enum_told.given.1 refl))
+    (λ c. rw c.before.before.call-1.given.1 c.request_code.ensures)
+    (λ c. rw c.before.before.call-in-Release-1.given.1 c.release_code.ensures)
+    (λ c. rw c.before.before.call-in-GiveUp-1.given.1 c.give_up_code.ensures) (λ c. rw c.enum_told-1.given.1 refl))

@@ -7,23 +7,23 @@ use Rattle.machine_replies.proofs.release_code.Statement.{statement}
 use Rattle.machine_replies.proofs.release_code.Tie as tie
 
 -- once the first two are passed
-abbrev found : tie.Else1 → tie.After-task-named
+abbrev found : tie.Else-named-ne0 → tie.After-task_named-named
 found c = c.before.before
 
-passed : (c : tie.Else1) → let a = (found c).before.before.before.args in Passed (plan_of a.file.now) a.state a.tag a.q
+passed : (c : tie.Else-named-ne0) → let a = (found c).before.before.before.args in Passed (plan_of a.file.now) a.state a.tag a.q
 passed c =
-    let named = sym (found c).task-named.ensures.code ∙ c.if1.false in
+    let named = sym (found c).task_named-named.ensures.code ∙ c.if-named-ne0.false in
     search (rules, valid_plan, whole_of)
 
-held : (c : tie.Else1) {code : ℕ} → let a = (found c).before.before.before.args in code ≡ cond (found c).task-named.result.holds 0 not_held
+held : (c : tie.Else-named-ne0) {code : ℕ} → let a = (found c).before.before.before.args in code ≡ cond (found c).task_named-named.result.holds 0 not_held
     → code ≡ release_code (plan_of a.file.now) (shows (plan_of a.file.now) a.state) a.tag a.q
-held c e = release_by (passed c) ((found c).task-named.ensures.holds (passed c).named) e
+held c e = release_by (passed c) ((found c).task_named-named.ensures.holds (passed c).named) e
 
 pub release_code_spec : {M : Type 1} → statement M
 release_code_spec =
     tie.close
     (tie.spec
     (λ c κs. search rules)
-    (λ c. line_refused _ _ _ _ _ _ c.before.before.task-named.ensures.code c.if1.true)
-    (λ c. let e = c.before.before in held e (rw (c.if2.true)))
-    (λ c. let e = c.before.before in held e (rw (c.if2.false))))
+    (λ c. line_refused _ _ _ _ _ _ c.before.before.task_named-named.ensures.code c.if-named-ne0.true)
+    (λ c. let e = c.before.before in held e (rw (c.if-not-named.true)))
+    (λ c. let e = c.before.before in held e (rw (c.if-not-named.false))))

@@ -5,14 +5,14 @@ use Rattle.machine_replies.proofs.Freed.{Held, free_low, free_ready, free_next, 
 use Rattle.machine_replies.proofs.release_on.Statement.{statement}
 use Rattle.machine_replies.proofs.release_on.Tie as tie
 
-abbrev start : tie.After-wide → tie.Start
+abbrev start : tie.After-wide-r → tie.Start
 start c =
     let known = c.before in
     known.before.before.before.before
 
-held : (c : tie.After-wide) → let a = (start c).args in
-    Held (plan_of a.file.now) a.t5 a.q c.wide.result a.figures.now a.keys.now a.seats.now
-held c = let same = c.wide.ensures.same in search (rules, length_mapped, valid_plan, whole_of)
+held : (c : tie.After-wide-r) → let a = (start c).args in
+    Held (plan_of a.file.now) a.t5 a.q c.wide-r.result a.figures.now a.keys.now a.seats.now
+held c = let same = c.wide-r.ensures.same in search (rules, length_mapped, valid_plan, whole_of)
 
 pub release_on_spec : {M : Type 1} → statement M
 release_on_spec =
@@ -21,5 +21,5 @@ release_on_spec =
     (λ c κs. search rules) (λ c. search rules) (λ c. free_low (held c)) (λ c κs. free_ready (held c.before.before))
     (λ c. search rules) (λ c. free_low (held c.before.before.before)) (λ c. search rules)
     (λ c κs. let h = held c.before.before.before.before in
-    let low = free_low h in let next = free_next h c.before.leave.ensures in search rules)
-    (λ c. let left = c.before.before in free_done (held left.before.before.before) left.leave.ensures c.granted.ensures))
+    let low = free_low h in let next = free_next h c.before.leave-next.ensures in search rules)
+    (λ c. let left = c.before.before in free_done (held left.before.before.before) left.leave-next.ensures c.granted.ensures))

@@ -7,72 +7,72 @@ use Rattle.machine_replies.proofs.request_on.Statement.{statement}
 use Rattle.machine_replies.proofs.request_on.Tie as tie
 
 -- ── once the task is found ──
-abbrev start : tie.After-task-number → tie.Start
+abbrev start : tie.After-task_number-i → tie.Start
 start c = c.before.before.before.before
 
-accepted : (c : tie.After-task-number) → let a = (start c).args in
+accepted : (c : tie.After-task_number-i) → let a = (start c).args in
     Accepted (plan_of a.file.now) a.t4 a.tag a.q a.figures.now a.seats.now
 accepted c = search (rules, length_mapped, valid_plan, whole_of, request_free)
 
 -- ── once its row is read ──
-abbrev found : tie.After-wide → tie.After-task-number
+abbrev found : tie.After-wide-r → tie.After-task_number-i
 found c = c.before.before
 
-named : (c : tie.After-wide) → let a = (start (found c)).args in
-    Named (plan_of a.file.now) a.tag a.q (found c).task-number.result c.before.task.result.processor c.wide.result
+named : (c : tie.After-wide-r) → let a = (start (found c)).args in
+    Named (plan_of a.file.now) a.tag a.q (found c).task_number-i.result c.before.task-row.result.processor c.wide-r.result
 named c =
     record {
-      task = (found c).task-number.ensures;
-      processor = ap (λ (row : TaskRow). row.processor) c.before.task.ensures;
-      resource = c.wide.ensures.same;
+      task = (found c).task_number-i.ensures;
+      processor = ap (λ (row : TaskRow). row.processor) c.before.task-row.ensures;
+      resource = c.wide-r.ensures.same;
     }
 
-low_resource : (c : tie.After-wide) → c.wide.result < most_resources
+low_resource : (c : tie.After-wide-r) → c.wide-r.result < most_resources
 low_resource c = resource_low (accepted (found c)) (named c)
 
 -- ── once it is in line ──
-abbrev counted : tie.After-join → tie.After-ahead-of
+abbrev counted : tie.After-join-next → tie.After-ahead_of-ahead
 counted c = c.before.before
 
-abbrev joined : tie.Else1 → tie.After-join
+abbrev joined : tie.Else-held-eq0 → tie.After-join-next
 joined c = c.before.before
 
-most_wait_lem : (c : tie.After-wait-in) → ((counted (joined c.before)).ahead_of_lem.result.count + 1) * c.wait-in.result ≤ 34078200
-most_wait_lem c = waits_high _ _ (counted (joined c.before)).ahead_of_lem.ensures.few c.wait-in.ensures.1
+most_wait_lem : (c : tie.After-wait_in-wait) → ((counted (joined c.before)).ahead_of_lem.result.count + 1) * c.wait_in-wait.result ≤ 34078200
+most_wait_lem c = waits_high _ _ (counted (joined c.before)).ahead_of_lem.ensures.few c.wait_in-wait.ensures.1
 
 -- ── the needs ──
-ahead_of_requires : tie.Need-ahead-of-requires
+ahead_of_requires : tie.Need-ahead_of-ahead-requires
 ahead_of_requires c κs =
     let resource = low_resource c in
     let core = core_low (accepted (found c)) (named c) in
     search rules
 
-join_requires : tie.Need-join-requires
+join_requires : tie.Need-join-next-requires
 join_requires c κs =
     let n = c.before in
     ask_joins (accepted (found n.before)) (named n.before) n.ahead_of_lem.ensures.counted
 
-returns : tie.Need-returns
+returns : tie.Need-returns-then-held-eq0
 returns c =
     let j = c.before.before in
     let n = counted j in
-    ask_granted (accepted (found n.before)) (named n.before) n.ahead_of_lem.ensures.counted j.join.ensures c.if1.true
+    ask_granted (accepted (found n.before)) (named n.before) n.ahead_of_lem.ensures.counted j.join-next.ensures c.if-held-eq0.true
 
-returns_2 : tie.Need-returns-2
+returns_2 : tie.Need-returns
 returns_2 c =
     let wait = c.before.before in
     let j = joined wait.before in
     let n = counted j in
     let ahead = n.ahead_of_lem.ensures in
-    ask_waits (accepted (found n.before)) (named n.before) ahead.counted j.join.ensures wait.before.if1.false ahead.held
-    wait.wait-in.ensures.0
+    ask_waits (accepted (found n.before)) (named n.before) ahead.counted j.join-next.ensures wait.before.if-held-eq0.false ahead.held
+    wait.wait_in-wait.ensures.0
 
 pub request_on_spec : {M : Type 1} → statement M
 request_on_spec =
     tie.close
     (tie.spec
     (λ c κs. search rules)
-    (λ c κs. ((start c).requires.on.known.plan, omega (arith, c.task-number.ensures, (accepted c).free.task)))
+    (λ c κs. ((start c).requires.on.known.plan, omega (arith, c.task_number-i.ensures, (accepted c).free.task)))
     (λ c κs. search rules) ahead_of_requires
     (λ c. search rules) (λ c. low_resource c.before) join_requires returns
     (λ c κs. let r = (counted (joined c)).before in ((start (found r)).requires.on.known, low_resource r)) (λ c. search rules)

@@ -5,7 +5,7 @@ use Rattle.machine_replies.proofs.Beaten.{beat_ready, beat_done}
 use Rattle.machine_replies.proofs.tick_on.Statement.{statement}
 use Rattle.machine_replies.proofs.tick_on.Tie as tie
 
-abbrev start : tie.After-shared-slice-known4 → tie.Start
+abbrev start : tie.After-shared_slice_known-4-1 → tie.Start
 start c = c.before.before.before.before
 
 valid : (c : tie.Start) → Valid (plan_of c.args.file.now)
@@ -22,4 +22,4 @@ tick_on_spec =
     tie.close
     (tie.spec
     (λ c κs. let a = start c in beat_ready (valid a) (whole a) (tables a))
-    (λ c. let t = c.before in let a = start t.before in beat_done (valid a) (whole a) (tables a) t.tick.ensures))
+    (λ c. let t = c.before in let a = start t.before in beat_done (valid a) (whole a) (tables a) t.tick-ticked.ensures))
