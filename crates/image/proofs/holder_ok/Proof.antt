@@ -66,7 +66,7 @@ returns_3 c =
     let n = counted f in
     let g = read n in
     let b = (begun g).args.image.now in
-    let i = f.before.before.wide in
+    let i = f.before.before.wide-i in
     let row = s.standing_at-s.ensures ∙ ap (λ (k : ℕ). standing_from (row_at standing_widths (drop k b) i.result)) f.standing_rows_at.ensures in
     rw (c.before.before.wide.ensures.same, f.before.task-task.ensures)
     (first_test _ b _ (line g) (holder g) n.before.if-line-eq0.false

@@ -3,7 +3,7 @@ use Rattle.image.proofs.Ground.{arith, rules, row_bytes, digits, head_bytes, val
 use Rattle.image.proofs.put_head.Statement.{statement}
 use Rattle.image.proofs.put_head.Tie as tie
 
-cast_t7 : tie.Need-overflow-cast-t7
+cast_t7 : tie.Need-overflow_cast-row-2
 cast_t7 c =
     let v = valid_plan _ c.before.before.before.before.requires.0 in
     omega (arith, v.resources, c.standing_rows_at-at.ensures)

@@ -1,13 +1,13 @@
 -- Each part is put behind those before it, and the rows are those of the image.
-use Rattle.image-1.proofs.Ground.{◌≡◌, ap, ◌∙◌, length, length-take, length-drop, arith, rules, plan_of, Valid, valid_plan}
-use Rattle.image-1.proofs.Ground.{Front, put_front, rows_part, head_bytes, image_length, line_width, standing_width, line_row}
-use Rattle.image-1.proofs.Ground.{standing_row, most_tasks, most_resources}
+use Rattle.image.proofs.Ground.{◌≡◌, ap, ◌∙◌, length, length-take, length-drop, arith, rules, plan_of, Valid, valid_plan}
+use Rattle.image.proofs.Ground.{Front, put_front, rows_part, head_bytes, image_length, line_width, standing_width, line_row}
+use Rattle.image.proofs.Ground.{standing_row, most_tasks, most_resources}
 use Rattle.folds.proofs.Arrays.{length_mapped}
-use Rattle.image-1.proofs.Rows.{head_length, line_length, standing_length}
-use Rattle.image-1.proofs.Holding.{table_long}
-use Rattle.image-1.proofs.Stored.{stored_same}
-use Rattle.image-1.proofs.store.Statement.{statement}
-use Rattle.image-1.proofs.store.Tie as tie
+use Rattle.image.proofs.Rows.{head_length, line_length, standing_length}
+use Rattle.image.proofs.Holding.{table_long}
+use Rattle.image.proofs.Stored.{stored_same}
+use Rattle.image.proofs.store.Statement.{statement}
+use Rattle.image.proofs.store.Tie as tie
 
 -- the beginning and the table, seen from where the first bytes are put, and these, seen from where the resource rows are
 abbrev begun : tie.After-holders_of-holders → tie.Start
@@ -61,7 +61,7 @@ returns c =
     let h = tabled p in
     let a = begun h in
     let counts = h.before.before.counts-counts.ensures in
-    let from = h.before.standing-rows-at in
+    let from = h.before.standing_rows_at-at in
     let room = a.requires.lent.room in
     let n = l.before.wide.ensures.same ∙ counts.resources in
     let m = w.wide-2.ensures.same ∙ counts.tasks in

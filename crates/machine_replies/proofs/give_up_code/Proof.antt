@@ -10,7 +10,7 @@ use Rattle.machine_replies.proofs.give_up_code.Tie as tie
 abbrev found : tie.Else-named-ne0 → tie.After-task_named-named
 found c = c.before.before
 
-passed : (c : tie.Else-named-ne0) → let a = (found c).before.before.before.args in Passed (plan_of a.file.now) a.t3 a.tag a.q
+passed : (c : tie.Else-named-ne0) → let a = (found c).before.before.before.args in Passed (plan_of a.file.now) a.state a.tag a.q
 passed c =
     let named = sym (found c).task_named-named.ensures.code ∙ c.if-named-ne0.false in
     search (rules, valid_plan, whole_of)
@@ -24,7 +24,7 @@ clear c = c.before.before.before
 
 waits : (c : tie.Else-row-q) {code : ℕ} → let t = found (clear c) in let a = t.before.before.before.args in
     code ≡ cond t.task_named-named.result.holds not_waiting 0
-    → code ≡ give_up_code (plan_of a.file.now) (shows (plan_of a.file.now) a.t3) a.tag a.q
+    → code ≡ give_up_code (plan_of a.file.now) (shows (plan_of a.file.now) a.state) a.tag a.q
 waits c e =
     let p = passed (clear c) in
     let t = (found (clear c)).task_named-named.ensures in

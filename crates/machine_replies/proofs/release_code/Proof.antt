@@ -25,5 +25,5 @@ release_code_spec =
     (tie.spec
     (λ c κs. search rules)
     (λ c. line_refused _ _ _ _ _ _ c.before.before.task_named-named.ensures.code c.if-named-ne0.true)
-    (λ c. let e = c.before.before in held e (rw (c.if-not-named.true)))
-    (λ c. let e = c.before.before in held e (rw (c.if-not-named.false))))
+    (λ c. let e = c.before.before in held e (rw (not-true (found e).task_named-named.result.holds c.if-not-named.true)))
+    (λ c. let e = c.before.before in held e (rw (not-false (found e).task_named-named.result.holds c.if-not-named.false))))

@@ -11,7 +11,7 @@ start c =
     known.before.before.before.before
 
 held : (c : tie.After-wide-r) → let a = (start c).args in
-    Held (plan_of a.file.now) a.t5 a.q c.wide-r.result a.figures.now a.keys.now a.seats.now
+    Held (plan_of a.file.now) a.state a.q c.wide-r.result a.figures.now a.keys.now a.seats.now
 held c = let same = c.wide-r.ensures.same in search (rules, length_mapped, valid_plan, whole_of)
 
 pub release_on_spec : {M : Type 1} → statement M

@@ -21,7 +21,7 @@ low c = omega (arith, (asked c).user_in-user.ensures.1, (use_clear _ _ _ (clear 
 -- the row of the task decides
 told : (c : tie.After-is_in_line) {code : ℕ} → let a = (start (asked c.before.before)).args in
     code ≡ cond c.is_in_line.result already_in_line 0
-    → code ≡ request_code (plan_of a.file.now) (shows (plan_of a.file.now) a.t3) a.tag a.q
+    → code ≡ request_code (plan_of a.file.now) (shows (plan_of a.file.now) a.state) a.tag a.q
 told c e =
     let else = c.before.before in
     let p = (start (asked else)).requires in

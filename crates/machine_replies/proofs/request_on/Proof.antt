@@ -11,7 +11,7 @@ abbrev start : tie.After-task_number-i → tie.Start
 start c = c.before.before.before.before
 
 accepted : (c : tie.After-task_number-i) → let a = (start c).args in
-    Accepted (plan_of a.file.now) a.t4 a.tag a.q a.figures.now a.seats.now
+    Accepted (plan_of a.file.now) a.state a.tag a.q a.figures.now a.seats.now
 accepted c = search (rules, length_mapped, valid_plan, whole_of, request_free)
 
 -- ── once its row is read ──
@@ -37,8 +37,8 @@ counted c = c.before.before
 abbrev joined : tie.Else-held-eq0 → tie.After-join-next
 joined c = c.before.before
 
-most_wait_lem : (c : tie.After-wait_in-wait) → ((counted (joined c.before)).ahead_of_lem.result.count + 1) * c.wait_in-wait.result ≤ 34078200
-most_wait_lem c = waits_high _ _ (counted (joined c.before)).ahead_of_lem.ensures.few c.wait_in-wait.ensures.1
+most_wait_lem : (c : tie.After-wait_in-wait) → ((counted (joined c.before)).ahead_of-ahead.result.count + 1) * c.wait_in-wait.result ≤ 34078200
+most_wait_lem c = waits_high _ _ (counted (joined c.before)).ahead_of-ahead.ensures.few c.wait_in-wait.ensures.1
 
 -- ── the needs ──
 ahead_of_requires : tie.Need-ahead_of-ahead-requires
@@ -50,20 +50,20 @@ ahead_of_requires c κs =
 join_requires : tie.Need-join-next-requires
 join_requires c κs =
     let n = c.before in
-    ask_joins (accepted (found n.before)) (named n.before) n.ahead_of_lem.ensures.counted
+    ask_joins (accepted (found n.before)) (named n.before) n.ahead_of-ahead.ensures.counted
 
 returns : tie.Need-returns-then-held-eq0
 returns c =
     let j = c.before.before in
     let n = counted j in
-    ask_granted (accepted (found n.before)) (named n.before) n.ahead_of_lem.ensures.counted j.join-next.ensures c.if-held-eq0.true
+    ask_granted (accepted (found n.before)) (named n.before) n.ahead_of-ahead.ensures.counted j.join-next.ensures c.if-held-eq0.true
 
 returns_2 : tie.Need-returns
 returns_2 c =
     let wait = c.before.before in
     let j = joined wait.before in
     let n = counted j in
-    let ahead = n.ahead_of_lem.ensures in
+    let ahead = n.ahead_of-ahead.ensures in
     ask_waits (accepted (found n.before)) (named n.before) ahead.counted j.join-next.ensures wait.before.if-held-eq0.false ahead.held
     wait.wait_in-wait.ensures.0
 
@@ -77,4 +77,4 @@ request_on_spec =
     (λ c. search rules) (λ c. low_resource c.before) join_requires returns
     (λ c κs. let r = (counted (joined c)).before in ((start (found r)).requires.on.known, low_resource r)) (λ c. search rules)
     (λ c. search rules) (λ c. omega (arith, most_wait_lem c.before))
-    (λ c. let wait = c.before.before in omega (arith, (counted (joined wait.before)).ahead_of_lem.ensures.small, most_wait_lem wait)) returns_2)
+    (λ c. let wait = c.before.before in omega (arith, (counted (joined wait.before)).ahead_of-ahead.ensures.small, most_wait_lem wait)) returns_2)

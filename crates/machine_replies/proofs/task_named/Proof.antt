@@ -18,7 +18,7 @@ task_low c = omega (arith, c.if-wide-task.false, c.before.wide.ensures.same, (fo
 abbrev known : tie.Else-counts-q → tie.Else-wide-task
 known c = c.before.before
 
-passed : (c : tie.Else-counts-q) → let a = (start (found (known c))).args in Passed (plan_of a.file.now) a.t3 a.tag a.q
+passed : (c : tie.Else-counts-q) → let a = (start (found (known c))).args in Passed (plan_of a.file.now) a.state a.tag a.q
 passed c =
     let r = (found (known c)).before.counts-counts.ensures.resources in
     let q = (start (found (known c))).args.q in
