@@ -9,6 +9,6 @@ call_code_spec =
     (tie.spec
     (λ c. search rules) (λ c κs. search rules) (λ c. search rules) (λ c κs. search rules) (λ c. search rules) (λ c κs. search rules)
     (λ c. search rules)
-    (λ c. rw c.before.before.call-1.given.1 c.request_code.ensures)
-    (λ c. rw c.before.before.call-in-Release-1.given.1 c.release_code.ensures)
-    (λ c. rw c.before.before.call-in-GiveUp-1.given.1 c.give_up_code.ensures) (λ c. rw c.enum_told-1.given.1 refl))
+    (λ c. rw c.in-Request.is c.request_code.ensures)
+    (λ c. rw c.in-Release.is c.release_code.ensures)
+    (λ c. rw c.in-GiveUp.is c.give_up_code.ensures) (λ c. rw c.in-Tick.is refl))
