@@ -1,5 +1,5 @@
 -- Bytes as calls: that they are one call at most, and that those in front do not depend on what lies behind.
-use Rattle.folds.proofs.Ground.{ℕ, zero, suc, ◌+◌, ◌*◌, ◌-◌, ◌≤◌, ◌<◌, Bool, true, false, cond, ◌&&◌, ◌≡◌, refl, sym, ap, ap₂, ◌∙◌, List, [], ◌∷◌, ◌++◌, eqb, length, get_or, take, drop, List·getD-append, get_or-append-add, get_or-drop, get_or-take, add-zero, zero-add, add_assoc, add_comm, suc-mul, arith}
+use Rattle.folds.proofs.Ground.{ℕ, zero, suc, ◌+◌, ◌*◌, ◌-◌, ◌≤◌, ◌<◌, Bool, true, false, cond, ◌&&◌, not, ◌≡◌, refl, sym, ap, ap₂, ◌∙◌, List, [], ◌∷◌, ◌++◌, eqb, length, get_or, take, drop, List·getD-append, get_or-append-add, get_or-drop, get_or-take, add-zero, zero-add, add_assoc, add_comm, suc-mul, arith, not-true, not-false}
 use Rattle.folds.specs.Bytes.{number}
 use Rattle.machine_rules.specs.declared.Call.{Call}
 use Rattle.machine_rules.specs.declared.Call.TheVariants.{Request, Release, GiveUp, Tick}
@@ -7,13 +7,13 @@ use Rattle.machine_calls.specs.declared.Decoded.{Decoded}
 use Rattle.machine_calls.specs.Calls.{call_of, decoded_calls, tag_at, bytes_at, call_in, calls_below}
 
 -- a decoding says whether there is a call
-pub decoded_call : (d : Decoded) {cs : List Call} → decoded_calls d ≡ cs → d.known ≡ true → cs ≡ d.call ∷ []
+pub decoded_call : (d : Decoded) {cs : List Call} → decoded_calls d ≡ cs → not d.known ≡ false → cs ≡ d.call ∷ []
 unfolding decoded_calls
-decoded_call d e n = sym e ∙ rw n
+decoded_call d e n = sym e ∙ rw (not-false d.known n)
 
-pub decoded_no_call : (d : Decoded) {cs : List Call} → decoded_calls d ≡ cs → d.known ≡ false → cs ≡ []
+pub decoded_no_call : (d : Decoded) {cs : List Call} → decoded_calls d ≡ cs → not d.known ≡ true → cs ≡ []
 unfolding decoded_calls
-decoded_no_call d e n = sym e ∙ rw n
+decoded_no_call d e n = sym e ∙ rw (not-true d.known n)
 
 -- bytes are one call or none
 pub data AtMostOne : List Call → Type 0 where

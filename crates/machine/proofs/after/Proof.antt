@@ -6,5 +6,5 @@ use Rattle.machine.proofs.after.Tie as tie
 
 pub after_spec : {M : Type 1} → statement M
 after_spec = tie.close (tie.spec
-    (λ c κs. search rules) (λ c. rw (decoded_no_call _ c.before.before.decode.ensures c.if1.true) refl) (λ c κs. search rules)
-    (λ c. let i = c.before.before in rw (decoded_call _ i.before.before.decode.ensures i.if1.false) c.before.call.ensures.1.0))
+    (λ c κs. search rules) (λ c. rw (decoded_no_call _ c.before.before.decode-decoded.ensures c.if-not-decoded.true) refl) (λ c κs. search rules)
+    (λ c. let i = c.before.before in rw (decoded_call _ i.before.before.decode-decoded.ensures i.if-not-decoded.false) c.before.call.ensures.1.0))

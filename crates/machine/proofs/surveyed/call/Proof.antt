@@ -9,7 +9,7 @@ call_spec =
     tie.close
     (tie.spec
     (λ c κs. search rules)
-    (λ c. let then = c.before in let bad = then.if1.true in
+    (λ c. let then = c.before in let bad = then.if-code-ne0.true in
     rw c.refuse.ensures (refused_reply _ _ _ (plan_refused _ _ _ then.before.before.before.requires.refusal bad) bad))
-    (λ c κs. let p = c.before.before.before.requires in let z = c.if1.false in record { none = sym p.refusal ∙ z; known = p.known z })
+    (λ c κs. let p = c.before.before.before.requires in let z = c.if-code-ne0.false in record { none = sym p.refusal ∙ z; known = p.known z })
     (λ c. search rules))
