@@ -7,44 +7,44 @@ use Rattle.print_calls.proofs.call_line.Statement.{statement}
 use Rattle.print_calls.proofs.call_line.Tie as tie
 
 -- ── once the number of the plan and of the state is known ──
-abbrev looked : tie.After-state-refusal → tie.After-look
+abbrev looked : tie.After-state_refusal-first → tie.After-look-code
 looked c = c.before.before.before
 
-abbrev start : tie.After-state-refusal → tie.Start
+abbrev start : tie.After-state_refusal-first → tie.Start
 start c = (looked c).before.before.before.before
 
 -- ── once the line is handed over ──
-abbrev over : tie.After-struct-known → tie.After-hand-over
+abbrev over : tie.After-struct_known-1 → tie.After-hand_over-line
 over c = c.before.before.before.before
 
-abbrev lent : tie.After-hand-over → tie.After-buf3
+abbrev lent : tie.After-hand_over-line → tie.After-buf3
 lent c = c.before.before.before
 
-abbrev put : tie.After-hand-over → tie.After-put-call
+abbrev put : tie.After-hand_over-line → tie.After-put_call-step
 put c = (lent c).before.before
 
-returns : tie.Need-returns
+returns : tie.Need-returns-then-first-ne0
 returns c =
     let i = c.before in
     let a = (start i.before).args in
-    let h = refused_before i.before.state_refusal.ensures (call_line a.file.now a.state a.bytes) a.out.now i.if1.true in
-    rw c.no_line.ensures (h.0, (h.1, (λ z. absurd (i.if1.true z), λ d. refl)))
+    let h = refused_before i.before.state_refusal-first.ensures (call_line a.file.now a.state a.bytes) a.out-1.now i.if-first-ne0.true in
+    rw c.no_line.ensures (h.0, (h.1, (λ z. absurd (i.if-first-ne0.true z), λ d. refl)))
 
-returns_2 : tie.Need-returns-2
+returns_2 : tie.Need-returns-then-line-ne0
 returns_2 c =
     let h = over c.before in
     let i = (put h).before.before.before in
-    let line = rw (front_part (put h).put-call.ensures.line.put) at h.hand-over.ensures in
-    let e = none_before i.before.state_refusal.ensures _ _ i.if1.false line in
-    (e.0, (e.1, (λ z. absurd (c.if2.true z), λ d. refl)))
+    let line = rw (front_part (put h).put_call-step.ensures.line.put) at h.hand_over-line.ensures in
+    let e = none_before i.before.state_refusal-first.ensures _ _ i.if-first-ne0.false line in
+    (e.0, (e.1, (λ z. absurd (c.if-line-ne0.true z), λ d. refl)))
 
-returns_3 : tie.Need-returns-3
+returns_3 : tie.Need-returns
 returns_3 c =
     let h = over c.before in
     let i = (put h).before.before.before in
-    let line = rw (front_part (put h).put-call.ensures.line.put) at h.hand-over.ensures in
-    let e = none_before i.before.state_refusal.ensures _ _ i.if1.false line in
-    (e.0, (e.1, (λ z. (put h).put-call.ensures.after, λ d. absurd (d c.if2.false))))
+    let line = rw (front_part (put h).put_call-step.ensures.line.put) at h.hand_over-line.ensures in
+    let e = none_before i.before.state_refusal-first.ensures _ _ i.if-first-ne0.false line in
+    (e.0, (e.1, (λ z. (put h).put_call-step.ensures.after, λ d. absurd (d c.if-line-ne0.false))))
 
 pub call_line_spec : {M : Type 1} → statement M
 call_line_spec =
@@ -53,6 +53,6 @@ call_line_spec =
     (λ c. search rules) (λ c κs. search rules) (λ c. search rules) (λ c κs. search rules) (λ c κs. search rules) returns
     (λ c. search rules) (λ c. search rules)
     (λ c κs. let i = c.before.before in let s = i.before in
-    let plan = looked_at _ (looked s).look.ensures.0 s.state_refusal.ensures i.if1.false in search rules)
+    let plan = looked_at _ (looked s).look-code.ensures.0 s.state_refusal-first.ensures i.if-first-ne0.false in search rules)
     (λ c. search rules) (λ c. search rules) (λ c. search rules)
     (λ c κs. search rules) (λ c. search rules) returns_2 (λ c. search rules) returns_3)

@@ -10,5 +10,5 @@ unfolding end_line
 end_line_spec =
     tie.close
     (tie.spec
-    (λ c. no_line_lem _ (rw (eq-eqb _ 0 c.if1.true))) (λ c κs. search rules) (λ c. search rules)
-    (λ c. let r = c.before.before in rw (ne_eqb _ 0 r.before.before.if1.false) r.refused-line.ensures))
+    (λ c. no_line_lem _ (rw (eq-eqb _ 0 c.if-left-eq0.true))) (λ c κs. search rules) (λ c. search rules)
+    (λ c. let r = c.before.before in rw (ne_eqb _ 0 r.before.before.if-left-eq0.false) r.refused_line.ensures))

@@ -8,5 +8,5 @@ unfolding lines_code
 lines_code_spec =
     tie.close
     (tie.spec
-    (λ c. rw (ne_eqb _ _ c.if1.true)) (λ c. rw (eq-eqb _ _ c.before.if1.false, c.if2.true))
-    (λ c. rw (eq-eqb _ _ c.before.if1.false, c.if2.false)))
+    (λ c. rw (ne_eqb _ _ c.if-first-ne0.true)) (λ c. rw (eq-eqb _ _ c.before.if-first-ne0.false, c.if-calls-room.true))
+    (λ c. rw (eq-eqb _ _ c.before.if-first-ne0.false, c.if-calls-room.false)))

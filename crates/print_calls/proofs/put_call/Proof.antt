@@ -6,21 +6,21 @@ use Rattle.print_calls.proofs.Calls.{stepped_none, stepped_call}
 use Rattle.print_calls.proofs.put_call.Statement.{statement}
 use Rattle.print_calls.proofs.put_call.Tie as tie
 
-put_answer_requires : tie.Need-put-answer-requires
+put_answer_requires : tie.Need-put_answer-end-requires
 put_answer_requires c κs =
     let i = c.before.before.before in
     let d = i.before.before in
-    let file = d.before.before.shared-slice-known.given in
-    let e = decoded_call _ d.decode.ensures i.if1.false in
-    (rw c.before.before.call.ensures.answer (call_names _ (λ k l. (file k).fits) _ _ _ e), search rules)
+    let file = d.before.before.shared_slice_known-1.given in
+    let e = decoded_call _ d.decode-decoded.ensures i.if-not-decoded.false in
+    (rw c.before.before.call-reply.ensures.answer (call_names _ (λ k l. (file k).fits) _ _ _ e), search rules)
 
-returns_2 : tie.Need-returns-2
+returns_2 : tie.Need-returns
 returns_2 c =
     let put = c.before.before in
     let made = put.before.before.before in
     let i = made.before in
-    let e = decoded_call _ i.before.before.decode.ensures i.if1.false in
-    stepped_call _ _ _ _ e made.call.ensures.answer made.call.ensures.next put.put-answer.ensures
+    let e = decoded_call _ i.before.before.decode-decoded.ensures i.if-not-decoded.false in
+    stepped_call _ _ _ _ e made.call-reply.ensures.answer made.call-reply.ensures.next put.put_answer-end.ensures
 
 pub put_call_spec : {M : Type 1} → statement M
 put_call_spec =
@@ -28,5 +28,5 @@ put_call_spec =
     (tie.spec
     (λ c κs. search rules) (λ c κs. search rules) (λ c. search rules)
     (λ c. let put = c.before.before in let i = put.before.before in
-    stepped_none _ _ _ (decoded_no_call _ i.before.before.decode.ensures i.if1.true) put.Put-refused.ensures)
+    stepped_none _ _ _ (decoded_no_call _ i.before.before.decode-decoded.ensures i.if-not-decoded.true) put.Put-refused.ensures)
     (λ c κs. search rules) put_answer_requires (λ c. search rules) returns_2)

@@ -8,7 +8,7 @@ use Rattle.print_sheet.proofs.Laws.{line_out, unused, used, wait_read}
 use Rattle.print_sheet.proofs.put_budget_at.Statement.{statement}
 use Rattle.print_sheet.proofs.put_budget_at.Tie as tie
 
-abbrev start : tie.After-wide → tie.Start
+abbrev start : tie.After-wide-q → tie.Start
 start w = let known = w.before in known.before.before.before.before
 
 valid : (a : tie.Start) → Valid (plan_of a.args.file.now)
@@ -18,21 +18,21 @@ low : (a : tie.Start) → (a.args.entry.row < most_processors) × (a.args.entry.
 low a = let v = valid a in let h = a.requires in (omega arith, omega arith)
 
 -- the entry is one of the totals
-share : (w : tie.After-wide) → let a = (start w).args in TotalPlace a.totals.now a.entry.row w.wide.result
+share : (w : tie.After-wide-q) → let a = (start w).args in TotalPlace a.totals.now a.entry.row w.wide-q.result
 share w =
     let a = start w in
     let l = low a in
-    record { long = a.requires.added.totals.sums.long; processor = l.0; resource = rw w.wide.ensures.same l.1 }
+    record { long = a.requires.added.totals.sums.long; processor = l.0; resource = rw w.wide-q.ensures.same l.1 }
 
-returns : tie.Need-returns
+returns : tie.Need-returns-then-users_at-eq0
 returns c =
     let w = c.before.before in
     let a = start w in
     let l = low a in
-    let q = w.wide.ensures.same in
-    rw (unused _ (valid a) a.requires.added.totals l.0 l.1 (rw q at c.before.users-at.ensures) c.if1.true) (line_out _ _ _)
+    let q = w.wide-q.ensures.same in
+    rw (unused _ (valid a) a.requires.added.totals l.0 l.1 (rw q at c.before.users_at.ensures) c.if-users_at-eq0.true) (line_out _ _ _)
 
-returns_2 : tie.Need-returns-2
+returns_2 : tie.Need-returns
 returns_2 c =
     let p = c.before.before in
     let m = p.before.before.before in
@@ -41,11 +41,11 @@ returns_2 c =
     let w = i.before.before in
     let a = start w in
     let l = low a in
-    let q = w.wide.ensures.same in
-    let budget = b.budget-at.ensures ∙ budget_of_lem _ _ a.requires.added.known.figures refl q l.0 l.1 in
-    let wait = m.wait_at.ensures ∙ wait_read _ a.requires.added.totals q a.requires.row a.requires.resource in
-    let line = put_wider budget_room p.put-line.ensures (omega arith) in
-    rw (used _ (valid a) a.requires.added.totals l.0 l.1 (rw q at i.before.users-at.ensures) i.if1.false) (rw (budget, wait) at line)
+    let q = w.wide-q.ensures.same in
+    let budget = b.budget_at-budget.ensures ∙ budget_of_lem _ _ a.requires.added.known.figures refl q l.0 l.1 in
+    let wait = m.wait_at-wait.ensures ∙ wait_read _ a.requires.added.totals q a.requires.row a.requires.resource in
+    let line = put_wider budget_room p.put_line.ensures (omega arith) in
+    rw (used _ (valid a) a.requires.added.totals l.0 l.1 (rw q at i.before.users_at.ensures) i.if-users_at-eq0.false) (rw (budget, wait) at line)
 
 pub put_budget_at_spec : {M : Type 1} → statement M
 put_budget_at_spec =

@@ -12,9 +12,9 @@ returns c =
     let f = v.before.before.before.before in
     let r = f.before.before.before.before in
     let a = r.before.before.before.before in
-    let plan = plan_counts _ a.before.counts.result a.before.counts.ensures a.put-plan.ensures in
-    let figures = put_in_then (put_in_then plan r.put-resources.ensures) f.put-figures.ensures in
-    put_wider most_sheet (put_in_then figures v.put-verdict.ensures) (omega arith)
+    let plan = plan_counts _ a.before.counts.result a.before.counts.ensures a.put_plan-a.ensures in
+    let figures = put_in_then (put_in_then plan r.put_resources-b.ensures) f.put_figures-c.ensures in
+    put_wider most_sheet (put_in_then figures v.put_verdict.ensures) (omega arith)
 
 pub put_parts_spec : {M : Type 1} → statement M
 put_parts_spec =

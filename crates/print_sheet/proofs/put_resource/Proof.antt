@@ -10,8 +10,8 @@ returns c =
     let p = c.before.before in
     let e = p.before.before.before in
     let g = e.before in
-    let word = either_text g.is_global.result Global Local in
-    put_wider resource_room (rw (e.either.ensures, word, g.is_global.ensures, g.before.wide.ensures.same) at p.put-line.ensures) (omega arith)
+    let word = either_text g.is_global-shared.result Global Local in
+    put_wider resource_room (rw (e.either-reach.ensures, word, g.is_global-shared.ensures, g.before.wide.ensures.same) at p.put_line.ensures) (omega arith)
 
 pub put_resource_spec : {M : Type 1} → statement M
 put_resource_spec =
@@ -19,4 +19,4 @@ put_resource_spec =
     (tie.spec
     (λ c κs. search rules)
     (λ c κs. let h = c.before.before.before.before.requires in let v = valid_plan _ h.known.plan in (h.known, omega arith))
-    (λ c κs. search rules) (λ c. search rules) (λ c κs. rw c.before.before.either.ensures (search rules)) (λ c. search rules) returns)
+    (λ c κs. search rules) (λ c. search rules) (λ c κs. rw c.before.before.either-reach.ensures (search rules)) (λ c. search rules) returns)

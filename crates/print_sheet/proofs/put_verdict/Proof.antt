@@ -8,8 +8,8 @@ returns : tie.Need-returns
 unfolding verdict_lines
 returns c =
     let a = c.before.before in
-    let p = a.before.before.before.before.put-requirements.ensures in
-    put_in_then p.put (rw p.all at a.put-admitted.ensures)
+    let p = a.before.before.before.before.put_requirements-required.ensures in
+    put_in_then p.put (rw p.all at a.put_admitted.ensures)
 
 pub put_verdict_spec : {M : Type 1} → statement M
 put_verdict_spec =

@@ -8,33 +8,33 @@ use Rattle.print_sheet.specs.Sheet.{sheet_line, sheet_in}
 use Rattle.print_sheet.proofs.sheet.Statement.{statement}
 use Rattle.print_sheet.proofs.sheet.Tie as tie
 
-returns : tie.Need-returns
+returns : tie.Need-returns-then-code-ne0
 unfolding sheet_line sheet_in
-returns c = let h = refused_before c.before.check.ensures _ _ c.if1.true in (h.0, (h.1, omega arith))
+returns c = let h = refused_before c.before.check-code.ensures _ _ c.if-code-ne0.true in (h.0, (h.1, omega arith))
 
 -- a plan that is not refused
-accepted : (i : tie.Else1) → Checked i.before.before.before.before.args.file.now
+accepted : (i : tie.Else-code-ne0) → Checked i.before.before.before.before.args.file.now
 accepted i =
-    accepted_checked (record { none = sym i.before.check.ensures ∙ i.if1.false; bytes = λ k l. (i.before.before.before.shared-slice-known.given k).fits })
+    accepted_checked (record { none = sym i.before.check-code.ensures ∙ i.if-code-ne0.false; bytes = λ k l. (i.before.before.before.shared_slice_known-1.given k).fits })
 
-returns_2 : tie.Need-returns-2
+returns_2 : tie.Need-returns-then-out-lt-SHEET
 unfolding sheet_line sheet_in
 returns_2 c =
     let p = c.before.before in
     let i = p.before.before.before in
-    let s = p.sheet-aside.ensures in
-    let h = none_before i.before.check.ensures _ _ i.if1.false (s.line, s.buffer) in
+    let s = p.sheet_aside.ensures in
+    let h = none_before i.before.check-code.ensures _ _ i.if-code-ne0.false (s.line, s.buffer) in
     (h.0, (h.1, s.within))
 
-returns_3 : tie.Need-returns-3
+returns_3 : tie.Need-returns
 unfolding sheet_line sheet_in
 returns_3 c =
     let p = c.before.before in
     let t = p.before.before in
     let i = t.before in
-    let s = p.put-plan-sheet.ensures in
-    let l = long_line _ _ (omega (arith, s.put.ends, s.within, t.if2.false)) s.put in
-    let h = none_before i.before.check.ensures _ _ i.if1.false l in
+    let s = p.put_plan_sheet-length.ensures in
+    let l = long_line _ _ (omega (arith, s.put.ends, s.within, t.if-out-lt-SHEET.false)) s.put in
+    let h = none_before i.before.check-code.ensures _ _ i.if-code-ne0.false l in
     (h.0, (h.1, s.within))
 
 pub sheet_spec : {M : Type 1} → statement M
