@@ -5,4 +5,4 @@ use Rattle.meters.proofs.longer.Tie as tie
 
 pub longer_spec : {M : Type 1} → statement M
 unfolding longer
-longer_spec = tie.close (tie.spec (λ c. simp c.if1.true) (λ c. simp c.if1.false))
+longer_spec = tie.close (tie.spec (λ c. simp c.if-on-n.true) (λ c. simp c.if-on-n.false))

@@ -11,5 +11,5 @@ one_more_spec =
     tie.close
     (tie.spec
     (λ c. let a = c.before.args in
-    omega (arith, ltb-true a.n top_count (and_parts a.on (ltb a.n top_count) c.if1.true).1))
-    (λ c. simp c.if1.true) (λ c. simp c.if1.false))
+    omega (arith, ltb-true a.n top_count (and_parts a.on (ltb a.n top_count) c.if-on-n.true).1))
+    (λ c. simp c.if-on-n.true) (λ c. simp c.if-on-n.false))
