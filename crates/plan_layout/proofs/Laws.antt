@@ -1,5 +1,5 @@
 -- What the rows of a part tell of the rows by value: the same rows, under the same rules.
-use Rattle.plan_layout.proofs.Ground.{ℕ, ◌+◌, ◌*◌, ◌<◌, ◌≤◌, true, ◌&&◌, ◌≡◌, refl, ap, ◌∙◌, List, eqb, length, get_or, replicate}
+use Rattle.plan_layout.proofs.Ground.{ℕ, ◌+◌, ◌*◌, ◌<◌, ◌≤◌, true, ◌&&◌, ◌≡◌, refl, ap, ◌∙◌, List, eqb, get_or, replicate}
 use Rattle.plan_layout.proofs.Ground.{arith, most_tasks, most_sections, sum_below, all_at, all_same, sum_same, number, row_at, fields}
 use Rattle.plan_layout.proofs.Ground.{no_task, no_section, section_ok, task_of, Edition, edition1, format_of, task_at, length_at, section_at}
 use Rattle.plan_layout.proofs.Ground.{task_rows, length_rows, section_rows, task_rows_ok, length_rows_ok, section_rows_ok}

@@ -1,5 +1,5 @@
 -- The invariant: `sums` holds the sums of the lengths of the sections below `i`, by task.
-use Rattle.plan_layout.proofs.Ground.{◌-◌, ◌%◌, Bool, true, false, cond, ◌≡◌, refl, arith, not-true, not-false, held, failed}
+use Rattle.plan_layout.proofs.Ground.{◌-◌, ◌%◌, Bool, true, false, cond, ◌≡◌, refl, arith, held, failed}
 use Rattle.plan_layout.proofs.Ground.{gathered_below, sections_above, edition1, section_code}
 use Rattle.folds.proofs.Arrays.{gathered_step}
 use Rattle.plan_layout.proofs.Sums.{Summed, sums_small, code_sums}

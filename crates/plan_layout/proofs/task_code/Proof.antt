@@ -1,6 +1,6 @@
 -- The invariant: the tables mark the tags and places of the rows passed, and the two tests are those of all of them.
 use Rattle.plan_layout.proofs.Ground.{ℕ, ◌+◌, ◌*◌, ◌%◌, ◌<◌, ◌-◌, Bool, true, false, cond, ◌&&◌, ◌≡◌, refl, ap, ap₂, List, arith}
-use Rattle.plan_layout.proofs.Ground.{not-true, not-false, rules, all_below, all_step, marked_below, wrong_task, repeated, TaskRow}
+use Rattle.plan_layout.proofs.Ground.{rules, all_below, all_step, marked_below, wrong_task, repeated, TaskRow}
 use Rattle.plan_layout.proofs.Ground.{edition1, task_rows_ok, task_code}
 use Rattle.folds.proofs.Arrays.{marked_step, marked_new}
 use Rattle.plan_layout.proofs.Unique.{tag_key, place_key, Seen, seen_code}
