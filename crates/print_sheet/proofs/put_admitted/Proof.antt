@@ -10,7 +10,6 @@ pub put_admitted_spec : {M : Type 1} → statement M
 put_admitted_spec =
     tie.close
     (tie.spec
-    (λ c κs. search rules) (λ c. search rules) (λ c. search rules)
-    (λ c κs. rw c.before.before.before.either-word.ensures (tt, search rules)) (λ c. search rules)
+    (λ c κs. search rules) (λ c κs. rw c.before.before.before.either-word.ensures (tt, search rules)) (λ c. search rules)
     (λ c. let p = c.before.before in let w = p.before.before.before.before in
     put_wider admitted_room (rw (w.either-word.ensures, either_text w.before.before.args.yes Yes No) at p.put_line.ensures) (omega arith)))

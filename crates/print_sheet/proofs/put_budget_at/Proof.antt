@@ -35,7 +35,7 @@ returns c =
 returns_2 : tie.Need-returns
 returns_2 c =
     let p = c.before.before in
-    let m = p.before.before.before in
+    let m = p.before.before.before.before in
     let b = m.before in
     let i = b.before in
     let w = i.before.before in
@@ -55,4 +55,4 @@ put_budget_at_spec =
     (λ c κs. let w = c.before.before in let s = share w in
     record { long = (start w).requires.added.known.figures.long; row = s.processor; resource = s.resource })
     (λ c κs. let i = c.before in share i.before.before)
-    (λ c. search rules) (λ c. search rules) (λ c. search rules) (λ c κs. search rules) (λ c. search rules) returns_2)
+    (λ c. search rules) (λ c. search rules) (λ c κs. search rules) (λ c. search rules) returns_2)

@@ -10,4 +10,4 @@ put_figures_spec =
     tie.close
     (tie.spec
     (λ c κs. search rules) (λ c κs. search rules) (λ c. search rules)
-    (λ c. let h = c.before.before in put_in_then h.before.before.before.before.put_budgets-a.ensures h.Put-Holds.ensures))
+    (λ c. let h = c.before.before in put_in_then h.before.before.before.before.put_budgets-a.ensures h.put_holds.ensures))

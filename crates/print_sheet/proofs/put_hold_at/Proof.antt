@@ -35,7 +35,7 @@ longest_of_requires c κs =
 returns_2 : tie.Need-returns
 returns_2 c =
     let p = c.before.before in
-    let s = p.before.before.before in
+    let s = p.before.before.before.before in
     let m = s.before.before.before in
     let i = m.before.before in
     let w = i.before.before in
@@ -55,7 +55,6 @@ put_hold_at_spec =
     record { long = a.requires.added.known.figures.long; row = l.0; resource = rw c.wide-q.ensures.same l.1 })
     (λ c. rw (hold_none _ (valid (start c.before.before)) _ _ (told c.before) c.if-hold-eq0.true) (line_out _ _ _))
     (λ c κs. search rules) longest_of_requires (λ c. search rules) (λ c. search rules) (λ c. search rules) (λ c. search rules)
-    (λ c. search rules)
-    (λ c κs. let s = c.before.before.before in let i = s.before.before.before.before in let h = (start i.before.before).requires in
+    (λ c κs. let s = c.before.before.before.before in let i = s.before.before.before.before in let h = (start i.before.before).requires in
     ((record { plan = h.added.known.plan; below = h.resource }, tt), omega (arith, h.room)))
     (λ c. search rules) returns_2)

@@ -22,5 +22,5 @@ pub put_requirement_spec : {M : Type 1} → statement M
 put_requirement_spec =
     tie.close
     (tie.spec
-    (λ c. search rules) (λ c. search rules) (λ c κs. search rules) (λ c. search rules) (λ c. search rules)
+    (λ c. search rules) (λ c. search rules) (λ c κs. search rules)
     (λ c κs. let w = c.before.before.before in rw w.either-met.ensures (tt, search rules)) (λ c. search rules) returns)

@@ -19,4 +19,4 @@ put_resource_spec =
     (tie.spec
     (λ c κs. search rules)
     (λ c κs. let h = c.before.before.before.before.requires in let v = valid_plan _ h.known.plan in (h.known, omega arith))
-    (λ c κs. search rules) (λ c. search rules) (λ c κs. rw c.before.before.either-reach.ensures (search rules)) (λ c. search rules) returns)
+    (λ c κs. search rules) (λ c κs. rw c.before.before.either-reach.ensures (search rules)) (λ c. search rules) returns)

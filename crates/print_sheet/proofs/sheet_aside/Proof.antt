@@ -8,7 +8,7 @@ returns : tie.Need-returns
 returns c =
     let o = c.before.before in
     let s = o.before.before in
-    let p = s.before.before.before.put_plan_sheet-end.ensures in
+    let p = s.before.before.put_plan_sheet-end.ensures in
     let h = rw (front_part p.put) at o.hand_over.ensures in
     record { line = h.0; buffer = h.1; within = omega (arith, line_short _ _ h.0, p.put.ends, p.within) }
 

@@ -11,4 +11,4 @@ hold_time_at_spec =
     (tie.spec
     (λ c κs. search rules) (λ c κs. search rules) (λ c. search rules) (λ c. search rules) (λ c κs. search rules) (λ c. search rules)
     (λ c. search rules)
-    (λ c. rw (c.word.ensures.same, c.before.before.byte.ensures.same, c.before.before.before.hold-times.ensures)))
+    (λ c. rw (c.word.ensures.same, c.before.before.byte.ensures.same, c.before.before.before.hold_times-found.ensures)))

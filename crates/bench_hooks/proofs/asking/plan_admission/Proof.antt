@@ -9,6 +9,6 @@ plan_admission_spec =
     tie.close
     (tie.spec
     (λ c κs. search rules) (λ c. search rules) (λ c. search rules) (λ c κs. search rules)
-    (λ c. let m = c.before.before in rw c.if1.true at (decided_number _ m.before.before.admission.ensures.0 _ m.b.given.1))
-    (λ c. let m = c.before.before in rw c.if1.false at (decided_number _ m.before.before.admission.ensures.0 _ m.b.given.1))
-    (λ c. let m = c.before.before in c.byte.ensures.same ∙ refused_number _ m.before.before.admission.ensures.0 _ m.code.given.1))
+    (λ c. rw c.if-b.true at (decided_number _ c.admission.ensures.0 _ c.in-Decided.is))
+    (λ c. rw c.if-b.false at (decided_number _ c.admission.ensures.0 _ c.in-Decided.is))
+    (λ c. c.byte.ensures.same ∙ refused_number _ c.admission.ensures.0 _ c.in-Refused.is))

@@ -11,8 +11,7 @@ answer_number_spec =
     (λ c. search rules) (λ c. search rules) (λ c. search rules) (λ c κs. search rules) (λ c. search rules) (λ c. search rules)
     (λ c. search rules) (λ c. search rules) (λ c κs. search rules) (λ c. search rules) (λ c. search rules) (λ c κs. search rules)
     (λ c. search rules) (λ c. search rules) (λ c. search rules) (λ c. search rules) (λ c κs. search rules) (λ c. search rules)
-    (λ c. rw c.byte.ensures.same (sym (ap answer_number c.before.before.answer.given.1)))
-    (λ c. rw c.word.ensures.same (sym (ap answer_number c.before.before.answer2.given.1))) (λ c. search rules)
-    (λ c. let h = c.before in
-    rw (h.word2.ensures.same, c.word3.ensures.same) (sym (ap answer_number h.before.before.answer3.given.1)))
+    (λ c. rw c.byte.ensures.same (sym (ap answer_number c.in-Waits.is)))
+    (λ c. rw c.word.ensures.same (sym (ap answer_number c.in-Next.is))) (λ c. search rules)
+    (λ c. rw (c.word-in-Ticked.ensures.same, c.word-in-Ticked-2.ensures.same) (sym (ap answer_number c.in-Ticked.is)))
     (λ c. search rules) (λ c. search rules))

@@ -9,5 +9,5 @@ pub machine_answer_spec : {M : Type 1} → statement M
 machine_answer_spec = tie.close (tie.spec
     (λ c κs. search rules) (λ c κs. search rules)
     (λ c. let s = c.before.before.before in let a = s.before.args in
-    c.bytes-number.ensures
-    ∙ number_after _ (λ i b. (s.shared-slice-known.given i).fits) _ _ c.before.run.ensures (call_of a.letter a.tag a.resource)))
+    c.bytes_number.ensures
+    ∙ number_after _ (λ i b. (s.shared_slice_known-1.given i).fits) _ _ c.before.run-state.ensures (call_of a.letter a.tag a.resource)))

@@ -8,4 +8,4 @@ pub machine_row_spec : {M : Type 1} → statement M
 machine_row_spec = tie.close (tie.spec
     (λ c κs. search rules) (λ c κs. search rules)
     (λ c. let s = c.before.before.before in
-    c.row_number.ensures ∙ row_after _ (λ i b. (s.shared-slice-known.given i).fits) _ _ c.before.run.ensures s.before.args.x))
+    c.row_number.ensures ∙ row_after _ (λ i b. (s.shared_slice_known-1.given i).fits) _ _ c.before.run-state.ensures s.before.args.x))

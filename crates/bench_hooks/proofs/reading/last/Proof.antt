@@ -10,6 +10,6 @@ unfolding last_of
 last_spec =
     tie.close
     (tie.spec
-    (λ c. (simp (eq-eqb _ _ c.if1.true), search rules))
-    (λ c. (simp (ne_eqb _ _ c.before.if1.false, lt-ltb _ _ c.if2.true), search rules)) (λ c. search rules)
-    (λ c. (simp (ne_eqb _ _ c.before.if1.false, le-ltb _ _ c.if2.false), search rules)))
+    (λ c. (simp (eq-eqb _ _ c.if-n-eq0.true), search rules))
+    (λ c. (simp (ne_eqb _ _ c.before.if-n-eq0.false, lt-ltb _ _ c.if-room-n.true), search rules)) (λ c. search rules)
+    (λ c. (simp (ne_eqb _ _ c.before.if-n-eq0.false, le-ltb _ _ c.if-room-n.false), search rules)))

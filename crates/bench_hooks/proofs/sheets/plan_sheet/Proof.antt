@@ -12,5 +12,5 @@ plan_sheet_spec =
     tie.close
     (tie.spec
     (λ c κs. search rules) (λ c κs. search rules) (λ c. search rules) (λ c. search rules) (λ c. search rules)
-    (λ c. let s = c.before.before.before.sheet.ensures in
+    (λ c. let s = c.before.before.before.sheet-line.ensures in
     (rw c.byte.ensures.same (ap (λ (r : Handed). r.refusal + 256 * r.length) s.0), s.1.0)))
