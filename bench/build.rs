@@ -1,4 +1,4 @@
-//! Links the archives of the proved code, which `rt staticlib` writes, to the program that calls into them and to no other.
+//! Links the archives of the proved code, which `./prove` leaves, to the program that calls into them and to no other.
 
 use std::path::Path;
 

@@ -1,5 +1,5 @@
 #!/bin/sh
-# Tries the header and the example of a board in C on the archive that `rt staticlib mspis_c` leaves, or on one that is named: the
+# Tries the header and the example of a board in C on the archive that `./prove mspis_c` leaves, or on one that is named: the
 # header by itself as C and as C++; what the example prints; and, where valgrind is on the machine, the same with plan and image in
 # blocks of just their lengths, so that a byte read or written outside them is an error.
 set -eu

@@ -1,5 +1,5 @@
-//! The proved code, from the archives of `crates/bench_hooks` and of `crates/mspis_c`, which has the functions on an image. Each function
-//! returns one number, with the refusal in the low byte and a figure above it; `row` alone has a part of a state in all its bytes.
+//! The proved code, from the archives of `crates/bench_hooks` and of `crates/mspis_archive`, which has the functions on an image. Each
+//! function returns one number, with the refusal in the low byte and a figure above it; `row` alone has a part of a state in all its bytes.
 
 mod archive {
     extern "C" {

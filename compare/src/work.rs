@@ -25,7 +25,7 @@ pub fn root() -> PathBuf {
 pub fn program(variable: &str, name: &str) -> PathBuf {
     match std::env::var_os(variable) {
         Some(path) => path.into(),
-        None => root().join("target/bin").join(name),
+        None => root().join("crates").join(name).join("out").join(name),
     }
 }
 

@@ -1,6 +1,6 @@
 // The functions for C: document 02 §3. Each takes the plan, the image and, as far as it needs them, a tag and a resource, in this order, and
-// returns a word of 64 bits. None relies on anything: what they are given is checked, and refused by its number. include/mspis.h
-// declares them.
+// returns a word of 64 bits. None relies on anything: what they are given is checked, and refused by its number. `mspis_archive`
+// exports them, and include/mspis.h declares them.
 #![tactic(auto)]
 
 ghost use Rattle.std.specs.Prelude.{◌≡◌};
@@ -35,8 +35,7 @@ fn word(answer: Answer) -> u64
 }
 
 // A fresh machine.
-#[unsafe(no_mangle)]
-pub extern "C" fn mspis_start(plan: &[u8], image: &mut [u8]) -> u64
+pub fn mspis_start(plan: &[u8], image: &mut [u8]) -> u64
     ensures value { result ≡ lent_refusal plan.now image.old }
     ensures started_image { StartedImage plan.now image.old image.new }
 {
@@ -44,8 +43,7 @@ pub extern "C" fn mspis_start(plan: &[u8], image: &mut [u8]) -> u64
 }
 
 // A request of a resource by the task with this tag.
-#[unsafe(no_mangle)]
-pub extern "C" fn mspis_request(plan: &[u8], image: &mut [u8], tag: u16, resource: u8) -> u64
+pub fn mspis_request(plan: &[u8], image: &mut [u8], tag: u16, resource: u8) -> u64
     ensures value { result ≡ word_of (image_reply plan.now image.old (Request tag resource)) }
     ensures next_image { NextImage plan.now image.old (Request tag resource) image.new }
 {
@@ -53,8 +51,7 @@ pub extern "C" fn mspis_request(plan: &[u8], image: &mut [u8], tag: u16, resourc
 }
 
 // A release of it.
-#[unsafe(no_mangle)]
-pub extern "C" fn mspis_release(plan: &[u8], image: &mut [u8], tag: u16, resource: u8) -> u64
+pub fn mspis_release(plan: &[u8], image: &mut [u8], tag: u16, resource: u8) -> u64
     ensures value { result ≡ word_of (image_reply plan.now image.old (Release tag resource)) }
     ensures next_image { NextImage plan.now image.old (Release tag resource) image.new }
 {
@@ -62,8 +59,7 @@ pub extern "C" fn mspis_release(plan: &[u8], image: &mut [u8], tag: u16, resourc
 }
 
 // A give-up by the task with this tag, which waits for the resource: it leaves the line.
-#[unsafe(no_mangle)]
-pub extern "C" fn mspis_give_up(plan: &[u8], image: &mut [u8], tag: u16, resource: u8) -> u64
+pub fn mspis_give_up(plan: &[u8], image: &mut [u8], tag: u16, resource: u8) -> u64
     ensures value { result ≡ word_of (image_reply plan.now image.old (GiveUp tag resource)) }
     ensures next_image { NextImage plan.now image.old (GiveUp tag resource) image.new }
 {
@@ -71,8 +67,7 @@ pub extern "C" fn mspis_give_up(plan: &[u8], image: &mut [u8], tag: u16, resourc
 }
 
 // A tick.
-#[unsafe(no_mangle)]
-pub extern "C" fn mspis_tick(plan: &[u8], image: &mut [u8]) -> u64
+pub fn mspis_tick(plan: &[u8], image: &mut [u8]) -> u64
     ensures value { result ≡ word_of (image_reply plan.now image.old Tick) }
     ensures next_image { NextImage plan.now image.old Tick image.new }
 {

@@ -14,13 +14,13 @@ use Rattle.print_calls.specs.Calls.{call_text}
 use Rattle.print_calls.specs.Output.{line_after, lines_below}
 
 -- a buffer with more room prints the same
-pub printed_room : {f : List ℕ} {s t : State} {calls text : List ℕ} (n m : ℕ) → n ≤ m → Printed f n s calls t text → Printed f m s calls t text
+pub printed_room : {f : List ℕ} {s : State} (n m : ℕ) → n ≤ m → {t : State} {calls text : List ℕ} → Printed f n s calls t text → Printed f m s calls t text
 printed_room n m h none = none
 printed_room n m h (more call w p r u) = more call w (printed_room n m h p) (omega arith) u
 
 -- what is printed in two pieces is printed in one
-pub printed_join : {f : List ℕ} {s t u : State} {calls rest text more-text : List ℕ} (n m : ℕ) → Printed f n s calls t text
-    → Printed f m t rest u more-text → Printed f (n + (length text + m)) s (calls ++ rest) u (text ++ more-text)
+pub printed_join : {f : List ℕ} {s t : State} {calls text : List ℕ} (n m : ℕ) → Printed f n s calls t text
+    → {u : State} {rest more-text : List ℕ} → Printed f m t rest u more-text → Printed f (n + (length text + m)) s (calls ++ rest) u (text ++ more-text)
 printed_join {calls = calls} {text = text} n m p none = rw (append-nil, append-nil) (printed_room n (n + (length text + m)) (omega arith) p)
 printed_join {calls = calls} {text = text} n m p (more {calls = d} {text = x} call w q r v) =
     rw (← append_assoc, ← append_assoc) (more call w (printed_join n m p q) (omega (arith, length-append text x)) v)

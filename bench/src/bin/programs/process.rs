@@ -45,7 +45,7 @@ impl Program {
     pub fn proved(variable: &str, name: &str) -> Program {
         let named = std::env::var_os(variable).map(PathBuf::from);
         Program {
-            path: named.unwrap_or(root().join("target/bin").join(name)),
+            path: named.unwrap_or(root().join("crates").join(name).join("out").join(name)),
             words: &[],
         }
     }

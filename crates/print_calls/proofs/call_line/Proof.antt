@@ -13,38 +13,23 @@ looked c = c.before.before.before
 abbrev start : tie.After-state_refusal-first → tie.Start
 start c = (looked c).before.before.before.before
 
--- ── once the line is handed over ──
-abbrev over : tie.After-struct_known-1 → tie.After-hand_over-line
-over c = c.before.before.before.before
-
-abbrev lent : tie.After-hand_over-line → tie.After-buf3
-lent c = c.before.before.before
-
-abbrev put : tie.After-hand_over-line → tie.After-put_call-step
-put c = (lent c).before.before
-
 returns : tie.Need-returns-then-first-ne0
 returns c =
-    let i = c.before in
-    let a = (start i.before).args in
-    let h = refused_before i.before.state_refusal-first.ensures (call_line a.file.now a.state a.bytes) a.out-1.now i.if-first-ne0.true in
-    rw c.no_line.ensures (h.0, (h.1, (λ z. absurd (i.if-first-ne0.true z), λ d. refl)))
+    let a = c.args in
+    let h = refused_before c.state_refusal-first.ensures (call_line a.file.now a.state a.bytes) a.out.now c.if-first-ne0.true in
+    rw c.no_line.ensures (h.0, (h.1, (λ z. absurd (c.if-first-ne0.true z), λ d. refl)))
 
 returns_2 : tie.Need-returns-then-line-ne0
 returns_2 c =
-    let h = over c.before in
-    let i = (put h).before.before.before in
-    let line = rw (front_part (put h).put_call-step.ensures.line.put) at h.hand_over-line.ensures in
-    let e = none_before i.before.state_refusal-first.ensures _ _ i.if-first-ne0.false line in
+    let line = rw (front_part c.put_call-step.ensures.line.put) at c.hand_over-line.ensures in
+    let e = none_before c.state_refusal-first.ensures _ _ c.if-first-ne0.false line in
     (e.0, (e.1, (λ z. absurd (c.if-line-ne0.true z), λ d. refl)))
 
 returns_3 : tie.Need-returns
 returns_3 c =
-    let h = over c.before in
-    let i = (put h).before.before.before in
-    let line = rw (front_part (put h).put_call-step.ensures.line.put) at h.hand_over-line.ensures in
-    let e = none_before i.before.state_refusal-first.ensures _ _ i.if-first-ne0.false line in
-    (e.0, (e.1, (λ z. (put h).put_call-step.ensures.after, λ d. absurd (d c.if-line-ne0.false))))
+    let line = rw (front_part c.put_call-step.ensures.line.put) at c.hand_over-line.ensures in
+    let e = none_before c.state_refusal-first.ensures _ _ c.if-first-ne0.false line in
+    (e.0, (e.1, (λ z. c.put_call-step.ensures.after, λ d. absurd (d c.if-line-ne0.false))))
 
 pub call_line_spec : {M : Type 1} → statement M
 call_line_spec =

@@ -46,7 +46,7 @@ loop_holds : tie.Need-loop-used-init invariant-loop-used decreases-loop-used
 loop_holds c =
     let l = c.before in
     let s = l.before in
-    let z = first_none _ _ _ (sym l.lines_Code.ensures ∙ c.if-refusal-ne0.false) in
+    let z = first_none _ _ _ (sym l.lines_code-refusal.ensures ∙ c.if-refusal-ne0.false) in
     record { plan = looked_at _ (looked s).look-code.ensures.0 s.state_refusal-first.ensures z; written = written_none _ _ _ _; begun = inl (refl, refl) }
 
 loop_again : tie.Need-loop-used-preserved invariant-loop-used decreases-loop-used
@@ -68,7 +68,7 @@ returns_2 c =
     let l = c.before.before.before in
     let a = (start l.before).args in
     let e = ended_by _ i.used _ i.end w.within w.fits (rw w.long at c.loop-used-test.false) in
-    told_lines _ _ a.calls.now _ l.before.state_refusal-first.ensures l.lines_Code.ensures c.before.before.if-refusal-ne0.false w i.invariant.begun e
+    told_lines _ _ a.calls.now _ l.before.state_refusal-first.ensures l.lines_code-refusal.ensures c.before.before.if-refusal-ne0.false w i.invariant.begun e
 
 pub lines_spec : {M : Type 1} → statement M
 lines_spec =
@@ -77,7 +77,7 @@ lines_spec =
     invariant-loop-used decreases-loop-used (λ c. search rules) (λ c κs. search rules) (λ c. search rules) (λ c κs. search rules) (λ c κs. search rules)
     (λ c κs. search rules)
     (λ c. let l = c.before.before in rw c.none_made.ensures
-    (told_none _ _ (start l.before).args.calls.now _ l.before.state_refusal-first.ensures l.lines_Code.ensures c.before.if-refusal-ne0.true))
+    (told_none _ _ (start l.before).args.calls.now _ l.before.state_refusal-first.ensures l.lines_code-refusal.ensures c.before.if-refusal-ne0.true))
     loop_holds
     (λ c. c.loop-used.invariant.written.within) (λ c. let w = c.loop-used.invariant.written in rw w.long w.fits) (λ c. search rules)
     (λ c κs. record { least = omega arith; most = omega arith; whole = left (turn c) })

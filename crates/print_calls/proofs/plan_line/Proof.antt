@@ -5,9 +5,7 @@ use Rattle.print_calls.proofs.plan_line.Tie as tie
 
 returns : tie.Need-returns
 returns c =
-    let over = c.before.before in
-    let lent = over.before.before.before in
-    rw (front_part lent.before.before.put_plan-end.ensures.put) at over.hand_over.ensures
+    rw (front_part c.put_plan-end.ensures.put) at c.hand_over.ensures
 
 pub plan_line_spec : {M : Type 1} → statement M
 plan_line_spec =

@@ -28,5 +28,5 @@ put_call_spec =
     (tie.spec
     (λ c κs. search rules) (λ c κs. search rules) (λ c. search rules)
     (λ c. let put = c.before.before in let i = put.before.before in
-    stepped_none _ _ _ (decoded_no_call _ i.before.before.decode-decoded.ensures i.if-not-decoded.true) put.Put-refused.ensures)
+    stepped_none _ _ _ (decoded_no_call _ i.before.before.decode-decoded.ensures i.if-not-decoded.true) put.put_refused-end.ensures)
     (λ c κs. search rules) put_answer_requires (λ c. search rules) returns_2)
