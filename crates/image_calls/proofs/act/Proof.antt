@@ -7,25 +7,25 @@ use Rattle.image_calls.proofs.act.Statement.{statement}
 use Rattle.image_calls.proofs.act.Tie as tie
 
 -- ── where the image's own bytes are tested ──
-abbrev start : tie.After-fits2 → tie.Start
-start f = let s = f.before.before in s.before.before.before
+abbrev start : tie.After-fits → tie.Start
+start f = let s = f.before.before in s.before.before
 
-valid : (f : tie.After-fits2) → Valid (plan_of (start f).args.file.now)
+valid : (f : tie.After-fits) → Valid (plan_of (start f).args.file.now)
 valid f = valid_plan _ (start f).requires.known.plan
 
-lent : (f : tie.After-fits2) → lent_refusal (start f).args.file.now (start f).args.image.now ≡ 0
+lent : (f : tie.After-fits) → lent_refusal (start f).args.file.now (start f).args.image.now ≡ 0
 lent f = room_lent _ _ (start f).requires.none (start f).requires.room
 
 -- ── where the tasks are seated ──
-abbrev tested : tie.After-seat_tasks-seated → tie.After-fits2
-tested s = let e = s.before.before.before.before in e.before
+abbrev tested : tie.After-seat_tasks-seated → tie.After-fits
+tested s = let e = s.before.before.before in e.before
 
 loaded : (s : tie.After-seat_tasks-seated) → let a = (start (tested s)).args in
-    s.before.before.load-state.result ≡ state_in (plan_of a.file.now) a.image-1.now
+    s.before.before.load-state.result ≡ state_in (plan_of a.file.now) a.image.now
 loaded s = s.before.before.load-state.ensures
 
 state_is : (s : tie.After-seat_tasks-seated) → let a = (start (tested s)).args in
-    s.seat_tasks-seated.result.sound ≡ sound (plan_of a.file.now) (state_in (plan_of a.file.now) a.image-1.now)
+    s.seat_tasks-seated.result.sound ≡ sound (plan_of a.file.now) (state_in (plan_of a.file.now) a.image.now)
 state_is s = s.seat_tasks-seated.ensures.sound ∙ ap (sound (plan_of (start (tested s)).args.file.now)) (loaded s)
 
 -- ── where the state is sound ──
@@ -33,19 +33,19 @@ abbrev seated : tie.Else-not-seated → tie.After-seat_tasks-seated
 seated e = e.before.before.before
 
 sound_is : (e : tie.Else-not-seated) → let a = (start (tested (seated e))).args in
-    sound (plan_of a.file.now) (state_in (plan_of a.file.now) a.image-1.now) ≡ true
-sound_is e = sym (state_is (seated e)) ∙ e.if-not-seated.false
+    sound (plan_of a.file.now) (state_in (plan_of a.file.now) a.image.now) ≡ true
+sound_is e = sym (state_is (seated e)) ∙ not-false _ e.if-not-seated.false
 
 sound_loaded : (e : tie.Else-not-seated) → let a = (start (tested (seated e))).args in
     sound (plan_of a.file.now) (seated e).before.before.load-state.result ≡ true
 sound_loaded e = ap (sound (plan_of (start (tested (seated e))).args.file.now)) (loaded (seated e)) ∙ sound_is e
 
-accepted : (e : tie.Else-not-seated) → let a = (start (tested (seated e))).args in image_refusal a.file.now a.image-1.now ≡ 0
+accepted : (e : tie.Else-not-seated) → let a = (start (tested (seated e))).args in image_refusal a.file.now a.image.now ≡ 0
 unfolding fit_test
 accepted e =
     let s = seated e in
     let f = tested s in
-    let fit = held f.fits2.ensures s.before.before.before.before.if-not-fits.false in
+    let fit = held f.fits.ensures s.before.before.before.if-not-fits.false in
     sound_image _ _ (lent f) (sym (image_tested _ (valid f) _) ∙ rw (fit, sound_is e))
 
 -- ── where the call has no refusal of its own ──
@@ -61,16 +61,16 @@ returns : tie.Need-returns-then-not-fits
 returns c =
     let f = c.before in
     let e : image_sound (plan_of (start f).args.file.now) (start f).args.image.now ≡ false =
-    sym (image_tested _ (valid f) _) ∙ rw (failed f.fits2.ensures c.if-not-fits.true) in
+    sym (image_tested _ (valid f) _) ∙ rw (failed f.fits.ensures c.if-not-fits.true) in
     refused _ _ _ (image_first _ _ _ (unsound_image_lem _ _ (lent f) e) (λ z. omega arith)) (λ z. omega arith)
 
 returns_2 : tie.Need-returns-then-not-seated
 returns_2 c =
     let s = c.before.before.before in
     let f = tested s in
-    let fit = held f.fits2.ensures s.before.before.before.before.if-not-fits.false in
+    let fit = held f.fits.ensures s.before.before.before.if-not-fits.false in
     let e : image_sound (plan_of (start f).args.file.now) (start f).args.image.now ≡ false =
-    sym (image_tested _ (valid f) _) ∙ rw (fit, sym (state_is s) ∙ c.if-not-seated.true) in
+    sym (image_tested _ (valid f) _) ∙ rw (fit, sym (state_is s) ∙ not-true _ c.if-not-seated.true) in
     refused _ _ _ (image_first _ _ _ (unsound_image_lem _ _ (lent f) e) (λ z. omega arith)) (λ z. omega arith)
 
 returns_3 : tie.Need-returns-then-own-ne0
@@ -79,7 +79,7 @@ returns_3 c =
     let s = seated e in
     let a = (start (tested s)).args in
     let p = plan_of a.file.now in
-    let k = own_code a.file.now a.image-1.now a.call (accepted e)
+    let k = own_code a.file.now a.image.now a.call (accepted e)
     ∙ sym (ap (λ (x : State). call_code p (shows p x) a.call) (loaded s)) ∙ sym c.before.call_code-own.ensures in
     refused _ _ _ k c.if-own-ne0.true
 

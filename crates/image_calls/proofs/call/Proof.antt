@@ -16,7 +16,7 @@ returns_2 c =
     let l = e.before.before in
     let a = l.before.before.before.before.args in
     let none = sym l.look-code.ensures.0.refusal ∙ e.if-code-ne0.false in
-    let k = short_lent a.file.now a.image-1.now none (omega (arith, c.if-image-image_length.true, c.before.image_length.ensures)) in
+    let k = short_lent a.file.now a.image.now none (omega (arith, c.if-image-image_length.true, c.before.image_length.ensures)) in
     let h = refused _ _ _ (image_first _ _ _ (lent_first _ _ k (λ z. omega arith)) (λ z. omega arith)) (λ z. omega arith) in
     (h.answer, h.next)
 

@@ -24,7 +24,7 @@ returns_2 : tie.Need-returns-then-image-image_length
 returns_2 c =
     let e = c.before.before in
     let a = (begun e).args in
-    let k = short_lent a.file.now a.image-1.now (accepted e).none (omega (arith, c.if-image-image_length.true, c.before.image_length.ensures)) in
+    let k = short_lent a.file.now a.image.now (accepted e).none (omega (arith, c.if-image-image_length.true, c.before.image_length.ensures)) in
     (sym k, start_refused _ _ k (λ z. omega arith))
 
 store_requires : tie.Need-store-requires
@@ -43,10 +43,10 @@ returns_3 c =
     let i = f.before in
     let e = i.before.before in
     let a = (begun e).args in
-    let room : image_length (plan_of a.file.now) ≤ length a.image-1.now = omega (arith, i.if-image-image_length.false, i.before.image_length.ensures) in (
-      sym (room_lent _ a.image-1.now (accepted e).none room),
+    let room : image_length (plan_of a.file.now) ≤ length a.image.now = omega (arith, i.if-image-image_length.false, i.before.image_length.ensures) in (
+      sym (room_lent _ a.image.now (accepted e).none room),
       start_done _ _ (accepted_valid (accepted e)) (accepted e).none room
-          (s.store.ensures.0 ∙ ap (λ (x : State). image_with (plan_of a.file.now) (shows (plan_of a.file.now) x) a.image-1.now) f.fresh-fresh.ensures),
+          (s.store.ensures.0 ∙ ap (λ (x : State). image_with (plan_of a.file.now) (shows (plan_of a.file.now) x) a.image.now) f.fresh-fresh.ensures),
     )
 
 pub start_spec : {M : Type 1} → statement M
