@@ -2,6 +2,7 @@
 ghost use Rattle.std.specs.Prelude.{◌≤◌};
 
 use crate::{given, print};
+use std::io;
 
 // A buffer in which all that a case lends has room.
 const LENT: usize = 65536;
@@ -54,19 +55,19 @@ fn bytes_of(word: u64) -> [u8; 8] {
 }
 
 // A call with a tag of two bytes: its word byte by byte, and all that was lent as it then is.
-pub fn one(case: &[u8]) {
+pub fn one(rt: &impl Print, case: &[u8]) -> io::Result<()> {
     let mut buf = [0u8; LENT];
     let made = make(case, &mut buf);
     match made {
         Made::Word(word) => {
             let bytes = bytes_of(word);
-            print::text(b"word");
-            print::numbers(&bytes);
-            print::text(b" |");
+            print::text(rt, b"word")?;
+            print::numbers(rt, &bytes)?;
+            print::text(rt, b" |")?;
             let end = given::front(given::behind(case)).len();
-            print::numbers(given::part(&buf, 0, end));
+            print::numbers(rt, given::part(&buf, 0, end))
         }
-        Made::Nothing => print::text(b"none"),
+        Made::Nothing => print::text(rt, b"none"),
     }
 }
 
@@ -92,7 +93,7 @@ fn one_if(b: bool) -> u64
 
 // A tick on what is lent with each of its bytes changed in turn, by the byte that stands behind it: how many were refused 25, how many
 // otherwise, and how many were accepted.
-pub fn each(case: &[u8]) {
+pub fn each(rt: &impl Print, case: &[u8]) -> io::Result<()> {
     let file = given::front(case);
     let rest = given::behind(case);
     let lent = given::front(rest);
@@ -109,8 +110,8 @@ pub fn each(case: &[u8]) {
         accepted += one_if(code == 0);
         at += 1;
     }
-    print::text(b"counts");
-    print::number(unsound);
-    print::number(otherwise);
-    print::number(accepted);
+    print::text(rt, b"counts")?;
+    print::number(rt, unsound)?;
+    print::number(rt, otherwise)?;
+    print::number(rt, accepted)
 }

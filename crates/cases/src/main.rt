@@ -10,37 +10,41 @@ mod print;
 mod printed;
 mod same;
 
-use libc::STDIN_FILENO;
 use plan_writing::WriteAnswer;
+use std::io;
+use std::io::Read;
 
 // The longest file that a case is read as.
 const READ: usize = 131072;
+
+// The longest record.
+const RECORD: usize = 65536;
 
 // A buffer in which every plan file has room.
 const WRITTEN: usize = 2048;
 
 // Reading a file: its length in 4 bytes, then its first bytes; the others are zero.
-fn read_case(case: &[u8]) {
+fn read_case(rt: &impl Print, case: &[u8]) -> io::Result<()> {
     let mut file = [0u8; READ];
     given::copy(given::part(case, 4, case.len()), &mut file);
     let len = given::length(case);
     let found = plan::read(given::part(&file, 0, len));
     let answer = found.answer;
-    print::reading(answer);
+    print::reading(rt, answer)
 }
 
 // The name of a resource: the resource, then the file.
-fn name_case(case: &[u8]) {
+fn name_case(rt: &impl Print, case: &[u8]) -> io::Result<()> {
     let resource = given::byte(case, 0);
     let file = given::part(case, 1, case.len());
     let code = plan::name_refusal(file, resource);
     let name = plan::name(file, resource);
     if code == 0 {
-        print::text(name);
+        print::text(rt, name)
     } else if name.len() == 0 {
-        print::refused(code);
+        print::refused(rt, code)
     } else {
-        print::text(b"wrong");
+        print::text(rt, b"wrong")
     }
 }
 
@@ -73,7 +77,7 @@ fn write(case: &[u8], buf: &mut [u8]) -> WriteAnswer {
 }
 
 // Writing: the values, what the file is to be, and how much of the buffer is lent.
-fn write_case(case: &[u8]) {
+fn write_case(rt: &impl Print, case: &[u8]) -> io::Result<()> {
     let mut buf = [same::FILL; WRITTEN];
     let answer = write(case, &mut buf);
     match answer {
@@ -81,72 +85,74 @@ fn write_case(case: &[u8]) {
             let end = len as usize;
             let file = given::part(&buf, 0, end);
             let right = same::bytes(file, given::expected(case)) & same::untouched(&buf, end);
-            print::written(len, right, again(case, file));
+            print::written(rt, len, right, again(case, file))
         }
         WriteAnswer::Refused(code) => {
-            print::refused(code);
-            print::unchanged(same::untouched(&buf, 0));
+            print::refused(rt, code)?;
+            print::unchanged(rt, same::untouched(&buf, 0))
         }
     }
 }
 
 // One case: a letter for its kind, the label's length, the label, and the rest.
-fn run_case(record: &[u8]) {
+fn run_case(rt: &impl Print, record: &[u8]) -> io::Result<()> {
     let kind = given::byte(record, 0);
     let start = 2 + folds::wide(given::byte(record, 1));
-    print::text(given::part(record, 2, start));
-    print::text(b": ");
+    print::text(rt, given::part(record, 2, start))?;
+    print::text(rt, b": ")?;
     let case = given::part(record, start, record.len());
     match kind {
-        b'R' => read_case(case),
-        b'N' => name_case(case),
-        b'W' => write_case(case),
-        b'H' => asked::hold(case),
-        b'G' => asked::longest(case),
-        b'B' => asked::budget(case),
-        b'T' => asked::wait(case),
-        b'Q' => asked::requirement(case),
-        b'A' => asked::admission(case),
-        b'L' => asked::holds(case),
-        b'D' => asked::sheet(case),
-        b'M' => called::list(case),
-        b'S' => called::one(case),
-        b'V' => called::each(case),
-        b'P' => printed::list(case),
-        b'O' => printed::from_state(case),
-        b'E' => printed::many(case),
-        b'I' => lent::one(case),
-        b'F' => lent::each(case),
-        _ => print::text(b"no such case"),
-    }
-    print::text(b"\n");
+        b'R' => read_case(rt, case),
+        b'N' => name_case(rt, case),
+        b'W' => write_case(rt, case),
+        b'H' => asked::hold(rt, case),
+        b'G' => asked::longest(rt, case),
+        b'B' => asked::budget(rt, case),
+        b'T' => asked::wait(rt, case),
+        b'Q' => asked::requirement(rt, case),
+        b'A' => asked::admission(rt, case),
+        b'L' => asked::holds(rt, case),
+        b'D' => asked::sheet(rt, case),
+        b'M' => called::list(rt, case),
+        b'S' => called::one(rt, case),
+        b'V' => called::each(rt, case),
+        b'P' => printed::list(rt, case),
+        b'O' => printed::from_state(rt, case),
+        b'E' => printed::many(rt, case),
+        b'I' => lent::one(rt, case),
+        b'F' => lent::each(rt, case),
+        _ => print::text(rt, b"no such case"),
+    }?;
+    print::text(rt, b"\n")
 }
 
 // Reads the next record into the front of the buffer: its length, 0 at the end of the input.
-fn read_record(buf: &mut [u8]) -> usize {
+fn read_record<R: Read>(input: &mut R, buf: &mut [u8]) -> io::Result<usize> {
     let mut head = [0u8; 4];
-    let got = io::read_full(STDIN_FILENO, &mut head);
+    let got = streams::read_full(input, &mut head)?;
     let len = given::at_most(given::length(&head[..got]), buf.len());
-    io::read_full(STDIN_FILENO, &mut buf[0..len])
+    streams::read_full(input, &mut buf[0..len])
 }
 
 // Reads a record and runs it; false at the end of the input.
-fn next() -> bool {
-    let mut buf = io::large_buffer();
-    let len = read_record(&mut buf);
+fn next<R: Read>(rt: &impl Print, input: &mut R) -> io::Result<bool> {
+    let mut buf = [0u8; RECORD];
+    let len = read_record(input, &mut buf)?;
     if len == 0 {
-        return false;
+        return Ok(false);
     }
-    run_case(given::part(&buf, 0, len));
-    true
+    run_case(rt, given::part(&buf, 0, len))?;
+    Ok(true)
 }
 
 // A proved loop has to end: the turns are counted down from a number that no run uses up.
-fn main() {
+fn main(rt: HostRuntime) -> io::Result<()> {
+    let mut input = rt.stdin();
     let mut turns = u64::MAX;
     let mut more = true;
     while more && turns > 0 {
-        more = next();
+        more = next(&rt, &mut input)?;
         turns -= 1;
     }
+    Ok(())
 }

@@ -1,38 +1,38 @@
 // The lines that are printed.
-ghost use Rattle.std.specs.Prelude.{◌+◌, ◌≤◌, length};
+ghost use Rattle.std.specs.Prelude.{◌+◌, ◌≤◌, IfOk, length};
 
 use crate::given;
-use libc::STDOUT_FILENO;
 use plan::ReadAnswer;
+use std::io;
 
 // A buffer for many numbers, and the most that a space and one of them take.
 const NUMBERS: usize = 4096;
 
 const NUMBER: usize = 21;
 
-pub fn text(s: &[u8]) {
-    io::write_all(STDOUT_FILENO, s);
+pub fn text(rt: &impl Print, s: &[u8]) -> io::Result<()> {
+    rt.write_all(s)
 }
 
-pub fn digits(n: u64) {
-    io::print_decimal(STDOUT_FILENO, n);
+pub fn digits(rt: &impl Print, n: u64) -> io::Result<()> {
+    rt.print(n)
 }
 
-pub fn number(n: u64) {
-    text(b" ");
-    digits(n);
+pub fn number(rt: &impl Print, n: u64) -> io::Result<()> {
+    text(rt, b" ")?;
+    digits(rt, n)
 }
 
 // Where the next number goes: behind what is in the buffer, or at its front, once that is written, where too little room is left.
-fn room(buf: &[u8], at: usize) -> usize
+fn room(rt: &impl Print, buf: &[u8], at: usize) -> io::Result<usize>
     requires { 21 ≤ length buf.now }
-    ensures { result + 21 ≤ length buf.now }
+    ensures { IfOk result (λ r. r + 21 ≤ length buf.now) }
 {
     if at <= buf.len() - NUMBER {
-        return at;
+        return Ok(at);
     }
-    text(given::part(buf, 0, at));
-    0
+    text(rt, given::part(buf, 0, at))?;
+    Ok(0)
 }
 
 // Puts a number behind a space: where it ends.
@@ -44,60 +44,60 @@ fn put(buf: &mut [u8], at: usize, n: u8) -> usize
 }
 
 // Bytes as numbers, in as few writes as the buffer allows.
-pub fn numbers(s: &[u8]) {
+pub fn numbers(rt: &impl Print, s: &[u8]) -> io::Result<()> {
     let mut buf = [0u8; NUMBERS];
     let mut at = 0;
     let mut i = 0;
     while i < s.len() {
-        let free = room(&buf, at);
+        let free = room(rt, &buf, at)?;
         at = put(&mut buf, free, s[i]);
         i += 1;
     }
-    text(given::part(&buf, 0, at));
+    text(rt, given::part(&buf, 0, at))
 }
 
 // With a minus where it is below zero.
-pub fn signed(z: i64) {
+pub fn signed(rt: &impl Print, z: i64) -> io::Result<()> {
     let mut buf = [0u8; 21];
     let end = print_text::put_signed(&mut buf, 0, z);
-    text(b" ");
-    text(given::part(&buf, 0, end));
+    text(rt, b" ")?;
+    text(rt, given::part(&buf, 0, end))
 }
 
-pub fn refused(code: u8) {
-    text(b"refused");
-    number(code as u64);
+pub fn refused(rt: &impl Print, code: u8) -> io::Result<()> {
+    text(rt, b"refused")?;
+    number(rt, code as u64)
 }
 
-pub fn reading(answer: ReadAnswer) {
+pub fn reading(rt: &impl Print, answer: ReadAnswer) -> io::Result<()> {
     match answer {
         ReadAnswer::Accepted(counts) => {
-            text(b"plan");
-            number(counts.processors as u64);
-            number(counts.tasks as u64);
-            number(counts.resources as u64);
-            number(counts.sections as u64);
+            text(rt, b"plan")?;
+            number(rt, counts.processors as u64)?;
+            number(rt, counts.tasks as u64)?;
+            number(rt, counts.resources as u64)?;
+            number(rt, counts.sections as u64)
         }
-        ReadAnswer::Refused(code) => refused(code),
+        ReadAnswer::Refused(code) => refused(rt, code),
     }
 }
 
-pub fn which(right: bool, yes: &[u8], no: &[u8]) {
+pub fn which(rt: &impl Print, right: bool, yes: &[u8], no: &[u8]) -> io::Result<()> {
     if right {
-        text(yes);
+        text(rt, yes)
     } else {
-        text(no);
+        text(rt, no)
     }
 }
 
 // Whether all that was lent, or the state, is as it was.
-pub fn unchanged(as_before: bool) {
-    which(as_before, b" unchanged", b" changed");
+pub fn unchanged(rt: &impl Print, as_before: bool) -> io::Result<()> {
+    which(rt, as_before, b" unchanged", b" changed")
 }
 
-pub fn written(len: u16, right: bool, again: bool) {
-    text(b"written");
-    number(len as u64);
-    which(right, b" same", b" differs");
-    which(again, b" again", b"");
+pub fn written(rt: &impl Print, len: u16, right: bool, again: bool) -> io::Result<()> {
+    text(rt, b"written")?;
+    number(rt, len as u64)?;
+    which(rt, right, b" same", b" differs")?;
+    which(rt, again, b" again", b"")
 }

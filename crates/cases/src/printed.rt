@@ -5,6 +5,7 @@ use machine_calls::CallBytes;
 use machine_state::State;
 use print_calls::{Batch, CallLine};
 use print_lines::LINE;
+use std::io;
 
 // A buffer for the lines of a list.
 const LINES: usize = 1024;
@@ -16,52 +17,60 @@ fn call(file: &[u8], state: State, room: usize, bytes: CallBytes, buf: &mut [u8]
 }
 
 // The line of one call, or why there is none; whether what lies behind it is as it was, or all where there is none.
-fn next(file: &[u8], state: State, room: usize, bytes: CallBytes) -> State {
+fn next(
+    rt: &impl Print,
+    file: &[u8],
+    state: State,
+    room: usize,
+    bytes: CallBytes,
+) -> io::Result<State> {
     let mut buf = [same::FILL; LINE];
     let made = call(file, state, room, bytes, &mut buf);
     let line = made.line;
     let after = made.state;
-    print::text(b"; ");
+    print::text(rt, b"; ")?;
     if line.refusal == 0 {
-        print::text(given::without_end(&buf, line.length));
-        print::which(same::untouched(&buf, line.length), b"", b" and behind");
+        print::text(rt, given::without_end(&buf, line.length))?;
+        print::which(rt, same::untouched(&buf, line.length), b"", b" and behind")?;
     } else {
-        print::refused(line.refusal);
-        print::unchanged(same::untouched(&buf, 0) & same::states(after, state));
+        print::refused(rt, line.refusal)?;
+        print::unchanged(rt, same::untouched(&buf, 0) & same::states(after, state))?;
     }
-    after
+    Ok(after)
 }
 
 // Calls, each made on the state that the last one returned; how many bytes are lent for each line stands before them.
-fn each(file: &[u8], start: State, rest: &[u8]) {
+fn each(rt: &impl Print, file: &[u8], start: State, rest: &[u8]) -> io::Result<()> {
     let room = given::size(given::byte(rest, 0) as u16);
     let calls = given::part(rest, 1, rest.len());
     let mut state = start;
     let n = given::call_count(calls);
     let mut x = 0;
     while x < n {
-        let after = next(file, state, room, given::call(calls, x));
+        let after = next(rt, file, state, room, given::call(calls, x))?;
         state = after;
         x += 1;
     }
+    Ok(())
 }
 
 // The calls of a list, from a fresh machine on.
-pub fn list(case: &[u8]) {
+pub fn list(rt: &impl Print, case: &[u8]) -> io::Result<()> {
     let file = given::front(case);
-    print::text(b"start");
-    each(file, machine::start(file).state, given::behind(case));
+    print::text(rt, b"start")?;
+    each(rt, file, machine::start(file).state, given::behind(case))
 }
 
 // The same from a given state on.
-pub fn from_state(case: &[u8]) {
+pub fn from_state(rt: &impl Print, case: &[u8]) -> io::Result<()> {
     let rest = given::behind(case);
-    print::text(b"state");
+    print::text(rt, b"state")?;
     each(
+        rt,
         given::front(case),
         given::state(rest),
         given::part(rest, given::STATE, rest.len()),
-    );
+    )
 }
 
 // Makes calls from a given state on in one go, with so many bytes of the buffer lent for their lines as two bytes behind the state say.
@@ -74,22 +83,21 @@ fn make(case: &[u8], state: State, buf: &mut [u8]) -> Batch {
 
 // What came of many calls: how many of their bytes were made, how long the lines are, whether what lies behind them is as it was, and
 // what the state shows; then the lines. Or why nothing was made.
-pub fn many(case: &[u8]) {
+pub fn many(rt: &impl Print, case: &[u8]) -> io::Result<()> {
     let state = given::state(given::behind(case));
     let mut buf = [same::FILL; LINES];
     let batch = make(case, state, &mut buf);
     let after = batch.state;
     if batch.refusal != 0 {
-        print::refused(batch.refusal);
+        print::refused(rt, batch.refusal)?;
         let as_before = same::untouched(&buf, 0) & same::states(after, state);
-        print::unchanged(as_before & (batch.used == 0) & (batch.length == 0));
-        return;
+        return print::unchanged(rt, as_before & (batch.used == 0) & (batch.length == 0));
     }
-    print::text(b"lines");
-    print::number(batch.used as u64);
-    print::number(batch.length as u64);
-    print::which(same::untouched(&buf, batch.length), b" right", b" wrong");
-    called::shown(given::front(case), after);
-    print::which(batch.length == 0, b"", b"\n");
-    print::text(given::without_end(&buf, batch.length));
+    print::text(rt, b"lines")?;
+    print::number(rt, batch.used as u64)?;
+    print::number(rt, batch.length as u64)?;
+    print::which(rt, same::untouched(&buf, batch.length), b" right", b" wrong")?;
+    called::shown(rt, given::front(case), after)?;
+    print::which(rt, batch.length == 0, b"", b"\n")?;
+    print::text(rt, given::without_end(&buf, batch.length))
 }

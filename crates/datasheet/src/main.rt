@@ -2,17 +2,19 @@
 // `print_sheet` and `print_lines`; here bytes are only read and written.
 #![tactic(auto)]
 
-use libc::STDOUT_FILENO;
+use std::io;
+use std::io::Write;
 
-fn main() {
-    let mut buf = io::large_buffer();
-    let end = streams::read_plan(&mut buf);
+fn main(rt: HostRuntime) -> io::Result<()> {
+    let mut input = rt.stdin();
+    let mut output = rt.stdout();
+    let mut buf = [0u8; streams::BUFFER];
+    let end = streams::read_plan(&mut input, &mut buf)?;
     let mut out = [0u8; print_sheet::SHEET];
     let line = print_sheet::sheet(&buf[0..end], &mut out);
     if line.refusal != 0 {
-        streams::print_refused(line.refusal);
-        return;
+        return streams::print_refused(&mut output, line.refusal);
     }
     let length = line.length;
-    io::write_all(STDOUT_FILENO, &out[0..length]);
+    output.write_all(&out[0..length])
 }

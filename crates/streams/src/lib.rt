@@ -1,43 +1,64 @@
 // Standard input and output for the programs: a plan that is read, and the line of a refusal.
 #![tactic(auto)]
 
-ghost use Rattle.std.specs.Prelude.{◌≤◌, ◌≡◌, length, take};
+ghost use Rattle.std.specs.Prelude.{◌≤◌, ◌≡◌, IfOk, length, OnErr, take};
 ghost use Rattle.plan.specs.Reading.{plan_length};
 ghost use Rattle.streams.specs.Streams.{most_plan_bytes, Came};
 
-use libc::{STDIN_FILENO, STDOUT_FILENO};
+use std::io;
+use std::io::{Read, Write};
+
+// A buffer of so many bytes holds every plan of which a header can tell the length.
+pub const BUFFER: usize = 65536;
+
+// Reads until the buffer is full or the input ends: how many bytes came.
+pub fn read_full<R: Read>(input: &mut R, buf: &mut [u8]) -> io::Result<usize>
+    ensures ok { IfOk result (λ n. n ≤ length buf.new) }
+{
+    let mut done = 0;
+    while done < buf.len() {
+        let n = input.read(&mut buf[done..])?;
+        if n == 0 {
+            break;
+        }
+        done += n;
+    }
+    Ok(done)
+}
 
 // Reads a plan to the front of the buffer: as many bytes as its header says, or as many as there are. What lies behind them in the
 // part that was lent for reading is not known. The buffer is as long as the longest plan that a header can tell of.
-fn read_whole(buf: &mut [u8]) -> usize
+fn read_whole<R: Read>(input: &mut R, buf: &mut [u8]) -> io::Result<usize>
     requires { length buf.old ≡ most_plan_bytes }
-    ensures { (plan_length (take result buf.new) ≡ result) × (result ≤ most_plan_bytes) }
+    ensures { IfOk result (λ r. (plan_length (take r buf.new) ≡ r) × (r ≤ most_plan_bytes)) }
 {
-    let head = io::read_full(STDIN_FILENO, &mut buf[0..plan_layout::HEADER]);
+    let head = read_full(input, &mut buf[0..plan_layout::HEADER])?;
     if head < plan_layout::HEADER {
-        return head;
+        return Ok(head);
     }
     let end = plan::plan_length(buf);
     if end <= plan_layout::HEADER {
-        return end;
+        return Ok(end);
     }
-    plan_layout::HEADER + io::read_full(STDIN_FILENO, &mut buf[plan_layout::HEADER..end])
+    let rest = read_full(input, &mut buf[plan_layout::HEADER..end])?;
+    Ok(plan_layout::HEADER + rest)
 }
 
 // Reads the plan to the front of the lent buffer, by way of one of its own, so that what lies behind it stays.
-pub fn read_plan(buf: &mut [u8]) -> usize
+pub fn read_plan<R: Read>(input: &mut R, buf: &mut [u8]) -> io::Result<usize>
     requires { length buf.old ≡ most_plan_bytes }
-    ensures { Came buf.old buf.new result }
+    ensures ok { IfOk result (λ r. Came buf.old buf.new r) }
+    ensures err { OnErr result (buf.new ≡ buf.old) }
 {
-    let mut own = io::large_buffer();
-    let end = read_whole(&mut own);
-    print_text::put(buf, 0, &own[0..end])
+    let mut own = [0u8; BUFFER];
+    let end = read_whole(input, &mut own)?;
+    Ok(print_text::put(buf, 0, &own[0..end]))
 }
 
 // Prints "refused N".
-pub fn print_refused(number: u8) {
+pub fn print_refused<W: Write>(output: &mut W, number: u8) -> io::Result<()> {
     let mut out = [0u8; print_lines::LINE];
     let line = print_lines::refused_line(number, &mut out);
     let end = line.length;
-    io::write_all(STDOUT_FILENO, &out[0..end]);
+    output.write_all(&out[0..end])
 }
