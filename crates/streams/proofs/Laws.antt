@@ -10,7 +10,7 @@ use Rattle.print_text.specs.Text.{Put}
 use Rattle.streams.specs.Streams.{Came}
 
 -- the length that a plan tells stands in the bytes that every header has
-header_told : (r : ℕ) (s : List ℕ) → header_length ≤ r → length_said (take r s) ≡ length_said s
+pub header_told : (r : ℕ) (s : List ℕ) → header_length ≤ r → length_said (take r s) ≡ length_said s
 unfolding number
 header_told r s l = length_field_said (take r s) ∙ same ∙ sym (length_field_said s)
   where

@@ -1,9 +1,10 @@
 // Standard input and output for the programs: a plan that is read, and the line of a refusal.
 #![tactic(auto)]
 
-ghost use Rattle.std.specs.Prelude.{◌≤◌, ◌≡◌, IfOk, length, OnErr, take};
+ghost use Rattle.std.specs.Prelude.{◌<◌, ◌≤◌, ◌≡◌, IfOk, length, OnErr, take};
+ghost use Rattle.std.specs.Io.KnownBytes.{Consumes, IsAtEnd};
 ghost use Rattle.plan.specs.Reading.{plan_length};
-ghost use Rattle.streams.specs.Streams.{most_plan_bytes, Came};
+ghost use Rattle.streams.specs.Streams.{most_plan_bytes, Came, FirstPlan};
 
 use std::io;
 use std::io::{Read, Write};
@@ -13,7 +14,9 @@ pub const BUFFER: usize = 65536;
 
 // Reads until the buffer is full or the input ends: how many bytes came.
 pub fn read_full<R: Read>(input: &mut R, buf: &mut [u8]) -> io::Result<usize>
-    ensures ok { IfOk result (λ n. n ≤ length buf.new) }
+    ensures within { IfOk result (λ n. n ≤ length buf.new) }
+    ensures bytes { IfOk result (λ n. Consumes (R.remaining input.old) (R.remaining input.new) (take n buf.new)) }
+    ensures ended { IfOk result (λ n. n < length buf.new → IsAtEnd (R.remaining input.new)) }
 {
     let mut done = 0;
     while done < buf.len() {
@@ -30,7 +33,8 @@ pub fn read_full<R: Read>(input: &mut R, buf: &mut [u8]) -> io::Result<usize>
 // part that was lent for reading is not known. The buffer is as long as the longest plan that a header can tell of.
 fn read_whole<R: Read>(input: &mut R, buf: &mut [u8]) -> io::Result<usize>
     requires { length buf.old ≡ most_plan_bytes }
-    ensures { IfOk result (λ r. (plan_length (take r buf.new) ≡ r) × (r ≤ most_plan_bytes)) }
+    ensures whole { IfOk result (λ r. (plan_length (take r buf.new) ≡ r) × (r ≤ most_plan_bytes)) }
+    ensures first { IfOk result (λ r. FirstPlan (R.remaining input.old) (R.remaining input.new) (take r buf.new)) }
 {
     let head = read_full(input, &mut buf[0..plan_layout::HEADER])?;
     if head < plan_layout::HEADER {
@@ -48,6 +52,7 @@ fn read_whole<R: Read>(input: &mut R, buf: &mut [u8]) -> io::Result<usize>
 pub fn read_plan<R: Read>(input: &mut R, buf: &mut [u8]) -> io::Result<usize>
     requires { length buf.old ≡ most_plan_bytes }
     ensures ok { IfOk result (λ r. Came buf.old buf.new r) }
+    ensures first { IfOk result (λ r. FirstPlan (R.remaining input.old) (R.remaining input.new) (take r buf.new)) }
     ensures err { OnErr result (buf.new ≡ buf.old) }
 {
     let mut own = [0u8; BUFFER];
