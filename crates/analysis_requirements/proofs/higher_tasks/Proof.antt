@@ -1,5 +1,5 @@
 -- The invariant: the tasks below j that are above task i are counted and packed.
-use Rattle.analysis_requirements.proofs.Ground.{ℕ, ◌≤◌, ◌-◌, sym, ap, ◌∙◌, List, ⊎_elim, arith, rules, TaskRow, plan_of}
+use Rattle.analysis_requirements.proofs.Ground.{ℕ, ◌≤◌, ◌-◌, sym, ap, ◌∙◌, List, arith, rules, TaskRow, plan_of}
 use Rattle.analysis_requirements.proofs.Ground.{valid_plan, HigherTasks}
 use Rattle.analysis_requirements.proofs.Precedences.{table_above}
 use Rattle.analysis_requirements.proofs.Blocking.{Over, over}

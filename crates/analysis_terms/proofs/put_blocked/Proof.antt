@@ -1,5 +1,5 @@
 -- The invariant: what blocks each task is gathered of the sections below `s`.
-use Rattle.analysis_terms.proofs.Ground.{ℕ, ◌+◌, ◌*◌, ◌/◌, ◌<◌, ◌≤◌, ◌-◌, ◌≡◌, sym, ◌∙◌, ⊎_elim, List, arith, rules, most_resources}
+use Rattle.analysis_terms.proofs.Ground.{ℕ, ◌+◌, ◌*◌, ◌/◌, ◌<◌, ◌≤◌, ◌-◌, ◌≡◌, sym, ◌∙◌, List, arith, rules, most_resources}
 use Rattle.analysis_terms.proofs.Ground.{get_or, plan_of, valid_plan, Filling, precedence_cell, ceiling_cell}
 use Rattle.analysis_equations.proofs.Rows.{SectionRead}
 use Rattle.analysis_terms.proofs.Terms.{Cells}

@@ -1,5 +1,5 @@
 -- The invariant: the tasks below j that are above task i are counted and packed.
-use Rattle.analysis_tolerance.proofs.Ground.{ℕ, ◌+◌, ◌*◌, ◌≤◌, ◌-◌, ◌≡◌, sym, ap, ◌∙◌, List, ⊎_elim, arith, rules, TaskRow, plan_of}
+use Rattle.analysis_tolerance.proofs.Ground.{ℕ, ◌+◌, ◌*◌, ◌≤◌, ◌-◌, ◌≡◌, sym, ap, ◌∙◌, List, arith, rules, TaskRow, plan_of}
 use Rattle.analysis_tolerance.proofs.Ground.{valid_plan, processor_of, HigherTasks}
 use Rattle.analysis_tolerance.proofs.Precedences.{table_above}
 use Rattle.analysis_terms.proofs.Over.{Over, over}

@@ -1,5 +1,5 @@
 -- The invariant: the tasks below k are counted.
-use Rattle.analysis_tolerance.proofs.Ground.{◌-◌, ⊎_elim, arith, rules}
+use Rattle.analysis_tolerance.proofs.Ground.{◌-◌, arith, rules}
 use Rattle.analysis_tolerance.proofs.Demand.{Passing, passing_none, passing_high, passing_end, passing_begun, passing_left, passing_done}
 use Rattle.analysis_tolerance.proofs.pass.Statement.{statement}
 use Rattle.analysis_tolerance.proofs.pass.Lts.{then-ends-k, else-ends-k}

@@ -1,5 +1,5 @@
 -- The invariant: the seats of the tasks below `u` stand in `keys`.
-use Rattle.machine_state.proofs.Ground.{◌≤◌, ◌-◌, ◌≡◌, refl, sym, ap, ◌∙◌, ⊎_elim, get_or-replicate, arith, rules, most_tasks}
+use Rattle.machine_state.proofs.Ground.{◌≤◌, ◌-◌, ◌≡◌, refl, sym, ap, ◌∙◌, get_or-replicate, arith, rules, most_tasks}
 use Rattle.machine_state.proofs.Ground.{placed_below, placed_step, plan_of, Valid, valid_plan, Standing, standing, no_seat}
 use Rattle.plan_rules.specs.declared.TaskRow.{TaskRow}
 use Rattle.machine_state.proofs.Tables.{low_processor, keys_below, keys_done, row_low, key_at_lem, key_off, placed_skip}
