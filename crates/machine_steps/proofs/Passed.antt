@@ -2,7 +2,7 @@
 use Rattle.machine_steps.proofs.Ground.{ℕ, zero, suc, ◌+◌, ◌-◌, ◌<◌, ◌≤◌, Bool, cond, ◌≡◌, refl, sym, ap, ◌∙◌, ◌≢◌, List, eqb, ltb}
 use Rattle.machine_steps.proofs.Ground.{get_or, get_or-set_same, get_or-set_other, arith, eq-eqb, ne_eqb, lt-ltb, le-leb, lt-leb, max_below}
 use Rattle.machine_steps.proofs.Ground.{by_eq, Plan, Valid, hold_at, budget, terms, task_ranked, queue_from, Standing, LineRow, State}
-use Rattle.machine_steps.proofs.Ground.{line_at, slot, rank, shows, seat, Good, Whole, hold_within, on_eq, on_le, Ranked, Timed, full}
+use Rattle.machine_steps.proofs.Ground.{line_at, slot, rank, seat, Good, Whole, hold_within, on_eq, on_le, Ranked, Timed, full}
 use Rattle.machine_steps.proofs.Ground.{Leaves, shifted, turned, hold_of, begun, passed}
 use Rattle.queue_rules.specs.Rules as Rules
 use Rattle.queue_ranks.proofs.Ranked.{Queued}

@@ -1,9 +1,9 @@
 -- Values that keep their rules, and how much they are; rows that agree below a count keep the same rules, and have the same bytes.
-use Rattle.plan_writing.proofs.Ground.{ℕ, ◌+◌, ◌<◌, ◌≤◌, true, ◌&&◌, ◌≡◌, refl, sym, ap, ap₂, ◌∙◌, List, ◌++◌, leb, length, take}
+use Rattle.plan_writing.proofs.Ground.{ℕ, ◌+◌, ◌<◌, ◌≤◌, true, ◌&&◌, ◌≡◌, sym, ap, ap₂, ◌∙◌, List, ◌++◌, leb, length, take}
 use Rattle.plan_writing.proofs.Ground.{drop, length-drop, drop_at, arith, most_resources, row_at, row_bytes, bytes_below, all_same}
 use Rattle.plan_writing.proofs.Ground.{code_zero, sum_same, Bytes, solid, task_of, section_of, length_of, start_of, counts_ok, unique_ok}
 use Rattle.plan_writing.proofs.Ground.{names_ok, sums_ok, TaskRow, Counts, Rows, InRange, counts_facts, known, values_tests, values_code}
-use Rattle.folds.proofs.Ground.{zero, suc, ◌*◌, Bool, cond, not, eqb, take-add, get_or-drop}
+use Rattle.folds.proofs.Ground.{◌*◌, Bool, cond, not, eqb, take-add, get_or-drop}
 use Rattle.sizes.specs.Sizes.{most_name_bytes}
 use Rattle.folds.specs.Below.{all_below}
 use Rattle.folds.specs.Bytes.{width}

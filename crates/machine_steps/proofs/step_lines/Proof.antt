@@ -1,5 +1,5 @@
 -- The invariant: the lines below `q` have made their tick, the others are as they were; marks and words tell of those below.
-use Rattle.machine_steps.proofs.Ground.{ℕ, ◌≤◌, ◌-◌, ◌≡◌, refl, ap, ⊎_elim, List, get_or, arith, each_below, word_below, stamped_below}
+use Rattle.machine_steps.proofs.Ground.{ℕ, ◌≤◌, ◌-◌, ◌≡◌, refl, ap, List, get_or, arith, each_below, word_below, stamped_below}
 use Rattle.machine_steps.proofs.Ground.{each_step, each_done, word_done, LineRow, no_line, slot, cuts_holder, ended_below, stepped}
 use Rattle.machine_steps.proofs.Ground.{stepped_lines, cut_word}
 use Rattle.folds.proofs.WordLaws.{word_step, word_fits}
