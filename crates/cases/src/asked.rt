@@ -24,7 +24,11 @@ fn file(case: &[u8], at: usize) -> &[u8] {
 pub fn hold(rt: &impl Print, case: &[u8]) -> io::Result<()> {
     let tag = given::word(case, 0);
     let resource = given::byte(case, 2);
-    figure(rt, analysis::hold_time(file(case, 3), tag, resource), b"hold")
+    figure(
+        rt,
+        analysis::hold_time(file(case, 3), tag, resource),
+        b"hold",
+    )
 }
 
 // The longest wait of a task for a resource: the tag in two bytes, the resource.
@@ -120,7 +124,12 @@ pub fn sheet(rt: &impl Print, case: &[u8]) -> io::Result<()> {
     if made.refusal == 0 {
         print::text(rt, b"sheet")?;
         print::number(rt, made.length as u64)?;
-        print::which(rt, same::untouched(&buf, made.length), b" right\n", b" wrong\n")?;
+        print::which(
+            rt,
+            same::untouched(&buf, made.length),
+            b" right\n",
+            b" wrong\n",
+        )?;
         print::text(rt, given::without_end(&buf, made.length))
     } else {
         print::refused(rt, made.refusal)?;

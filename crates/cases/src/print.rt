@@ -83,11 +83,7 @@ pub fn reading(rt: &impl Print, answer: ReadAnswer) -> io::Result<()> {
 }
 
 pub fn which(rt: &impl Print, right: bool, yes: &[u8], no: &[u8]) -> io::Result<()> {
-    if right {
-        text(rt, yes)
-    } else {
-        text(rt, no)
-    }
+    if right { text(rt, yes) } else { text(rt, no) }
 }
 
 // Whether all that was lent, or the state, is as it was.

@@ -96,7 +96,12 @@ pub fn many(rt: &impl Print, case: &[u8]) -> io::Result<()> {
     print::text(rt, b"lines")?;
     print::number(rt, batch.used as u64)?;
     print::number(rt, batch.length as u64)?;
-    print::which(rt, same::untouched(&buf, batch.length), b" right", b" wrong")?;
+    print::which(
+        rt,
+        same::untouched(&buf, batch.length),
+        b" right",
+        b" wrong",
+    )?;
     called::shown(rt, given::front(case), after)?;
     print::which(rt, batch.length == 0, b"", b"\n")?;
     print::text(rt, given::without_end(&buf, batch.length))
