@@ -5,7 +5,7 @@ use Rattle.image.proofs.Ground.{eqb, ltb, length-replicate, arith, eqb-true, eq-
 use Rattle.image.proofs.Ground.{same_test, all_at, all_from, by_eq, on_eq, on_le, all_below, placed_at}
 use Rattle.image.proofs.Ground.{most_processors, most_tasks, absent, Plan, Valid, processor_of, global, uses, task_ranked, full}
 use Rattle.image.proofs.Ground.{sole, task_rank, State, Standing, LineRow, fresh_state, none_in_line, no_line, no_standing, is_idle}
-use Rattle.image.proofs.Ground.{line_at, slot, standing, rank, idle, alone, backed, holder_of, task_fits, sound, Good, Whole, both, rank_own}
+use Rattle.image.proofs.Ground.{line_at, slot, standing, rank, alone, backed, holder_of, task_fits, sound, Good, Whole, both, rank_own}
 use Rattle.image.proofs.Ground.{hold_resource, whole_of, state_in, line_in, holder_in, standing_in, absent_filled, free_filled}
 use Rattle.image.proofs.Ground.{task_filled, place_fits, holder_fits, filled, counts_fit, image_sound, first, holder_test, fit_test}
 use Rattle.folds.proofs.Ground.{true≢false}

@@ -1,6 +1,6 @@
 -- States that agree in all rows that the struct has room for, and in the list of their tasks, are sound together and show the same.
 use Rattle.image.proofs.Ground.{ℕ, ◌<◌, ◌≡◌, sym, ap, ◌∙◌, List, length, arith, fun_ext, on_le, most_resources, Plan}
-use Rattle.image.proofs.Ground.{queue_from, turn_of, list_same, State, line_at, no_line, slot, rank, shows, sound}
+use Rattle.image.proofs.Ground.{queue_from, turn_of, list_same, State, line_at, no_line, slot, rank, shows}
 use Rattle.image.proofs.Ground.{Good, Whole, SameRow, SameRows}
 use Rattle.folds.proofs.Ground.{List·getD-eq-default}
 use Rattle.queue_rules.specs.Rules as Rules

@@ -1,7 +1,7 @@
 -- A call on an image is the same call by value on the state that the image shows: the same refusal and answer, and what it leaves shows
 -- the next state of that call.
 use Rattle.image_calls.proofs.Ground.{ℕ, true, ◌≡◌, ◌∙◌, List, eq-eqb, refusal, Accepted, accepted_valid, plan_of, Call}
-use Rattle.image_calls.proofs.Ground.{shows, sound, ap, ne_eqb, state_in, image_state}
+use Rattle.image_calls.proofs.Ground.{sound, ap, ne_eqb, state_in, image_state}
 use Rattle.image_calls.proofs.Ground.{image_refusal, image_call_refusal, image_reply, image_after, NextImage}
 use Rattle.machine.specs.Replies.{call_refusal, reply, Next}
 use Rattle.image_calls.proofs.Made.{own_code}

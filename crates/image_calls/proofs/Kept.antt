@@ -1,7 +1,7 @@
 -- The promise for images: each image that calls leave is sound, and shows what the rules make of the calls.
 use Rattle.image_calls.proofs.Ground.{ℕ, ◌<◌, true, ◌≡◌, refl, sym, ap, ◌∙◌, List, length, get_or, ne_eqb, first_zero, then_zero}
 use Rattle.image_calls.proofs.Ground.{code_zero, refusal, accepted_valid, plan_of, most_resources, Call, View}
-use Rattle.image_calls.proofs.Ground.{step, answer, after, fresh_state, sound, shown_in, state_in, image_sound, image_state, lent_refusal}
+use Rattle.image_calls.proofs.Ground.{step, answer, after, fresh_state, shown_in, state_in, image_sound, image_state, lent_refusal}
 use Rattle.image_calls.proofs.Ground.{image_refusal, image_call_refusal, image_reply, image_after, LeftBy, begun, called, ImageRan}
 use Rattle.folds.proofs.Ground.{length-replicate}
 use Rattle.folds.proofs.Arrays.{placed_length}

@@ -1,5 +1,5 @@
 -- What the printing program prints for an input, by the rules alone.
-use Rattle.std.specs.Prelude.{ℕ, zero, suc, ◌+◌, ◌*◌, ◌/◌, ◌%◌, cond, List, [], ◌++◌, eqb, length, take, drop}
+use Rattle.std.specs.Prelude.{ℕ, zero, suc, ◌*◌, ◌/◌, ◌%◌, cond, List, [], ◌++◌, eqb, length, take, drop}
 use Rattle.refusals.specs.Numbers.{left_over}
 use Rattle.plan_layout.specs.Layout.{counts_of}
 use Rattle.plan.specs.Acceptance.{refusal}
