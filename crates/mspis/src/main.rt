@@ -2,7 +2,14 @@
 // line says is the work of `print_calls`; here bytes are only read and written.
 #![tactic(auto)]
 
-ghost use Rattle.std.specs.Prelude.{◌-◌, ◌≤◌, IfOk, length};
+ghost use Rattle.std.specs.Prelude.{◌<◌, ◌+◌, ◌-◌, ◌^◌, ◌≤◌, ◌≡◌, true, IfOk, OnOk, IfSome, length, take, drop};
+ghost use Rattle.std.specs.Io.KnownBytes.{Appends, Consumes, IsAtEnd};
+ghost use Rattle.plan.specs.Acceptance.{refusal};
+ghost use Rattle.machine.specs.Replies.{state_refusal};
+ghost use Rattle.machine_calls.specs.Calls.{call_width};
+ghost use Rattle.print_lines.specs.Lines.{most_line, plan_line};
+ghost use Rattle.print_calls.specs.Output.{end_line, calls_output};
+ghost use Rattle.mspis.specs.Served.{Wrote};
 
 use machine_calls::WIDTH;
 use machine_state::State;
@@ -19,15 +26,18 @@ struct Served {
 }
 
 // "plan P N R S".
-fn print_plan<W: Write>(output: &mut W, counts: plan_rules::Counts) -> io::Result<()> {
+fn print_plan<W: Write>(output: &mut W, counts: plan_rules::Counts) -> io::Result<()>
+    ensures { OnOk result (Appends (W.contents output.old) (W.contents output.new) (plan_line counts)) }
+{
     let mut out = [0u8; print_lines::LINE];
-    let line = print_calls::plan_line(counts, &mut out);
-    let end = line.length;
+    let end = print_lines::put_plan(&mut out, 0, counts);
     output.write_all(&out[0..end])
 }
 
 // "refused 22", where bytes are left over.
-fn print_end<W: Write>(output: &mut W, left: usize) -> io::Result<()> {
+fn print_end<W: Write>(output: &mut W, left: usize) -> io::Result<()>
+    ensures { OnOk result (Appends (W.contents output.old) (W.contents output.new) (end_line left)) }
+{
     let mut out = [0u8; print_lines::LINE];
     let line = print_calls::end_line(left, &mut out);
     let end = line.length;
@@ -43,7 +53,10 @@ fn serve<W: Write>(
     calls: &[u8],
     out: &mut [u8],
 ) -> io::Result<Served>
-    ensures { IfOk result (λ r. r.used ≤ length calls.now) }
+    ensures used { IfOk result (λ r. r.used ≤ length calls.now) }
+    ensures lines { IfOk result (λ r. Wrote (W.contents output.old) (W.contents output.new) file.now start (take r.used calls.now) r.state) }
+    ensures all { IfOk result (λ r. state_refusal file.now start ≡ 0 → most_line ≤ length out.old
+        → (r.written ≡ true) × (length calls.now < r.used + call_width)) }
 {
     let mut state = start;
     let mut used = 0;
@@ -66,27 +79,31 @@ fn serve<W: Write>(
 // Moves the bytes from `used` up to `end` to the front, and says how many they are.
 fn keep(buf: &mut [u8], used: usize, end: usize) -> usize
     requires { (used ≤ end) × (end ≤ length buf.old) }
-    ensures { result ≤ end }
+    ensures at_most { result ≤ end }
+    ensures count { result ≡ end - used }
+    ensures moved { take result buf.new ≡ drop used (take end buf.old) }
 {
-    let mut i = used;
-    while i < end {
-        buf[i - used] = buf[i];
-        i += 1;
-    }
+    buf.copy_within(used..end, 0);
     end - used
 }
 
 // Reads once, behind the bytes that are kept: how many bytes came.
 fn read_more<R: Read>(input: &mut R, buf: &mut [u8], kept: usize) -> io::Result<usize>
     requires { kept ≤ length buf.old }
-    ensures { IfOk result (λ n. n ≤ length buf.old - kept) }
+    ensures within { IfOk result (λ n. n ≤ length buf.old - kept) }
+    ensures front { take kept buf.new ≡ take kept buf.old }
+    ensures bytes { IfOk result (λ n. Consumes (R.remaining input.old) (R.remaining input.new) (take n (drop kept buf.new))) }
+    ensures ended { IfOk result (λ n. n ≡ 0 → kept < length buf.old → IsAtEnd (R.remaining input.new)) }
 {
     input.read(&mut buf[kept..])
 }
 
 // Makes the calls that follow the plan, as they come, until the input ends. A proved loop has to end: the
 // turns are counted down from a number that no run uses up.
-fn serve_all<R: Read, W: Write>(input: &mut R, output: &mut W, file: &[u8]) -> io::Result<()> {
+fn serve_all<R: Read, W: Write>(input: &mut R, output: &mut W, file: &[u8]) -> io::Result<()>
+    ensures { refusal file.now ≡ 0 → OnOk result (IfSome (R.remaining input.old) (λ xs. length xs < 2 ^ 64 - 1
+        → Appends (W.contents output.old) (W.contents output.new) (calls_output file.now xs))) }
+{
     let mut calls = [0u8; streams::BUFFER];
     let mut out = [0u8; streams::BUFFER];
     let mut state = machine::start(file).state;

@@ -1,8 +1,9 @@
 // Standard input and output for the programs: a plan that is read, and the line of a refusal.
 #![tactic(auto)]
 
-ghost use Rattle.std.specs.Prelude.{◌<◌, ◌≤◌, ◌≡◌, IfOk, length, OnErr, take};
-ghost use Rattle.std.specs.Io.KnownBytes.{Consumes, IsAtEnd};
+ghost use Rattle.std.specs.Prelude.{◌<◌, ◌≤◌, ◌≡◌, IfOk, length, OnErr, OnOk, take};
+ghost use Rattle.std.specs.Io.KnownBytes.{Appends, Consumes, IsAtEnd};
+ghost use Rattle.print_lines.specs.Lines.{refused_line};
 ghost use Rattle.plan.specs.Reading.{plan_length};
 ghost use Rattle.streams.specs.Streams.{most_plan_bytes, Came, FirstPlan};
 
@@ -61,9 +62,10 @@ pub fn read_plan<R: Read>(input: &mut R, buf: &mut [u8]) -> io::Result<usize>
 }
 
 // Prints "refused N".
-pub fn print_refused<W: Write>(output: &mut W, number: u8) -> io::Result<()> {
+pub fn print_refused<W: Write>(output: &mut W, number: u8) -> io::Result<()>
+    ensures { OnOk result (Appends (W.contents output.old) (W.contents output.new) (refused_line number)) }
+{
     let mut out = [0u8; print_lines::LINE];
-    let line = print_lines::refused_line(number, &mut out);
-    let end = line.length;
+    let end = print_lines::put_refused(&mut out, 0, number);
     output.write_all(&out[0..end])
 }
