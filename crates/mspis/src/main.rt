@@ -30,7 +30,8 @@ fn print_plan<W: Write>(output: &mut W, counts: plan_rules::Counts) -> io::Resul
     ensures { OnOk result (Appends (W.contents output.old) (W.contents output.new) (plan_line counts)) }
 {
     let mut out = [0u8; print_lines::LINE];
-    let end = print_lines::put_plan(&mut out, 0, counts);
+    let line = print_calls::plan_line(counts, &mut out);
+    let end = line.length;
     output.write_all(&out[0..end])
 }
 

@@ -66,6 +66,7 @@ pub fn print_refused<W: Write>(output: &mut W, number: u8) -> io::Result<()>
     ensures { OnOk result (Appends (W.contents output.old) (W.contents output.new) (refused_line number)) }
 {
     let mut out = [0u8; print_lines::LINE];
-    let end = print_lines::put_refused(&mut out, 0, number);
+    let line = print_lines::refused_line(number, &mut out);
+    let end = line.length;
     output.write_all(&out[0..end])
 }

@@ -4,7 +4,8 @@ use Rattle.print_text.proofs.Lines.{line_fits_lem}
 use Rattle.std.specs.Prelude.{OnOk}
 use Rattle.std.specs.Io.KnownBytes.{Appends}
 use Rattle.print_calls.specs.Output.{end_line}
-use Rattle.mspis.proofs.Lines.{handed_front, end_short}
+use Rattle.streams.proofs.Lines.{handed_front}
+use Rattle.mspis.proofs.Lines.{end_short}
 use Rattle.mspis.proofs.print_end.Goals as goal
 
 pub slice_bounds-write_all-end : goal.slice_bounds-write_all-end
