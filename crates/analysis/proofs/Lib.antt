@@ -1,3 +1,1 @@
-pub mod Ground
 pub mod Told
-pub mod Users

@@ -1,36 +1,25 @@
 -- What each question about a plan file is answered: document 01's number and values for each case.
-use Rattle.std.specs.Prelude.{ℕ, ◌*◌, ◌/◌, ◌%◌, cond, List, [], ◌∷◌, eqb, ℤ, pos, replicate}
+use Rattle.std.specs.Prelude.{ℕ, Bool, Result, Ok, Err, ◌*◌, ◌/◌, ◌%◌, cond, List, [], ◌∷◌, eqb, ℤ, pos, replicate}
 use Rattle.folds.specs.Bytes.{placed_below}
 use Rattle.sizes.specs.Sizes.{most_tasks, most_resources}
 use Rattle.refusals.specs.Outcomes.{Outcome}
+use Rattle.refusals.specs.Refusals.{number, outcome_by}
+use Rattle.refusals.specs.declared.Refusal.{Refusal}
 use Rattle.plan.specs.Acceptance.{refusal}
-use Rattle.plan_reading.specs.Plan.{plan_of}
+use Rattle.plan_reading.specs.Plan.{Plan, plan_of}
 use Rattle.analysis_equations.specs.HoldTimes.{hold_time, hold_at, budget, wait_time}
-use Rattle.analysis_equations.specs.Requirement.{admitted}
 use Rattle.analysis_equations.specs.Questions.{task_number, use_code, processor_code, requirement_code}
 use Rattle.machine_rules.specs.Longest.{longest_wait}
 use Rattle.analysis_requirements.specs.declared.Requirement.{Requirement}
 use Rattle.analysis_requirements.specs.Figures.{requirement_of}
-use Rattle.analysis.specs.declared.Figure.{Figure}
-use Rattle.analysis.specs.declared.Figure.TheVariants as figures
-use Rattle.analysis.specs.declared.RequirementAnswer.{RequirementAnswer}
-use Rattle.analysis.specs.declared.RequirementAnswer.TheVariants as requirements
-use Rattle.analysis.specs.declared.AdmissionAnswer.{AdmissionAnswer}
-use Rattle.analysis.specs.declared.AdmissionAnswer.TheVariants as admissions
-use Rattle.analysis.specs.declared.HoldTimes.{HoldTimes}
 
 -- "Each operation given a plan file first gives 1 to 9 as reading does"; then the number of its own
 unfoldable pub after_reading : List ℕ → ℕ → ℕ
 after_reading f code = cond (eqb (refusal f) 0) code (refusal f)
 
--- a figure, or the refusal where that is not 0: "No figure is given."
-unfoldable pub figure : ℕ → ℕ → Figure
-figure code v = cond (eqb code 0) (figures.Given v) (figures.Refused code)
-
--- what a figure's answer tells
-abbrev pub figure_outcome : Figure → Outcome
-figure_outcome (figures.Given v) = record { number = 0; values = v ∷ [] }
-figure_outcome (figures.Refused code) = record { number = code; values = [] }
+-- what a figure's answer tells: its number and the figure, or the refusal: "No figure is given."
+abbrev pub figure_outcome : Result ℕ Refusal → Outcome
+figure_outcome = outcome_by (λ v. v ∷ [])
 
 -- the hold time of a resource by the task with a tag
 unfoldable pub hold_refusal : List ℕ → ℕ → ℕ → ℕ
@@ -64,10 +53,6 @@ requirement_refusal f tag = after_reading f (requirement_code (plan_of f) tag)
 abbrev pub requirement_figures : List ℕ → ℕ → Requirement
 requirement_figures f tag = requirement_of (plan_of f) (task_number (plan_of f) tag)
 
--- a requirement, or the refusal where that is not 0
-unfoldable pub requirement_given : ℕ → Requirement → RequirementAnswer
-requirement_given code r = cond (eqb code 0) (requirements.Found r) (requirements.Refused code)
-
 -- a number and values, some of which may be negative
 pub record SignedOutcome : Type 0 where
   pub number : ℕ
@@ -79,9 +64,9 @@ requirement_values r =
     pos r.blocking1 ∷ pos r.blocking2 ∷ r.tolerance ∷ r.slack ∷ pos r.side ∷ pos (cond r.met 1 0) ∷ []
 
 -- what a requirement's answer tells
-abbrev pub requirement_outcome : RequirementAnswer → SignedOutcome
-requirement_outcome (requirements.Found r) = record { number = 0; values = requirement_values r }
-requirement_outcome (requirements.Refused code) = record { number = code; values = [] }
+abbrev pub requirement_outcome : Result Requirement Refusal → SignedOutcome
+requirement_outcome (Ok r) = record { number = 0; values = requirement_values r }
+requirement_outcome (Err e) = record { number = number e; values = [] }
 
 -- the refusal with no values, or the values where it is 0
 abbrev pub signed_answered : ℕ → List ℤ → SignedOutcome
@@ -91,27 +76,15 @@ signed_answered code values = record { number = code; values = cond (eqb code 0)
 abbrev pub requirement_says : List ℕ → ℕ → SignedOutcome
 requirement_says f tag = signed_answered (requirement_refusal f tag) (requirement_values (requirement_figures f tag))
 
--- "the question of admission refuse[s] nothing further"
-unfoldable pub admission_answer : List ℕ → AdmissionAnswer
-admission_answer f = cond (eqb (refusal f) 0) (admissions.Decided (admitted (plan_of f))) (admissions.Refused (refusal f))
-
--- 1 for admitted
-abbrev pub admission_outcome : AdmissionAnswer → Outcome
-admission_outcome (admissions.Decided b) = record { number = 0; values = cond b 1 0 ∷ [] }
-admission_outcome (admissions.Refused code) = record { number = code; values = [] }
+-- "the question of admission refuse[s] nothing further": 1 for admitted
+abbrev pub admission_outcome : Result Bool Refusal → Outcome
+admission_outcome = outcome_by (λ b. cond b 1 0 ∷ [])
 
 -- how many hold times there are: one for each task and resource that a plan can have
 abbrev pub hold_count : ℕ
 hold_count = most_tasks * most_resources
 
 -- all hold times of a plan at once: that of resource q by task i stands at i × 16 + q, 0 where the question for it would be
--- refused, or there is no such task; all are 0 where the plan is refused
-unfoldable pub hold_times : List ℕ → HoldTimes
-hold_times f =
-    record {
-      refusal = refusal f;
-      times =
-          cond (eqb (refusal f) 0)
-          (placed_below hold_count (λ x. hold_at (plan_of f) (x / most_resources) (x % most_resources)) (replicate hold_count 0))
-          (replicate hold_count 0);
-    }
+-- refused, or there is no such task
+unfoldable pub hold_times : Plan → List ℕ
+hold_times p = placed_below hold_count (λ x. hold_at p (x / most_resources) (x % most_resources)) (replicate hold_count 0)

@@ -1,12 +1,13 @@
 -- What the private functions of this crate give. None of this is a rule of document 01.
-use Rattle.std.specs.Prelude.{ℕ, ◌<◌, true, List, ◌≡◌, replicate}
+use Rattle.std.specs.Prelude.{ℕ, ◌<◌, true, List, ◌≡◌, replicate, Result, IfOk}
 use Rattle.sizes.specs.Sizes.{most_processors, most_tasks, most_resources}
 use Rattle.plan_reading.specs.Plan.{Plan, plan_of, Checked}
 use Rattle.analysis_equations.specs.Sharing.{uses, global}
 use Rattle.analysis_equations.specs.HoldTimes.{budget, wait_time}
 use Rattle.analysis_equations.specs.Questions.{task_number}
 use Rattle.analysis_figures.specs.Figures.{Known}
-use Rattle.analysis_figures.specs.declared.User.{User}
+use Rattle.refusals.specs.Refusals.{code_of}
+use Rattle.refusals.specs.declared.Refusal.{Refusal}
 use Rattle.analysis_terms.specs.Terms.{term_count}
 use Rattle.analysis_requirements.specs.Tables.{Prepared}
 use Rattle.analysis.specs.Answers.{hold_refusal}
@@ -43,7 +44,7 @@ pub record TaskReady (f t sides : List ℕ) (i : ℕ) : Type 0 where
   pub prepared : Prepared f t sides
   pub task : i < (plan_of f).tasks
 
--- the refusal of a question about a task and a resource; where that is 0, who is asked about
-pub record Found (f : List ℕ) (tag q : ℕ) (figures : List ℕ) (r : User) : Type 0 where
-  pub code : r.code ≡ hold_refusal f tag q
-  pub user : r.code ≡ 0 → Uses f tag q figures r.task
+-- the refusal of a question about a task and a resource, or who is asked about
+pub record Found (f : List ℕ) (tag q : ℕ) (figures : List ℕ) (r : Result ℕ Refusal) : Type 0 where
+  pub code : code_of r ≡ hold_refusal f tag q
+  pub user : IfOk r (Uses f tag q figures)

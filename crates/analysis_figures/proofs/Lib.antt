@@ -1,3 +1,1 @@
-pub mod Ground
 pub mod Cells
-pub mod Waits

@@ -1,5 +1,4 @@
 pub mod Ground
-pub mod Setting
 pub mod Others
 pub mod Holding
 pub mod Tables

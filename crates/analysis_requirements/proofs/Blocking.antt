@@ -1,34 +1,16 @@
--- Equations 4 and 5 over the table of terms.
-use Rattle.analysis_requirements.proofs.Ground.{ℕ, ◌+◌, ◌*◌, ◌<◌, ◌≤◌, min, Bool, true, false, cond, ◌≡◌, refl, ◌∙◌, List}
-use Rattle.analysis_requirements.proofs.Ground.{length, get_or, mul-le-mul, arith, most_tasks, most_sections}
+-- Equation 5 over the table of terms.
+use Rattle.analysis_requirements.proofs.Ground.{ℕ, ◌+◌, ◌*◌, ◌<◌, ◌≤◌, min, Bool, true, false, cond, ◌≡◌, ap, ◌∙◌, List}
+use Rattle.analysis_requirements.proofs.Ground.{get_or, mul-le-mul, arith, most_tasks, most_sections}
 use Rattle.analysis_requirements.proofs.Ground.{most_section_ticks, Plan, plan_of, Valid, valid_plan, lower, global_count}
-use Rattle.analysis_requirements.proofs.Ground.{blocking1, longest_global, most_blocking1, longest_cell}
-use Rattle.analysis_requirements.proofs.Ground.{precedence_cell, count_cell, blocked_cell, term_count, Prepared, under, TaskTerms}
-use Rattle.analysis_requirements.proofs.Ground.{cond_bound}
+use Rattle.analysis_requirements.proofs.Ground.{longest_global, most_blocking1, longest_cell}
+use Rattle.analysis_requirements.proofs.Ground.{precedence_cell, count_cell, under, TaskTerms, sum_step, sum_below}
+use mir.Val.{bool_byte}
 use Rattle.analysis_equations.proofs.Laws.{count_high, global_high}
 use Rattle.analysis_requirements.proofs.Precedences.{table_under}
 
 -- a term of Equation 5
 abbrev pub term : Plan → ℕ → ℕ → ℕ
 term p i j = cond (lower p i j) (min (global_count p i + 1) (global_count p j) * longest_global p j) 0
-
--- x is that term, which is small
-pub record Term (p : Plan) (i j x : ℕ) : Type 0 where
-  pub told : x ≡ term p i j
-  pub high : x ≤ most_blocking1
-
--- for task i, a loop over the n tasks of the plan: what holds all along
-pub record Over (f t : List ℕ) (i n : ℕ) : Type 0 where
-  pub asked : TaskTerms f t i
-  pub all : n ≡ (plan_of f).tasks
-  pub few : n ≤ most_tasks
-  pub long : length t ≡ term_count
-
-pub task_terms : {f t sides : List ℕ} {i : ℕ} → Prepared f t sides → i < (plan_of f).tasks → TaskTerms f t i
-task_terms {f} {i = i} h l =
-    let v = valid_plan f h.plan in
-    let low : i < most_tasks = omega arith in
-    record { plan = h.plan; terms = h.terms; task = l; low = low; few = rw (h.terms.count i low) (count_high (plan_of f) v i) }
 
 module _ {f t : List ℕ} {i : ℕ} (h : TaskTerms f t i) where
   abbrev plan : Plan
@@ -37,35 +19,35 @@ module _ {f t : List ℕ} {i : ℕ} (h : TaskTerms f t i) where
   valid : Valid plan
   valid = valid_plan f h.plan
 
-  pub over : {n : ℕ} → n ≡ plan.tasks → Over f t i n
-  over e = record { asked = h; all = e; few = omega (arith, valid.tasks); long = h.terms.long }
-
-  -- Equation 4
-  pub blocking1_read : (get_or t (count_cell i) 0 + 1) * get_or t (blocked_cell i) 0 ≡ blocking1 plan i
-  unfolding blocking1
-  blocking1_read = rw (h.terms.count i h.low, h.terms.blocked i h.task)
-
-  module _ (j : ℕ) (lj : j < plan.tasks) {s y : ℕ} (es : s ≡ min (get_or t (count_cell i) 0 + 1) (get_or t (count_cell j) 0))
-      (ey : y ≡ cond (under (get_or t (precedence_cell i) 0) (get_or t (precedence_cell j) 0)) (get_or t (longest_cell j) 0) 0) where
+  -- a turn of Equation 5's sum, for task j: what it adds, and that the sum stays small
+  module _ (j : ℕ) (lj : j < plan.tasks) {s b x : ℕ} (es : s ≡ min (get_or t (count_cell i) 0 + 1) (get_or t (count_cell j) 0))
+      (eb : b ≡ bool_byte (under (get_or t (precedence_cell i) 0) (get_or t (precedence_cell j) 0))) (ex : x ≡ get_or t (longest_cell j) 0) where
     low : j < most_tasks
     low = omega (arith, valid.tasks)
 
     shorter : s ≡ min (global_count plan i + 1) (global_count plan j)
     shorter = es ∙ rw (h.terms.count i h.low, h.terms.count j low)
 
-    longest : y ≡ cond (lower plan i j) (longest_global plan j) 0
-    longest = ey ∙ rw (table_under plan valid t h.terms i j h.task lj, h.terms.longest j low)
+    is_lower : b ≡ bool_byte (lower plan i j)
+    is_lower = eb ∙ ap bool_byte (table_under plan valid t h.terms i j h.task lj)
 
-    pub term_is : Term plan i j (s * y)
-    term_is = record { told = rw (shorter, longest) (go (lower plan i j)); high = mul-le-mul few short }
+    longest : x ≡ longest_global plan j
+    longest = ex ∙ h.terms.longest j low
+
+    pub blocking2_step : {sum : ℕ} → sum ≡ sum_below j (term plan i) → sum + s * (b * x) ≡ sum_below (j + 1) (term plan i)
+    blocking2_step e = sum_step j _ e (rw (shorter, is_lower, longest) (go (lower plan i j)))
       where
-        go : (b : Bool) → min (global_count plan i + 1) (global_count plan j) * cond b (longest_global plan j) 0
-            ≡ cond b (min (global_count plan i + 1) (global_count plan j) * longest_global plan j) 0
-        go true = refl
+        go : (t : Bool) → min (global_count plan i + 1) (global_count plan j) * (bool_byte t * longest_global plan j)
+            ≡ cond t (min (global_count plan i + 1) (global_count plan j) * longest_global plan j) 0
+        go true = grind arith
         go false = omega arith
 
-        few : s ≤ most_sections + 1
-        few = omega (arith, shorter, count_high plan valid i)
-
-        short : y ≤ most_section_ticks
-        short = rw longest (cond_bound (lower plan i j) (longest_global plan j) most_section_ticks (λ b. global_high plan valid j))
+    pub blocking2_low : {sum : ℕ} → sum ≤ j * most_blocking1 → sum + s * (b * x) ≤ (j + 1) * most_blocking1
+    blocking2_low l =
+        let few : s ≤ most_sections + 1 = omega (arith, shorter, count_high plan valid i) in
+        let short : b * x ≤ most_section_ticks = rw (is_lower, longest) (one (lower plan i j)) in
+        omega (arith, mul-le-mul few short)
+      where
+        one : (t : Bool) → bool_byte t * longest_global plan j ≤ most_section_ticks
+        one true = omega (arith, global_high plan valid j)
+        one false = omega arith

@@ -1,6 +1,4 @@
 pub mod Ground
 pub mod Precedences
 pub mod Blocking
-pub mod Together
 pub mod Printed
-pub mod Demand

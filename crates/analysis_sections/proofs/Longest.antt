@@ -2,7 +2,7 @@
 use Rattle.analysis_sections.proofs.Ground.{ℕ, ◌+◌, ◌-◌, ◌<◌, ◌≤◌, max, Bool, true, false, cond, ◌&&◌, ◌≡◌, refl, sym, ap, ◌∙◌, List}
 use Rattle.analysis_sections.proofs.Ground.{eqb, ltb, length, get_or, set, replicate, length-replicate, arith, lt-ltb, eq-eqb, ne_eqb}
 use Rattle.analysis_sections.proofs.Ground.{any_below, sum_below, max_below, count_below, max_same, count_step, count_bound, maxed_below}
-use Rattle.analysis_sections.proofs.Ground.{maxed_length, Plan, Valid, processor_of, longest_on, cell, column, ResourceRow}
+use Rattle.analysis_sections.proofs.Ground.{maxed_length, valid_plan, Plan, Valid, processor_of, longest_on, cell, column, ResourceRow}
 use Rattle.folds.proofs.Ground.{zero, suc, ◌||◌, and_comm}
 use Rattle.analysis_equations.specs.Sharing.{section_on, uses, used_on}
 use Rattle.analysis_equations.proofs.Laws.{uses_longest}
@@ -57,16 +57,15 @@ module _ (p : Plan) (v : Valid p) {place : ℕ → ℕ → ℕ} {rows size : ℕ
 
   -- a turn of the loop over the sections
   module _ (n : ℕ) {t : List ℕ} {row : SectionRow} (l : n < p.sections) (e : t ≡ longest_below p place size n) (er : row ≡ p.section n) where
-    pub low_place : place row.task row.resource < length t
-    low_place = rw (e, maxed_length, length-replicate, er) (h.fits _ _ (low_task n l) (low_resource n l))
+    module _ {k : ℕ} (ek : k ≡ place row.task row.resource) where
+      pub low_place : k < length t
+      low_place = rw (ek, e, maxed_length, length-replicate, er) (h.fits _ _ (low_task n l) (low_resource n l))
 
-    pub old_at : get_or t (place row.task row.resource) 0
-        ≡ max_below n (λ s. cond (section_on p row.task row.resource s) (p.section s).length 0)
-    old_at = rw (e, er) (longest_at n _ _ (omega arith) (low_task n l) (low_resource n l))
+      pub old_at : get_or t k 0 ≡ max_below n (λ s. cond (section_on p row.task row.resource s) (p.section s).length 0)
+      old_at = rw (ek, e, er) (longest_at n _ _ (omega arith) (low_task n l) (low_resource n l))
 
-    pub longest_step : {most : ℕ} → most ≡ max (get_or t (place row.task row.resource) 0) row.length
-        → set t (place row.task row.resource) most ≡ longest_below p place size (n + 1)
-    longest_step m = maxed_step n _ (λ s. (p.section s).length) (replicate size 0) e (rw er) (rw er) m
+      pub longest_step : {most : ℕ} → most ≡ max (get_or t k 0) row.length → set t k most ≡ longest_below p place size (n + 1)
+      longest_step m = maxed_step n _ (λ s. (p.section s).length) (replicate size 0) e (ek ∙ rw er) (rw er) m
 
   -- its end
   pub longest_done : (n : ℕ) {t : List ℕ} → n ≡ p.sections → t ≡ longest_below p place size n → LongestAt place rows size p t
@@ -77,6 +76,9 @@ module _ (p : Plan) (v : Valid p) {place : ℕ → ℕ → ℕ} {rows size : ℕ
         long = maxed_length p.sections _ _ (replicate size 0) ∙ length-replicate {A = ℕ} size 0;
         at = λ j q lj lq. longest_at p.sections j q (omega arith) lj lq;
       })
+
+-- that an index is within its table
+pub ruleset place_laws = (valid_plan, by_rows, by_columns, low_place)
 
 -- ── who uses what ──
 
@@ -91,9 +93,6 @@ module _ (p : Plan) where
 
   pub users_few : (k : ℕ) {users : List ℕ} → UsersBelow k users → (q : ℕ) → q < 16 → get_or users q 0 ≤ k
   users_few k u q l = rw (u.at q l) (count_bound k (λ l. used_on p l q))
-
-  pub users_done : (k : ℕ) {users : List ℕ} → k ≡ p.processors → UsersBelow k users → UsersBelow p.processors users
-  users_done k e u = rw e at u
 
 -- a sum is not 0 where one of its parts is not
 sum_any : (n : ℕ) (u : ℕ → Bool) (f : ℕ → ℕ) → ((i : ℕ) → i < n → u i ≡ ltb 0 (f i)) → any_below n u ≡ ltb 0 (sum_below n f)

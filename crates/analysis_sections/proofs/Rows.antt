@@ -1,9 +1,7 @@
--- Rows that a loop over the resources makes.
-use Rattle.analysis_sections.proofs.Ground.{ℕ, ◌+◌, ◌<◌, ◌≤◌, Bool, true, false, ◌≡◌, refl, ◌∙◌, List, ltb, length, set, replicate}
+-- Rows of a figure of each resource.
+use Rattle.analysis_sections.proofs.Ground.{ℕ, ◌+◌, ◌<◌, ◌≤◌, Bool, true, false, ◌≡◌, refl, ◌∙◌, List, ltb, replicate}
 use Rattle.analysis_sections.proofs.Ground.{length-replicate, get_or-replicate, arith, ltb-true, ltb-false, lt-ltb, same_test}
 use Rattle.analysis_sections.proofs.Ground.{ResourceRow}
-use Rattle.folds.specs.Bytes.{placed_below}
-use Rattle.folds.proofs.Arrays.{placed_length, placed_at, placed_step}
 
 -- the tests of a number below k + 1 and below k agree for all but k
 pub ltb_more : (x k : ℕ) → (x ≡ k → ⊥) → ltb x (k + 1) ≡ ltb x k
@@ -19,25 +17,6 @@ by_lt P m n f g = go (ltb m n) refl
     go : (b : Bool) → ltb m n ≡ b → P b
     go true e = f (ltb-true m n e)
     go false e = g (ltb-false m n e)
-
--- ── a row made cell by cell ──
-
--- the figures f are in place at the resources below q, in what was l
-pub record Made (f : ℕ → ℕ) (l : List ℕ) (q : ℕ) (m : List ℕ) : Type 0 where
-  pub within : q ≤ 16
-  pub made : m ≡ placed_below q f l
-
-pub row_none : (f : ℕ → ℕ) (l : List ℕ) → Made f l 0 l
-unfolding placed_below
-row_none f l = record { within = omega arith; made = refl }
-
-pub row_next : (q : ℕ) (f : ℕ → ℕ) (l : List ℕ) {m : List ℕ} {v : ℕ} → Made f l q m → q < 16 → v ≡ f q → Made f l (q + 1) (set m q v)
-row_next q f l h lq e = record { within = omega arith; made = placed_step q f l h.made e }
-
-pub row_done : (q : ℕ) (f : ℕ → ℕ) (l : List ℕ) {m : List ℕ} → Made f l q m → 16 ≤ q → length l ≡ 16 → ResourceRow f m
-row_done q f l h lq s =
-    let e : q ≡ 16 = omega (arith, h.within) in
-    rw (h.made, e) (record { long = placed_length 16 f l ∙ s; at = λ x lx. placed_at 16 x f l 0 lx (omega (arith, s)) })
 
 -- a row of zeros, and two figures that agree
 pub row_zeros : (f : ℕ → ℕ) → ((q : ℕ) → q < 16 → f q ≡ 0) → ResourceRow f (replicate 16 0)

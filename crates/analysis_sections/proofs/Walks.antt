@@ -110,3 +110,6 @@ pub sums_high : (p : Plan) (f : ℕ → ℕ → ℕ) (k : ℕ) → Valid p → (
     → (q : ℕ) → q < 16 → get_or row q 0 ≤ 64000
 sums_high p f k v x h m q l =
     omega (arith, m.at q l, v.tasks, sum_where_bound p.tasks 1000 (passed p k x) (λ j. f j q) (λ j lj t. h j q))
+
+-- what `used_row` cites at most of its goals
+pub ruleset walk_laws = (valid_plan, the_sum, fold_none, fold_done, order_there, last_sits)

@@ -36,49 +36,42 @@ fn put_shared(file: &[u8], figures: &[u16], terms: &mut [u16])
     requires { (Known file.now figures.now) × (terms.old ≡ replicate term_count 0) }
     ensures { TermsBelow (plan_of file.now) most_resources 0 0 0 terms.new }
 {
-    let mut q = 0;
-    while q < sizes::RESOURCES {
-        let shared = analysis_figures::is_global(file, figures, q);
-        terms[SHARED + q] = folds::chosen(shared, 1, 0);
-        q += 1;
+    for q in 0..sizes::RESOURCES {
+        terms[SHARED + q] = u16::from(analysis_figures::is_global(file, figures, q));
     }
 }
 
 // The precedence of each task: its processor and its priority as one number.
+#[tactic(auto, using(plan_reading::proofs::Laws::valid_plan))]
 fn put_precedences(file: &[u8], terms: &mut [u16])
     requires { Filling file.now most_resources 0 0 0 terms.old }
     ensures { TermsBelow (plan_of file.now) most_resources (plan_of file.now).tasks 0 0 terms.new }
 {
     let counts = plan_reading::checked::counts(file);
-    let n = folds::wide(counts.tasks);
-    let mut j = 0;
-    while j < n {
+    for j in 0..usize::from(counts.tasks) {
         let row = plan_reading::checked::task(file, j);
-        terms[PRECEDENCES + j] = folds::half(row.processor) * 256 + folds::half(row.priority);
-        j += 1;
+        terms[PRECEDENCES + j] = u16::from_le_bytes([row.priority, row.processor]);
     }
 }
 
 // Each task's longest global section and how many it has, and each resource's ceiling, in one pass over the sections.
+#[tactic(auto, using(std::proofs::lemmas::Grind::common_steps, plan_reading::proofs::Laws::valid_plan))]
 fn put_sections(file: &[u8], terms: &mut [u16])
     requires { Filling file.now most_resources (plan_of file.now).tasks 0 0 terms.old }
     ensures { Sectioned (plan_of file.now) terms.new }
 {
     let counts = plan_reading::checked::counts(file);
-    let n = counts.sections as usize;
-    let mut s = 0;
-    while s < n {
+    for s in 0..usize::from(counts.sections) {
         let row = plan_reading::checked::section(file, s);
-        let j = folds::wide(row.task);
-        let q = folds::wide(row.resource);
+        let j = usize::from(row.task);
+        let q = usize::from(row.resource);
         let shared = terms[SHARED + q];
-        let longest = folds::longer(terms[j], folds::chosen(shared == 1, row.length, 0));
+        let longest = terms[j].max(if shared == 1 { row.length } else { 0 });
         let count = terms[COUNTS + j] + shared;
-        let ceiling = folds::longer(terms[CEILINGS + q], terms[PRECEDENCES + j] % 256);
+        let ceiling = terms[CEILINGS + q].max(terms[PRECEDENCES + j] % 256);
         terms[j] = longest;
         terms[COUNTS + j] = count;
         terms[CEILINGS + q] = ceiling;
-        s += 1;
     }
 }
 
@@ -87,33 +80,30 @@ fn raise_blocked(terms: &mut [u16], above: u16, top: u16, ticks: u16)
     requires { length terms.old ≡ term_count }
     ensures { TasksRaised above top ticks most_tasks terms.old terms.new }
 {
-    let mut i = 0;
-    while i < sizes::TASKS {
+    for i in 0..sizes::TASKS {
         let mine = terms[PRECEDENCES + i];
         let is_blocked = (above < mine) & (mine <= top);
-        terms[BLOCKED + i] = folds::longer(terms[BLOCKED + i], folds::chosen(is_blocked, ticks, 0));
-        i += 1;
+        let blocked = if is_blocked { ticks } else { 0 };
+        terms[BLOCKED + i] = blocked.max(terms[BLOCKED + i]);
     }
 }
 
 // The longest section that blocks each task: a section on a local resource blocks the tasks above its own, up to the ceiling.
+#[tactic(auto, using(plan_reading::proofs::Laws::valid_plan))]
 fn put_blocked(file: &[u8], terms: &mut [u16])
     requires { (Checked file.now) × (Sectioned (plan_of file.now) terms.old) }
     ensures { TermTable (plan_of file.now) terms.new }
 {
     let counts = plan_reading::checked::counts(file);
-    let n = counts.sections as usize;
-    let mut s = 0;
-    while s < n {
+    for s in 0..usize::from(counts.sections) {
         let row = plan_reading::checked::section(file, s);
-        let j = folds::wide(row.task);
-        let q = folds::wide(row.resource);
+        let j = usize::from(row.task);
+        let q = usize::from(row.resource);
         if terms[SHARED + q] == 0 {
             let theirs = terms[PRECEDENCES + j];
             let top = theirs / 256 * 256 + terms[CEILINGS + q];
             raise_blocked(terms, theirs, top, row.length);
         }
-        s += 1;
     }
 }
 

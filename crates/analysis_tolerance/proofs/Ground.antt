@@ -1,10 +1,10 @@
 -- The names that the proofs of this crate share, by one module: a definition that moves is named anew here alone.
 unfoldable pub use Rattle.folds.specs.Signed.{greatest_to}
 pub use Rattle.folds.proofs.SignedLaws.{back}
-pub use Rattle.folds.proofs.Ground.{Bool, List, ◌&&◌, ◌*◌, ◌+◌, ◌-◌, ◌/◌, ◌%◌, ◌<◌, ◌∙◌, ◌≡◌, ◌≤◌, ap, arith, cond, eqb}
-pub use Rattle.folds.proofs.Ground.{eq-eqb, false, get_or, get_or-replicate, length, length-replicate, lt-ltb, ltb, ltb-true, mul-le-mul, rules}
-pub use Rattle.folds.proofs.Ground.{refl, replicate, set, suc, suc-mul, sym, true, zero, ℕ, ⊎_elim}
-unfoldable pub use Rattle.folds.specs.Below.{count_below, sum_below}
+pub use Rattle.folds.proofs.Ground.{List, ◌&&◌, ◌*◌, ◌+◌, ◌-◌, ◌/◌, ◌%◌, ◌<◌, ◌∙◌, ◌≡◌, ◌≤◌, ap, arith, cond, eqb}
+pub use Rattle.folds.proofs.Ground.{false, get_or, get_or-replicate, length-replicate, ltb}
+pub use Rattle.folds.proofs.Ground.{refl, replicate, set, suc, suc-mul, sym, true, zero, ℕ}
+unfoldable pub use Rattle.folds.specs.Below.{sum_below}
 pub use Rattle.folds.proofs.Figures.{sum_bound, sum_step}
 pub use Rattle.analysis_equations.proofs.Laws.{ceil_bound}
 pub use Rattle.sizes.specs.Sizes.{most_tasks}
@@ -15,7 +15,7 @@ pub use Rattle.plan_reading.proofs.Laws.{valid_plan}
 pub use Rattle.analysis_equations.specs.Sharing.{higher, priority_of, processor_of}
 pub use Rattle.analysis_equations.specs.Blocking.{ceil_div}
 unfoldable pub use Rattle.analysis_equations.specs.Requirement.{demand, left, tolerance}
-pub use Rattle.analysis_equations.specs.Bounds.{most_demand, most_demand_of_one, most_period}
+pub use Rattle.analysis_equations.specs.Bounds.{most_period}
 pub use lib.IntN.{◌-ℤ◌, pos, ℤ}
 pub use Rattle.analysis_terms.specs.Terms.{TermTable, precedence_cell}
 pub use Rattle.analysis_tolerance.specs.Inner.{HigherTasks, Scanned, Timed, above}

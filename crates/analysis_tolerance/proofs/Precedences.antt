@@ -1,21 +1,11 @@
 -- Who is above whom, by the precedences in the table of terms.
-use Rattle.analysis_tolerance.proofs.Ground.{ℕ, ◌+◌, ◌*◌, ◌<◌, ◌&&◌, ◌≡◌, List, ltb, get_or, arith, eq-eqb, lt-ltb, ltb-true, eqb}
+use Rattle.std.proofs.lemmas.Bool.Decides.{nat_tests}
+use Rattle.analysis_tolerance.proofs.Ground.{ℕ, ◌+◌, ◌*◌, ◌<◌, ◌&&◌, ◌≡◌, List, ltb, get_or, arith, eqb}
 use Rattle.analysis_tolerance.proofs.Ground.{Plan, Valid, processor_of, priority_of, higher, precedence_cell, TermTable, above}
-use Rattle.folds.proofs.Ground.{eqb-true}
-use Rattle.folds.proofs.Tests.{same_test, and_parts}
 
 -- a number of processor l is above x of processor k, and below all of the processors behind k, just where l is k and y above x
 between : (k l x y : ℕ) → x < 256 → y < 256 → above (k * 256 + x) ((k + 1) * 256) (l * 256 + y) ≡ (eqb l k && ltb x y)
-between k l x y lx ly =
-    same_test (above (k * 256 + x) ((k + 1) * 256) (l * 256 + y)) (eqb l k && ltb x y)
-    (λ t. let both = and_parts (ltb (k * 256 + x) (l * 256 + y)) (ltb (l * 256 + y) ((k + 1) * 256)) t in
-    let low : k * 256 + x < l * 256 + y = ltb-true _ _ both.0 in
-    let high : l * 256 + y < (k + 1) * 256 = ltb-true _ _ both.1 in
-    rw (eq-eqb l k (omega arith), lt-ltb x y (omega arith)))
-    (λ t. let both = and_parts (eqb l k) (ltb x y) t in
-    let same : l ≡ k = eqb-true _ _ both.0 in
-    let less : x < y = ltb-true _ _ both.1 in
-    rw (lt-ltb (k * 256 + x) (l * 256 + y) (omega arith), lt-ltb (l * 256 + y) ((k + 1) * 256) (omega arith)))
+between k l x y lx ly = grind (arith, nat_tests)
 
 module _ (p : Plan) (v : Valid p) (t : List ℕ) (h : TermTable p t) (i j : ℕ) (li : i < p.tasks) (lj : j < p.tasks) where
   pub table_above : above (get_or t (precedence_cell i) 0) ((processor_of p i + 1) * 256) (get_or t (precedence_cell j) 0) ≡ higher p i j

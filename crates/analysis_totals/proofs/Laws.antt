@@ -1,18 +1,21 @@
--- What the totals tell: of the user of a global resource and its fellows, and of a processor.
-use Rattle.analysis_totals.proofs.Ground.{ℕ, ◌+◌, ◌<◌, Bool, true, false, ◌&&◌, not, and-true, and-false, ◌≡◌, refl, sym, ap, ◌∙◌, List}
-use Rattle.analysis_totals.proofs.Ground.{true≢false, eqb, ltb, get_or, eq-eqb, ne_eqb, lt-ltb, arith, count_below, most_processors, most_resources}
-use Rattle.analysis_totals.proofs.Ground.{plan_of, valid_plan, Plan, Valid, processor_of, uses, used_on, global, hold_at, wait_time, users_below}
-use Rattle.analysis_totals.proofs.Ground.{holds_below, hold_cell, share_count, users_cell, sum_cell, wait_cell, Totals, SharingTask, TotalPlace}
-use mathlib.Core.Bool.{not-not}
-use Prim.Native.Nat.{zero, suc}
-use Rattle.folds.specs.Below.{any_below}
+-- What the totals tell: of the users of a resource on a processor, and of the user of a global resource and its fellows.
+use Rattle.std.proofs.Common.{ℕ, zero, suc, ◌+◌, ◌<◌, ◌≡◌, Bool, true, false, ◌&&◌, not, eqb, ltb, List, get_or, refl, sym, ap, ◌∙◌, arith}
+use mathlib.Core.Bool.{and-true, and-false, not-not, true≢false}
+use Rattle.folds.specs.Below.{any_below, count_below}
+use Rattle.folds.proofs.Ground.{eq-eqb, ne_eqb, lt-ltb}
 use Rattle.folds.proofs.Tests.{any_same, any_none}
 use Rattle.folds.proofs.Figures.{count_set}
 use Rattle.folds.proofs.Ranges.{any_count, sum_insert}
 use Rattle.folds.proofs.Searches.{on_le}
-use Rattle.analysis_equations.specs.HoldTimes.{fellow}
+use Rattle.sizes.specs.Sizes.{most_processors, most_resources}
+use Rattle.plan_reading.specs.Plan.{plan_of, Plan, Valid}
+use Rattle.plan_reading.proofs.Laws.{valid_plan}
+use Rattle.analysis_equations.specs.Sharing.{processor_of, uses, used_on, global}
+use Rattle.analysis_equations.specs.HoldTimes.{hold_at, wait_time, fellow}
 use Rattle.analysis_equations.specs.Blocking.{fellow_holds}
 use Rattle.analysis_equations.proofs.Laws.{hold_zero, past_global, fellow_holds_lem}
+use Rattle.analysis_totals.specs.Totals.{users_below, holds_below, share_count, users_cell, sum_cell, wait_cell, Totals, SharingTask}
+use Rattle.analysis_figures.proofs.Cells.{told}
 
 module _ (p : Plan) (v : Valid p) where
   -- i is a task of processor k with a hold time of q
@@ -61,42 +64,27 @@ module _ (p : Plan) (v : Valid p) where
         (λ j lj d. rw (ne_eqb j i d, and-true))
         ∙ ap (λ (s : ℕ). s + hold_at p i q) (sym (fellow_holds_lem p i q g))
 
--- the user of a global resource
+-- of a task that uses a global resource: the resource is the plan's; the users of the resource on its processor are its fellows and
+-- itself, and so are their hold times; its processor's wait time stands in the table
 module _ {f figures t : List ℕ} {i q : ℕ} (u : SharingTask f figures t i q) where
   pub user_resource : q < (plan_of f).resources
   user_resource =
       on_le (q < (plan_of f).resources) (plan_of f).resources q
       (λ h. absurd (true≢false (sym u.shared ∙ past_global _ (valid_plan f u.added.known.plan) q h))) (λ h. h)
 
-  pub user_share : TotalPlace t (processor_of (plan_of f) i) q
-  user_share =
-      let v = valid_plan f u.added.known.plan in
-      record {
-        long = u.added.totals.sums.long;
-        processor = omega (arith, (v.every_task_fits i u.task).processor, v.processors);
-        resource = omega (arith, user_resource, v.resources);
-      }
+  pub users_are : get_or t (users_cell (processor_of (plan_of f) i) q) 0 ≡ count_below (plan_of f).tasks (fellow (plan_of f) i q) + 1
+  users_are =
+      u.added.totals.sums.users _ q (grind (arith, told)) (grind (arith, told, user_resource))
+      ∙ users_fellows _ (valid_plan f u.added.known.plan) i q u.task u.shared u.used
 
-  pub wait_told : get_or t (wait_cell (processor_of (plan_of f) i) q) 0 ≡ wait_time (plan_of f) (processor_of (plan_of f) i) q
-  wait_told = u.added.totals.wait _ q ((valid_plan f u.added.known.plan).every_task_fits i u.task).processor user_resource
+  pub holds_are : get_or t (share_count + users_cell (processor_of (plan_of f) i) q) 0 ≡ fellow_holds (plan_of f) i q + hold_at (plan_of f) i q
+  holds_are =
+      let cell : share_count + users_cell (processor_of (plan_of f) i) q ≡ sum_cell (processor_of (plan_of f) i) q = omega arith in
+      rw cell (u.added.totals.sums.holds _ q (grind (arith, told)) (grind (arith, told, user_resource))
+      ∙ holds_fellows _ (valid_plan f u.added.known.plan) i q u.task u.shared u.used)
 
-  -- by the number of its processor: the users without itself are its fellows, and so are their hold times without its own
-  module _ {k : ℕ} (e : k ≡ processor_of (plan_of f) i) where
-    pub share_of : TotalPlace t k q
-    share_of = rw e user_share
+  pub wait_is : get_or t (wait_cell (processor_of (plan_of f) i) q) 0 ≡ wait_time (plan_of f) (processor_of (plan_of f) i) q
+  wait_is = u.added.totals.wait _ q ((valid_plan f u.added.known.plan).every_task_fits i u.task).processor user_resource
 
-    pub wait_of_lem : get_or t (wait_cell k q) 0 ≡ wait_time (plan_of f) (processor_of (plan_of f) i) q
-    wait_of_lem = rw e wait_told
-
-    pub users_of : get_or t (users_cell k q) 0 ≡ count_below (plan_of f).tasks (fellow (plan_of f) i q) + 1
-    users_of =
-        u.added.totals.sums.users k q share_of.processor share_of.resource
-        ∙ rw e (users_fellows _ (valid_plan f u.added.known.plan) i q u.task u.shared u.used)
-
-    pub holds_of : {hold : ℕ} → hold ≡ get_or figures (hold_cell i q) 0 → get_or t (share_count + users_cell k q) 0 ≡ fellow_holds (plan_of f) i q + hold
-    holds_of {hold} eh =
-        let v = valid_plan f u.added.known.plan in
-        let cell : share_count + users_cell k q ≡ sum_cell k q = omega arith in
-        let own : hold ≡ hold_at (plan_of f) i q = eh ∙ u.added.known.figures.hold i q (omega (arith, v.tasks, u.task)) share_of.resource in
-        rw (cell, own) (u.added.totals.sums.holds k q share_of.processor share_of.resource
-        ∙ rw e (holds_fellows _ v i q u.task u.shared u.used))
+-- what the function that reads the totals of such a task relies on
+pub ruleset users = (told, user_resource, users_are, holds_are, wait_is)

@@ -3,7 +3,7 @@
 // `requires`.
 #![tactic(auto)]
 
-ghost use Rattle.std.specs.Prelude.{◌≡◌, cond, ◌≤◌, get_or, replicate};
+ghost use Rattle.std.specs.Prelude.{◌≡◌, get_or, replicate};
 ghost use Rattle.folds.specs.Below.{count_below};
 ghost use Rattle.sizes.specs.Sizes.{most_resources};
 ghost use Rattle.plan_reading.specs.Plan.{plan_of};
@@ -30,24 +30,16 @@ const WAITS: usize = 2 * SHARES;
 // The totals.
 pub const TOTALS: usize = 3 * SHARES;
 
-// 1 for true.
-fn flag(b: bool) -> u32
-    ensures { (result ≡ cond b 1 0) × (result ≤ 1) }
-{
-    b as u32
-}
-
 // Adds task j to the users of processor k and to their hold times, at each resource.
 fn add_task(figures: &[u16], totals: &mut [u32], j: usize, k: usize)
     requires { TaskAddable figures.now totals.old j k }
     ensures { TaskAdded figures.now j k most_resources totals.old totals.new }
 {
-    let mut q = 0;
-    while q < sizes::RESOURCES {
+    for q in 0..sizes::RESOURCES {
         let hold = analysis_figures::hold_at(figures, j, q);
-        totals[k * sizes::RESOURCES + q] += flag(hold != 0);
-        totals[SUMS + k * sizes::RESOURCES + q] += hold as u32;
-        q += 1;
+        let at = k * sizes::RESOURCES + q;
+        totals[at] += u32::from(hold != 0);
+        totals[SUMS + at] += u32::from(hold);
     }
 }
 
@@ -57,27 +49,22 @@ fn put_sums(file: &[u8], figures: &[u16], totals: &mut [u32])
     ensures { SumsBelow (plan_of file.now) (plan_of file.now).tasks totals.new }
 {
     let counts = plan_reading::checked::counts(file);
-    let n = folds::wide(counts.tasks);
-    let mut j = 0;
-    while j < n {
+    for j in 0..usize::from(counts.tasks) {
         let row = plan_reading::checked::task(file, j);
-        add_task(figures, totals, j, folds::wide(row.processor));
-        j += 1;
+        add_task(figures, totals, j, usize::from(row.processor));
     }
 }
 
 // The wait times of processor k.
+#[tactic(auto, using(analysis_figures::proofs::Cells::told))]
 fn put_waits_of(file: &[u8], figures: &[u16], totals: &mut [u32], k: u8)
     requires { Waiting file.now figures.now k 0 totals.old }
     ensures { WaitsBelow (plan_of file.now) k (plan_of file.now).resources totals.new }
 {
     let counts = plan_reading::checked::counts(file);
-    let n = folds::wide(counts.resources);
-    let row = WAITS + folds::wide(k) * sizes::RESOURCES;
-    let mut q = 0;
-    while q < n {
+    let row = WAITS + usize::from(k) * sizes::RESOURCES;
+    for q in 0..usize::from(counts.resources) {
         totals[row + q] = analysis_figures::wait_in(file, figures, k, q);
-        q += 1;
     }
 }
 
@@ -88,10 +75,8 @@ pub fn fill_totals(file: &[u8], figures: &[u16], totals: &mut [u32])
 {
     put_sums(file, figures, totals);
     let counts = plan_reading::checked::counts(file);
-    let mut k = 0u8;
-    while k < counts.processors {
+    for k in 0..counts.processors {
         put_waits_of(file, figures, totals, k);
-        k += 1;
     }
 }
 
@@ -112,16 +97,17 @@ pub fn wait_at(totals: &[u32], k: usize, q: usize) -> u32
 }
 
 // The fellows of task i on the global resource q, which it uses: the users of its processor without itself.
+#[tactic(auto, using(crate::proofs::Laws::users))]
 pub fn fellows_of(file: &[u8], figures: &[u16], totals: &[u32], i: usize, q: usize) -> Fellows
     requires { SharingTask file.now figures.now totals.now i q }
     ensures count_value { result.count ≡ count_below (plan_of file.now).tasks (fellow (plan_of file.now) i q) }
     ensures holds_value { result.holds ≡ fellow_holds (plan_of file.now) i q }
 {
     let own = plan_reading::checked::task(file, i);
-    let at = folds::wide(own.processor) * sizes::RESOURCES + q;
+    let at = usize::from(own.processor) * sizes::RESOURCES + q;
     let hold = analysis_figures::hold_at(figures, i, q);
     Fellows {
         count: totals[at] - 1,
-        holds: totals[SUMS + at] - hold as u32,
+        holds: totals[SUMS + at] - u32::from(hold),
     }
 }

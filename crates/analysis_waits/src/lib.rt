@@ -15,12 +15,13 @@ pub struct Longest {
 }
 
 // The longest wait of task i for the global resource q, which it uses: the limit with all its fellows ahead.
+#[tactic(auto, using(crate::proofs::Limit::limit))]
 pub fn longest_of(file: &[u8], figures: &[u16], totals: &[u32], i: usize, q: usize) -> Longest
     requires { SharingTask file.now figures.now totals.now i q }
     ensures { (result.fellows ≡ length (fellows (plan_of file.now) i q)) × (result.wait ≡ longest_wait (plan_of file.now) i q) }
 {
     let task = plan_reading::checked::task(file, i);
-    let wait = analysis_totals::wait_at(totals, folds::wide(task.processor), q);
+    let wait = analysis_totals::wait_at(totals, usize::from(task.processor), q);
     let found = analysis_totals::fellows_of(file, figures, totals, i, q);
     Longest {
         fellows: found.count,

@@ -1,9 +1,10 @@
 -- What a call is answered on the state that a list of calls returned is what the rules say after that list, and the state is the one
 -- that the lines of the rules tell.
-use Rattle.bench_hooks.proofs.Ground.{ℕ, Bool, cond, ◌≡◌, refl, sym, ap, List, arith, by_eq, plan_of, refusal, answer_number}
-use Rattle.folds.proofs.Ground.{◌/◌, ◌%◌, ◌<◌, [], ◌∷◌, length, get_or, mod-lt}
+use Rattle.std.proofs.Common.{ℕ, ◌/◌, ◌%◌, ◌<◌, Bool, cond, ◌≡◌, refl, sym, ap, List, [], ◌∷◌, length, get_or, mod-lt, arith}
+use Rattle.folds.proofs.Arrays.{by_eq}
+use Rattle.plan_reading.specs.Plan.{plan_of}
 use Rattle.sizes.specs.Sizes.{most_processors, most_tasks, most_resources}
-use Rattle.plan.specs.Acceptance.{Accepted}
+use Rattle.plan.specs.Acceptance.{Accepted, refusal}
 use Rattle.plan.proofs.Laws.{accepted_valid}
 use Rattle.machine_rules.specs.declared.Call.{Call}
 use Rattle.machine_rules.specs.declared.Answer.TheVariants.{Refused}
@@ -17,7 +18,7 @@ use Rattle.machine.specs.Replies.{reply}
 use Rattle.machine.specs.Promise.{FreshRan}
 use Rattle.machine.proofs.Answered.{plan_refused, refused_reply}
 use Rattle.machine.proofs.Kept.{fresh_is, returned_answers}
-use Rattle.bench_hooks.specs.Calling.{answer_after, call_number, row_number, view_after, state_after}
+use Rattle.bench_hooks.specs.Calling.{answer_number, answer_after, call_number, row_number, view_after, state_after}
 
 -- states that agree in all rows have the same numbers
 same_number : (s t : State) → SameRows s t → (x : ℕ) → row_number s x ≡ row_number t x

@@ -1,3 +1,1 @@
-pub mod Ground
 pub mod After
-pub mod Numbers

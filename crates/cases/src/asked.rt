@@ -1,18 +1,17 @@
 // Questions about a plan: what is asked stands at the front of the case, the file behind it.
 use crate::{given, print, same};
-use analysis::{AdmissionAnswer, Figure, HOLDS, RequirementAnswer};
 use analysis_requirements::Requirement;
 use print_sheet::SHEET;
-use print_text::Handed;
+use refusals::Refusal;
 use std::io;
 
-fn figure(rt: &impl Print, answer: Figure, name: &[u8]) -> io::Result<()> {
+fn figure(rt: &impl Print, answer: Result<u32, Refusal>, name: &[u8]) -> io::Result<()> {
     match answer {
-        Figure::Given(n) => {
+        Ok(n) => {
             print::text(rt, name)?;
-            print::number(rt, n as u64)
+            print::number(rt, u64::from(n))
         }
-        Figure::Refused(code) => print::refused(rt, code),
+        Err(refusal) => print::refused(rt, refusal),
     }
 }
 
@@ -65,8 +64,8 @@ pub fn wait(rt: &impl Print, case: &[u8]) -> io::Result<()> {
 
 fn found(rt: &impl Print, r: Requirement) -> io::Result<()> {
     print::text(rt, b"requirement")?;
-    print::number(rt, r.blocking1 as u64)?;
-    print::number(rt, r.blocking2 as u64)?;
+    print::number(rt, u64::from(r.blocking1))?;
+    print::number(rt, u64::from(r.blocking2))?;
     print::signed(rt, r.tolerance)?;
     print::signed(rt, r.slack)?;
     print::number(rt, r.side)?;
@@ -77,62 +76,58 @@ fn found(rt: &impl Print, r: Requirement) -> io::Result<()> {
 pub fn requirement(rt: &impl Print, case: &[u8]) -> io::Result<()> {
     let tag = given::word(case, 0);
     match analysis::requirement(file(case, 2), tag) {
-        RequirementAnswer::Found(r) => found(rt, r),
-        RequirementAnswer::Refused(code) => print::refused(rt, code),
+        Ok(r) => found(rt, r),
+        Err(refusal) => print::refused(rt, refusal),
     }
 }
 
 // Whether the plan is admitted.
 pub fn admission(rt: &impl Print, case: &[u8]) -> io::Result<()> {
     match analysis::admission(case) {
-        AdmissionAnswer::Decided(b) => print::which(rt, b, b"admitted", b"not admitted"),
-        AdmissionAnswer::Refused(code) => print::refused(rt, code),
+        Ok(b) => print::which(rt, b, b"admitted", b"not admitted"),
+        Err(refusal) => print::refused(rt, refusal),
     }
 }
 
-// All hold times that are not 0, in the order of resources and then of tasks.
-pub fn holds(rt: &impl Print, case: &[u8]) -> io::Result<()> {
-    let found = analysis::hold_times(case);
-    if found.refusal != 0 {
-        return print::refused(rt, found.refusal);
-    }
+// Hold times that are not 0, in the order of resources and then of tasks.
+fn times(rt: &impl Print, times: &[u16; analysis::HOLDS]) -> io::Result<()> {
     print::text(rt, b"holds")?;
-    let times = found.times;
-    let mut x = 0;
-    while x < HOLDS {
-        let q = x / sizes::TASKS;
-        let i = x % sizes::TASKS;
-        let time = times[i * sizes::RESOURCES + q];
+    for x in 0..analysis::HOLDS {
+        let time = times[x % sizes::TASKS * sizes::RESOURCES + x / sizes::TASKS];
         if time != 0 {
-            print::number(rt, time as u64)?;
+            print::number(rt, u64::from(time))?;
         }
-        x += 1;
     }
     Ok(())
 }
 
+// All of a plan.
+pub fn holds(rt: &impl Print, case: &[u8]) -> io::Result<()> {
+    match analysis::hold_times(case) {
+        Ok(found) => times(rt, &found),
+        Err(refusal) => print::refused(rt, refusal),
+    }
+}
+
 // Makes a sheet in the front of the buffer, of which the case says in four bytes how much is lent.
-fn make(case: &[u8], buf: &mut [u8]) -> Handed {
-    let room = given::at_most(given::length(case), buf.len());
+fn make(case: &[u8], buf: &mut [u8]) -> Result<usize, Refusal> {
+    let room = given::length(case).min(buf.len());
     print_sheet::sheet(file(case, 4), &mut buf[0..room])
 }
 
 // The sheet of a plan on lines of its own, behind its length and whether what lies behind it in the buffer is as it was.
 pub fn sheet(rt: &impl Print, case: &[u8]) -> io::Result<()> {
     let mut buf = [same::FILL; SHEET];
-    let made = make(case, &mut buf);
-    if made.refusal == 0 {
-        print::text(rt, b"sheet")?;
-        print::number(rt, made.length as u64)?;
-        print::which(
-            rt,
-            same::untouched(&buf, made.length),
-            b" right\n",
-            b" wrong\n",
-        )?;
-        print::text(rt, given::without_end(&buf, made.length))
-    } else {
-        print::refused(rt, made.refusal)?;
-        print::unchanged(rt, same::untouched(&buf, 0))
+    match make(case, &mut buf) {
+        Ok(length) => {
+            print::text(rt, b"sheet")?;
+            print::number(rt, length as u64)?;
+            print::which(rt, same::untouched(&buf, length), b" right\n", b" wrong\n")?;
+            print::text(rt, given::without_end(&buf, length))
+        }
+        Err(refusal) => {
+            print::refused(rt, refusal)?;
+            print::unchanged(rt, same::untouched(&buf, 0))
+        }
     }
 }

@@ -1,5 +1,5 @@
 // Calls of the machine: a plan file stands at the front of the case, its length in two bytes before it.
-use crate::{given, print, same};
+use crate::{given, print};
 use machine_calls::CallBytes;
 use machine_replies::Reply;
 use machine_rules::{Answer, Call};
@@ -15,10 +15,7 @@ struct Outcome {
 }
 
 fn is_refusal(answer: Answer) -> bool {
-    match answer {
-        Answer::Refused(_) => true,
-        _ => false,
-    }
+    matches!(answer, Answer::Refused(_))
 }
 
 // An answer; behind the words of a tick the number of cuts that came with them.
@@ -27,22 +24,22 @@ fn answer(rt: &impl Print, answer: Answer, cut_count: u32) -> io::Result<()> {
         Answer::Granted => print::text(rt, b"granted"),
         Answer::Waits(ahead, limit) => {
             print::text(rt, b"waits")?;
-            print::number(rt, ahead as u64)?;
-            print::number(rt, limit as u64)
+            print::number(rt, u64::from(ahead))?;
+            print::number(rt, u64::from(limit))
         }
         Answer::Next(tag) => {
             print::text(rt, b"to")?;
-            print::number(rt, tag as u64)
+            print::number(rt, u64::from(tag))
         }
         Answer::Free => print::text(rt, b"free"),
         Answer::Left => print::text(rt, b"left"),
         Answer::Ticked(cuts, grants) => {
             print::text(rt, b"tick")?;
-            print::number(rt, cuts as u64)?;
-            print::number(rt, grants as u64)?;
-            print::number(rt, cut_count as u64)
+            print::number(rt, u64::from(cuts))?;
+            print::number(rt, u64::from(grants))?;
+            print::number(rt, u64::from(cut_count))
         }
-        Answer::Refused(code) => print::refused(rt, code),
+        Answer::Refused(code) => print::number_refused(rt, code),
     }
 }
 
@@ -82,11 +79,9 @@ fn none(rt: &impl Print, state: State) -> io::Result<Outcome> {
 
 // The call in these bytes, where they are one.
 fn call(rt: &impl Print, file: &[u8], state: State, bytes: CallBytes) -> io::Result<Outcome> {
-    let decoded = machine_calls::decode(bytes.letter, bytes.tag, bytes.resource);
-    if !decoded.known {
+    let Some(wanted) = machine_calls::decode(bytes.letter, bytes.tag, bytes.resource) else {
         return none(rt, state);
-    }
-    let wanted = decoded.call;
+    };
     match wanted {
         Call::Request(tag, resource) => replied(rt, machine::request(file, state, tag, resource)),
         Call::Release(tag, resource) => replied(rt, machine::release(file, state, tag, resource)),
@@ -109,14 +104,11 @@ fn in_place(
     k: u8,
     place: u8,
 ) -> io::Result<()> {
-    let mut u = 0;
-    while u < sizes::TASKS {
-        let row = rows[u];
-        if stands(tasks[u], row.processor, q, k, place) {
+    for u in 0..sizes::TASKS {
+        if stands(tasks[u], rows[u].processor, q, k, place) {
             print::which(rt, place == 0, b"", b" ")?;
             print::digits(rt, u as u64)?;
         }
-        u += 1;
     }
     Ok(())
 }
@@ -129,12 +121,10 @@ fn turn(
     q: u8,
     k: u8,
 ) -> io::Result<()> {
-    print::digits(rt, k as u64)?;
+    print::digits(rt, u64::from(k))?;
     print::text(rt, b"(")?;
-    let mut place = 0;
-    while place < sizes::TASKS {
-        in_place(rt, rows, tasks, q, k, place as u8)?;
-        place += 1;
+    for place in 0..sizes::TASKS as u8 {
+        in_place(rt, rows, tasks, q, k, place)?;
     }
     print::text(rt, b")")
 }
@@ -147,19 +137,14 @@ fn line(
     q: u8,
     l: LineRow,
 ) -> io::Result<()> {
-    print::number(rt, q as u64)?;
+    print::number(rt, u64::from(q))?;
     print::text(rt, b":")?;
-    print::digits(rt, l.hold_left as u64)?;
+    print::digits(rt, u64::from(l.hold_left))?;
     print::text(rt, b"/")?;
-    print::digits(rt, l.budget_left as u64)?;
+    print::digits(rt, u64::from(l.budget_left))?;
     print::text(rt, b":")?;
-    let queue = l.queue;
-    let mut i = 0;
-    while i < sizes::PROCESSORS {
-        if i < l.queued as usize {
-            turn(rt, rows, tasks, q, queue[i])?;
-        }
-        i += 1;
+    for k in l.queue.iter().take(usize::from(l.queued)) {
+        turn(rt, rows, tasks, q, *k)?;
     }
     Ok(())
 }
@@ -172,27 +157,28 @@ fn held(
     lines: [LineRow; sizes::RESOURCES],
 ) -> io::Result<()> {
     let mut some = false;
-    let mut q = 0;
-    while q < sizes::RESOURCES {
-        let l = lines[q];
+    for q in 0..sizes::RESOURCES as u8 {
+        let l = lines[usize::from(q)];
         if l.queued != 0 {
-            line(rt, rows, tasks, q as u8, l)?;
+            line(rt, rows, tasks, q, l)?;
             some = true;
         }
-        q += 1;
     }
     print::which(rt, some, b"", b" nobody")
 }
 
+// The task rows of a plan file; all are none where it is refused.
+fn task_rows(file: &[u8]) -> [TaskRow; sizes::TASKS] {
+    match plan::read(file) {
+        Ok(read) => read.rows.tasks,
+        Err(_) => [plan_layout::no_task(); sizes::TASKS],
+    }
+}
+
 // What a state shows, with the processors of the tasks from the plan file.
 pub fn shown(rt: &impl Print, file: &[u8], state: State) -> io::Result<()> {
-    let found = plan::read(file);
-    let rows = found.rows;
-    let processors = rows.tasks;
-    let tasks = state.tasks;
-    let lines = state.lines;
     print::text(rt, b" |")?;
-    held(rt, processors, tasks, lines)
+    held(rt, task_rows(file), state.tasks, state.lines)
 }
 
 // One of the calls of a list. After one that is refused the state is to be as it was.
@@ -200,36 +186,36 @@ fn next(rt: &impl Print, file: &[u8], state: State, bytes: CallBytes) -> io::Res
     print::text(rt, b"; ")?;
     let outcome = call(rt, file, state, bytes)?;
     let after = outcome.state;
-    if outcome.refused & !same::states(after, state) {
+    if outcome.refused & (after != state) {
         print::text(rt, b" changed")?;
     }
     Ok(after)
 }
 
-// A fresh machine, or why there is none.
+// A fresh machine; or why there is none, and then a fresh state all the same, on which each call is refused.
 fn start(rt: &impl Print, file: &[u8]) -> io::Result<State> {
-    let started = machine::start(file);
-    if started.refusal == 0 {
-        print::text(rt, b"start")?;
-    } else {
-        print::refused(rt, started.refusal)?;
+    match machine::start(file) {
+        Ok(state) => {
+            print::text(rt, b"start")?;
+            Ok(state)
+        }
+        Err(refusal) => {
+            print::refused(rt, refusal)?;
+            Ok(machine_state::fresh())
+        }
     }
-    Ok(started.state)
 }
 
 // A list of calls from a fresh machine on, with every answer, and behind each what the state then shows, where that is asked: the last
 // state.
 fn all(rt: &impl Print, file: &[u8], calls: &[u8], show: bool) -> io::Result<State> {
     let mut state = start(rt, file)?;
-    let n = given::call_count(calls);
-    let mut x = 0;
-    while x < n {
+    for x in 0..given::call_count(calls) {
         let after = next(rt, file, state, given::call(calls, x))?;
         state = after;
         if show {
             shown(rt, file, state)?;
         }
-        x += 1;
     }
     Ok(state)
 }
@@ -241,7 +227,7 @@ pub fn list(rt: &impl Print, case: &[u8]) -> io::Result<()> {
     let state = all(rt, file, calls, false)?;
     shown(rt, file, state)?;
     let end = machine::run(file, calls);
-    print::which(rt, same::states(state, end), b" run", b" run differs")
+    print::which(rt, state == end, b" run", b" run differs")
 }
 
 // A list of calls, with what the state shows after each.
@@ -258,7 +244,7 @@ pub fn one(rt: &impl Print, case: &[u8]) -> io::Result<()> {
     let state = given::state(rest);
     let outcome = call(rt, file, state, given::wide_call(rest, given::STATE))?;
     let after = outcome.state;
-    print::unchanged(rt, same::states(after, state))?;
+    print::unchanged(rt, after == state)?;
     if !outcome.refused {
         shown(rt, file, after)?;
     }

@@ -16,24 +16,6 @@ const LINE_ROWS: usize = sizes::RESOURCES * LINE_ROW;
 
 pub const STATE: usize = LINE_ROWS + sizes::TASKS * STANDING;
 
-fn half(b: u8) -> u16
-    ensures { result < 256 }
-{
-    b as u16
-}
-
-pub fn size(w: u16) -> usize
-    ensures { result < 65536 }
-{
-    w as usize
-}
-
-pub fn at_most(n: usize, limit: usize) -> usize
-    ensures { result ≤ limit }
-{
-    if n < limit { n } else { limit }
-}
-
 pub fn byte(s: &[u8], at: usize) -> u8 {
     if at < s.len() { s[at] } else { 0 }
 }
@@ -42,19 +24,25 @@ pub fn byte(s: &[u8], at: usize) -> u8 {
 pub fn word(s: &[u8], at: usize) -> u16
     requires { at < 65536 }
 {
-    half(byte(s, at)) + 256 * half(byte(s, at + 1))
+    u16::from_le_bytes([byte(s, at), byte(s, at + 1)])
+}
+
+// Such a number as a size.
+pub fn size(s: &[u8], at: usize) -> usize
+    requires { at < 65536 }
+    ensures { result < 65536 }
+{
+    usize::from(word(s, at))
 }
 
 // The four bytes at the front, low byte first.
 pub fn length(s: &[u8]) -> usize {
-    size(word(s, 0)) + 65536 * size(word(s, 2))
+    size(s, 0) + 65536 * size(s, 2)
 }
 
 pub fn part(s: &[u8], start: usize, end: usize) -> &[u8] {
-    if start <= end {
-        if end <= s.len() {
-            return &s[start..end];
-        }
+    if start <= end && end <= s.len() {
+        return &s[start..end];
     }
     &s[0..0]
 }
@@ -63,7 +51,7 @@ pub fn part(s: &[u8], start: usize, end: usize) -> &[u8] {
 fn front_end(s: &[u8]) -> usize
     ensures { result < 70000 }
 {
-    2 + size(word(s, 0))
+    2 + size(s, 0)
 }
 
 // That part, and what stands behind it.
@@ -117,11 +105,8 @@ pub fn wide_call(s: &[u8], at: usize) -> CallBytes
 
 // As many bytes as both have, copied.
 pub fn copy(from: &[u8], to: &mut [u8]) {
-    let mut i = 0;
-    while i < from.len() && i < to.len() {
-        to[i] = from[i];
-        i += 1;
-    }
+    let n = from.len().min(to.len());
+    to[..n].copy_from_slice(&from[..n]);
 }
 
 // A write case: P, N, R, S; in 2 bytes each the room, the length of the names and of the expected file; how many
@@ -137,31 +122,31 @@ pub fn counts(case: &[u8]) -> Counts {
 }
 
 pub fn room(case: &[u8]) -> usize {
-    size(word(case, 5))
+    size(case, 5)
 }
 
 fn names_end(case: &[u8]) -> usize
     ensures { result < 70000 }
 {
-    14 + size(word(case, 7))
+    14 + size(case, 7)
 }
 
 fn expected_end(case: &[u8]) -> usize
     ensures { result < 140000 }
 {
-    names_end(case) + size(word(case, 9))
+    names_end(case) + size(case, 9)
 }
 
 fn tasks_end(case: &[u8]) -> usize
     ensures { result < 150000 }
 {
-    expected_end(case) + 8 * folds::wide(byte(case, 11))
+    expected_end(case) + 8 * usize::from(byte(case, 11))
 }
 
 fn lengths_end(case: &[u8]) -> usize
     ensures { result < 151000 }
 {
-    tasks_end(case) + folds::wide(byte(case, 12))
+    tasks_end(case) + usize::from(byte(case, 12))
 }
 
 pub fn names(case: &[u8]) -> &[u8] {
@@ -195,35 +180,15 @@ fn section(s: &[u8], at: usize) -> SectionRow
 }
 
 fn tasks(s: &[u8]) -> [TaskRow; sizes::TASKS] {
-    let first = task(s, 0);
-    let mut rows = [first; sizes::TASKS];
-    let mut i = 0;
-    while i < sizes::TASKS {
-        rows[i] = task(s, i * 8);
-        i += 1;
-    }
-    rows
+    folds::table(sizes::TASKS, task(s, 0), |i| task(s, i * 8))
 }
 
 fn lengths(s: &[u8]) -> [u8; sizes::RESOURCES] {
-    let mut rows = [0u8; sizes::RESOURCES];
-    let mut i = 0;
-    while i < sizes::RESOURCES {
-        rows[i] = byte(s, i);
-        i += 1;
-    }
-    rows
+    folds::table(sizes::RESOURCES, 0, |i| byte(s, i))
 }
 
 fn sections(s: &[u8]) -> [SectionRow; sizes::SECTIONS] {
-    let first = section(s, 0);
-    let mut rows = [first; sizes::SECTIONS];
-    let mut i = 0;
-    while i < sizes::SECTIONS {
-        rows[i] = section(s, i * 4);
-        i += 1;
-    }
-    rows
+    folds::table(sizes::SECTIONS, section(s, 0), |i| section(s, i * 4))
 }
 
 pub fn rows(case: &[u8]) -> Rows {
@@ -231,7 +196,7 @@ pub fn rows(case: &[u8]) -> Rows {
     Rows {
         tasks: tasks(part(case, expected_end(case), tasks_end(case))),
         lengths: lengths(part(case, tasks_end(case), start)),
-        sections: sections(part(case, start, start + 4 * folds::wide(byte(case, 13)))),
+        sections: sections(part(case, start, start + 4 * usize::from(byte(case, 13)))),
     }
 }
 
@@ -259,14 +224,7 @@ fn line(s: &[u8], at: usize) -> LineRow
 }
 
 fn lines(s: &[u8]) -> [LineRow; sizes::RESOURCES] {
-    let first = line(s, 0);
-    let mut rows = [first; sizes::RESOURCES];
-    let mut q = 0;
-    while q < sizes::RESOURCES {
-        rows[q] = line(s, q * LINE_ROW);
-        q += 1;
-    }
-    rows
+    folds::table(sizes::RESOURCES, line(s, 0), |q| line(s, q * LINE_ROW))
 }
 
 fn standing(s: &[u8], at: usize) -> Standing
@@ -279,14 +237,7 @@ fn standing(s: &[u8], at: usize) -> Standing
 }
 
 fn standings(s: &[u8]) -> [Standing; sizes::TASKS] {
-    let first = standing(s, 0);
-    let mut rows = [first; sizes::TASKS];
-    let mut u = 0;
-    while u < sizes::TASKS {
-        rows[u] = standing(s, u * STANDING);
-        u += 1;
-    }
-    rows
+    folds::table(sizes::TASKS, standing(s, 0), |u| standing(s, u * STANDING))
 }
 
 pub fn state(s: &[u8]) -> State {

@@ -10,7 +10,7 @@ mod print;
 mod printed;
 mod same;
 
-use plan_writing::WriteAnswer;
+use refusals::Refusal;
 use std::io;
 use std::io::Read;
 
@@ -28,23 +28,18 @@ fn read_case(rt: &impl Print, case: &[u8]) -> io::Result<()> {
     let mut file = [0u8; READ];
     given::copy(given::part(case, 4, case.len()), &mut file);
     let len = given::length(case);
-    let found = plan::read(given::part(&file, 0, len));
-    let answer = found.answer;
-    print::reading(rt, answer)
+    print::reading(rt, plan::read(given::part(&file, 0, len)))
 }
 
 // The name of a resource: the resource, then the file.
 fn name_case(rt: &impl Print, case: &[u8]) -> io::Result<()> {
     let resource = given::byte(case, 0);
     let file = given::part(case, 1, case.len());
-    let code = plan::name_refusal(file, resource);
     let name = plan::name(file, resource);
-    if code == 0 {
-        print::text(rt, name)
-    } else if name.len() == 0 {
-        print::refused(rt, code)
-    } else {
-        print::text(rt, b"wrong")
+    match plan::check_name(file, resource) {
+        Ok(()) => print::text(rt, name),
+        Err(refusal) if name.is_empty() => print::refused(rt, refusal),
+        Err(_) => print::text(rt, b"wrong"),
     }
 }
 
@@ -56,18 +51,15 @@ fn again(case: &[u8], file: &[u8]) -> bool {
     let found = plan_writing::read_back(counts, rows, given::names(case), &mut first);
     let mut second = [same::FILL; WRITTEN];
     let copied = plan_writing::copy(file, &mut second);
-    let read = found.rows;
-    let answer = found.answer;
-    same::counts(answer, counts)
-        & same::rows(read, rows, counts)
+    same::plan(found, counts, rows)
         & same::written(copied, file.len())
-        & same::bytes(given::part(&second, 0, file.len()), file)
+        & (given::part(&second, 0, file.len()) == file)
         & same::untouched(&second, file.len())
 }
 
 // Writes the case's values into the front of the buffer, of which the case says how much is lent.
-fn write(case: &[u8], buf: &mut [u8]) -> WriteAnswer {
-    let room = given::at_most(given::room(case), buf.len());
+fn write(case: &[u8], buf: &mut [u8]) -> Result<u16, Refusal> {
+    let room = given::room(case).min(buf.len());
     plan_writing::write(
         given::counts(case),
         given::rows(case),
@@ -79,16 +71,15 @@ fn write(case: &[u8], buf: &mut [u8]) -> WriteAnswer {
 // Writing: the values, what the file is to be, and how much of the buffer is lent.
 fn write_case(rt: &impl Print, case: &[u8]) -> io::Result<()> {
     let mut buf = [same::FILL; WRITTEN];
-    let answer = write(case, &mut buf);
-    match answer {
-        WriteAnswer::Written(len) => {
-            let end = len as usize;
+    match write(case, &mut buf) {
+        Ok(len) => {
+            let end = usize::from(len);
             let file = given::part(&buf, 0, end);
-            let right = same::bytes(file, given::expected(case)) & same::untouched(&buf, end);
+            let right = (file == given::expected(case)) & same::untouched(&buf, end);
             print::written(rt, len, right, again(case, file))
         }
-        WriteAnswer::Refused(code) => {
-            print::refused(rt, code)?;
+        Err(refusal) => {
+            print::refused(rt, refusal)?;
             print::unchanged(rt, same::untouched(&buf, 0))
         }
     }
@@ -97,7 +88,7 @@ fn write_case(rt: &impl Print, case: &[u8]) -> io::Result<()> {
 // One case: a letter for its kind, the label's length, the label, and the rest.
 fn run_case(rt: &impl Print, record: &[u8]) -> io::Result<()> {
     let kind = given::byte(record, 0);
-    let start = 2 + folds::wide(given::byte(record, 1));
+    let start = 2 + usize::from(given::byte(record, 1));
     print::text(rt, given::part(record, 2, start))?;
     print::text(rt, b": ")?;
     let case = given::part(record, start, record.len());
@@ -130,7 +121,7 @@ fn run_case(rt: &impl Print, record: &[u8]) -> io::Result<()> {
 fn read_record<R: Read>(input: &mut R, buf: &mut [u8]) -> io::Result<usize> {
     let mut head = [0u8; 4];
     let got = streams::read_full(input, &mut head)?;
-    let len = given::at_most(given::length(&head[..got]), buf.len());
+    let len = given::length(&head[..got]).min(buf.len());
     streams::read_full(input, &mut buf[0..len])
 }
 
@@ -145,14 +136,13 @@ fn next<R: Read>(rt: &impl Print, input: &mut R) -> io::Result<bool> {
     Ok(true)
 }
 
-// A proved loop has to end: the turns are counted down from a number that no run uses up.
+// A proved loop has to end: the turns are counted up to a number that no run reaches.
 fn main(rt: HostRuntime) -> io::Result<()> {
     let mut input = rt.stdin();
-    let mut turns = u64::MAX;
-    let mut more = true;
-    while more && turns > 0 {
-        more = next(&rt, &mut input)?;
-        turns -= 1;
+    for _ in 0..u64::MAX {
+        if !next(&rt, &mut input)? {
+            break;
+        }
     }
     Ok(())
 }

@@ -2,7 +2,8 @@
 ghost use Rattle.std.specs.Prelude.{◌+◌, ◌≤◌, IfOk, length};
 
 use crate::given;
-use plan::ReadAnswer;
+use plan::Reading;
+use refusals::Refusal;
 use std::io;
 
 // A buffer for many numbers, and the most that a space and one of them take.
@@ -40,18 +41,16 @@ fn put(buf: &mut [u8], at: usize, n: u8) -> usize
     requires { at + 21 ≤ length buf.old }
 {
     let digits = print_text::put(buf, at, b" ");
-    print_text::put_decimal(buf, digits, n as u64)
+    print_text::put_decimal(buf, digits, u64::from(n))
 }
 
 // Bytes as numbers, in as few writes as the buffer allows.
 pub fn numbers(rt: &impl Print, s: &[u8]) -> io::Result<()> {
     let mut buf = [0u8; NUMBERS];
     let mut at = 0;
-    let mut i = 0;
-    while i < s.len() {
+    for b in s {
         let free = room(rt, &buf, at)?;
-        at = put(&mut buf, free, s[i]);
-        i += 1;
+        at = put(&mut buf, free, *b);
     }
     text(rt, given::part(&buf, 0, at))
 }
@@ -64,21 +63,26 @@ pub fn signed(rt: &impl Print, z: i64) -> io::Result<()> {
     text(rt, given::part(&buf, 0, end))
 }
 
-pub fn refused(rt: &impl Print, code: u8) -> io::Result<()> {
+// A refusal, by the number that it is told by.
+pub fn number_refused(rt: &impl Print, code: u8) -> io::Result<()> {
     text(rt, b"refused")?;
-    number(rt, code as u64)
+    number(rt, u64::from(code))
 }
 
-pub fn reading(rt: &impl Print, answer: ReadAnswer) -> io::Result<()> {
+pub fn refused(rt: &impl Print, refusal: Refusal) -> io::Result<()> {
+    number_refused(rt, refusal.number())
+}
+
+pub fn reading(rt: &impl Print, answer: Result<Reading, Refusal>) -> io::Result<()> {
     match answer {
-        ReadAnswer::Accepted(counts) => {
+        Ok(read) => {
             text(rt, b"plan")?;
-            number(rt, counts.processors as u64)?;
-            number(rt, counts.tasks as u64)?;
-            number(rt, counts.resources as u64)?;
-            number(rt, counts.sections as u64)
+            number(rt, u64::from(read.counts.processors))?;
+            number(rt, u64::from(read.counts.tasks))?;
+            number(rt, u64::from(read.counts.resources))?;
+            number(rt, u64::from(read.counts.sections))
         }
-        ReadAnswer::Refused(code) => refused(rt, code),
+        Err(refusal) => refused(rt, refusal),
     }
 }
 
@@ -93,7 +97,7 @@ pub fn unchanged(rt: &impl Print, as_before: bool) -> io::Result<()> {
 
 pub fn written(rt: &impl Print, len: u16, right: bool, again: bool) -> io::Result<()> {
     text(rt, b"written")?;
-    number(rt, len as u64)?;
+    number(rt, u64::from(len))?;
     which(rt, right, b" same", b" differs")?;
     which(rt, again, b" again", b"")
 }

@@ -11,10 +11,9 @@ fn main(rt: HostRuntime) -> io::Result<()> {
     let mut buf = [0u8; streams::BUFFER];
     let end = streams::read_plan(&mut input, &mut buf)?;
     let mut out = [0u8; print_sheet::SHEET];
-    let line = print_sheet::sheet(&buf[0..end], &mut out);
-    if line.refusal != 0 {
-        return streams::print_refused(&mut output, line.refusal);
-    }
-    let length = line.length;
-    output.write_all(&out[0..length])
+    let sheet = print_sheet::sheet(&buf[..end], &mut out);
+    let Ok(length) = sheet else {
+        return streams::print_refused(&mut output, refusals::code(&sheet));
+    };
+    output.write_all(&out[..length])
 }

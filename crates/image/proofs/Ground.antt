@@ -2,16 +2,16 @@
 pub use Rattle.folds.proofs.Ground.{Bool, List, [], ◌%◌, ◌&&◌, ◌*◌, ◌++◌, ◌+◌, ◌-◌, ◌<◌, ◌||◌, ◌∙◌, ◌∷◌, ◌≡◌, ◌≤◌, ap, append_assoc}
 pub use Rattle.folds.proofs.Ground.{ap₂, arith, cond, drop, drop_at, drop-drop, eq-eqb, eqb, eqb-true, ext_get_or, false, fun_ext, get_or}
 pub use Rattle.folds.proofs.Ground.{get_or-replicate, le-ltb, length, length-append, length-drop, length-replicate}
-pub use Rattle.folds.proofs.Ground.{length-take, lt-ltb, ltb, ltb-true, ne_eqb, rules, not, or-true, refl, replicate, suc, sym}
+pub use Rattle.folds.proofs.Ground.{lt-ltb, ltb, ne_eqb, rules, not, or-true, refl, replicate, suc, sym}
 pub use Rattle.folds.proofs.Ground.{take, true, zero, ℕ, ⊎_elim}
-pub use Rattle.folds.proofs.Tests.{all_at, all_done, all_from, all_left, all_more, and_parts, same_test}
+pub use Rattle.folds.proofs.Tests.{all_at, all_from, and_parts, same_test}
 pub use Rattle.folds.proofs.Searches.{on_eq, on_le}
 unfoldable pub use Rattle.folds.specs.Below.{all_below, any_below}
 unfoldable pub use Rattle.folds.specs.Bytes.{bytes_below, digits, fields, number, placed_below, row_at, row_bytes}
 pub use Rattle.folds.specs.Bytes.{width}
-pub use Rattle.folds.proofs.Arrays.{by_eq, placed_at, placed_done, placed_later, placed_length, placed_step}
+pub use Rattle.folds.proofs.Arrays.{by_eq, placed_at, placed_later, placed_length, placed_step}
 pub use Rattle.folds.proofs.Parts.{bytes_length, part_rest}
-pub use Rattle.folds.proofs.Fronts.{Front, Rowed, put_front, rows_all, rows_more, rows_none, rows_part}
+pub use Rattle.folds.proofs.Fronts.{Front, Rowed, put_front, rows_none, rows_part}
 pub use Rattle.folds.proofs.RowLaws.{Bytes, row_length, rows_back, rows_forth}
 unfoldable pub use Rattle.folds.proofs.RowLaws.{solid}
 pub use Rattle.sizes.specs.Sizes.{absent, most_processors, most_resources, most_tasks}
@@ -30,7 +30,7 @@ pub use Rattle.machine_state.specs.declared.LineRow.{LineRow}
 pub use Rattle.machine_state.specs.declared.State.{State}
 pub use Rattle.machine_state.specs.Shows.{free_line, fresh_state, is_idle, line_at, no_line, no_standing, none_in_line, slot, standing}
 unfoldable pub use Rattle.machine_state.specs.Shows.{rank, shows}
-pub use Rattle.machine_state.specs.Sound.{alone, backed, holder_of, idle}
+pub use Rattle.machine_state.specs.Sound.{alone, backed, holder_of}
 unfoldable pub use Rattle.machine_state.specs.Sound.{sound, task_fits}
 pub use Rattle.machine_state.specs.Rows.{line_of, slot_of, state_of}
 unfoldable pub use Rattle.machine_state.specs.Rows.{standing_of}

@@ -1,17 +1,13 @@
 -- Who holds: the table of holders, and the holder's number in a row, against the first task of the head.
 use Rattle.image.proofs.Ground.{ℕ, zero, suc, ◌+◌, ◌%◌, ◌<◌, Bool, true, false, cond, ◌&&◌, ◌≡◌, refl, sym, ap, ◌∙◌, eqb}
-use Rattle.image.proofs.Ground.{ltb, length, get_or, replicate, length-replicate, get_or-replicate, arith, eqb-true, eq-eqb, ne_eqb, lt-ltb}
-use Rattle.image.proofs.Ground.{ltb-true, and_parts, by_eq, any_below, most_resources, absent, Plan, Valid, processor_of}
+use Rattle.image.proofs.Ground.{ltb, get_or, replicate, length-replicate, get_or-replicate, arith, eqb-true, eq-eqb, ne_eqb, lt-ltb}
+use Rattle.image.proofs.Ground.{and_parts, by_eq, any_below, most_resources, absent, Plan, Valid, processor_of}
 use Rattle.image.proofs.Ground.{task_ranked, list_from, queue_from, full, sole, task_rank, State, Standing, line_at, slot, standing}
 use Rattle.image.proofs.Ground.{rank, shows, Good, Whole, holder_number, holder_key, key_at, holder_table}
 use Rattle.folds.proofs.Tests.{any_at, any_none, is_not_true}
 use Rattle.folds.proofs.Figures.{max_at}
-use Rattle.folds.proofs.Arrays.{stamped_length, stamped_where}
+use Rattle.folds.proofs.Arrays.{stamped_where}
 use Rattle.queue_rules.specs.Rules as Rules
-
--- a test that begins with a bound gives it
-pub key_low : (r : ℕ) (b : Bool) → (ltb r most_resources && b) ≡ true → r < most_resources
-key_low r b h = ltb-true r most_resources (and_parts (ltb r most_resources) b h).0
 
 -- the holder in a line over ranks
 pub holder_ranked : (n : ℕ) (R : ℕ → ℕ → ℕ) (g : ℕ → ℕ) (c h b : ℕ)
@@ -91,7 +87,3 @@ module _ (p : Plan) (v : Valid p) (s : State) (w : Whole p s) where
           (get_or-replicate 17 q absent 0 (omega arith)))
           (λ ne. let lt = full g.ranked k 1 (omega arith) (g.queued.served 0 (omega arith)) in
           rw (any_at p.tasks i (λ u. eqb (key_at p s u) q) lt (eq-eqb _ _ (rank_key q i l (task_rank p.tasks 1 (R k) lt)))))
-
-pub table_long : (p : Plan) (s : State) → length (holder_table p s) ≡ most_resources + 1
-unfolding holder_table
-table_long p s = stamped_length p.tasks (key_at p s) (λ u. u) (replicate (most_resources + 1) absent) ∙ length-replicate (most_resources + 1) absent

@@ -1,5 +1,6 @@
 pub mod Ground
 pub mod Rows
+pub mod Putting
 pub mod Wholes
 pub mod Loaded
 pub mod Holding

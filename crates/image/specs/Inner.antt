@@ -1,4 +1,5 @@
 -- How the code tests an image, and what its functions rely on and give. None of this is a rule of document 02.
+use Rattle.std.specs.Borrow.{MutBor}
 use Rattle.std.specs.Prelude.{ℕ, ◌+◌, ◌*◌, ◌%◌, ◌<◌, ◌≤◌, Bool, true, false, cond, ◌&&◌, List, ◌≡◌, eqb, ltb, length, get_or, replicate}
 use Rattle.sizes.specs.Sizes.{most_tasks, most_resources, absent}
 use Rattle.folds.specs.Below.{all_below}
@@ -95,6 +96,15 @@ pub record LinesPut (n : ℕ) (holders buf : List ℕ) : Type 0 where
 pub record StandingsPut (n : ℕ) (buf : List ℕ) : Type 0 where
   pub few : n ≤ most_tasks
   pub room : n * standing_width ≤ length buf
+
+-- what puts a row may be called for each row below n, where there is room for so many bytes
+abbrev pub TakesRows : (ℕ → MutBor (List ℕ) → Type 0) → ℕ → ℕ → Type 0
+TakesRows pre n width = (i : ℕ) (row : MutBor (List ℕ)) → i < n → length row.now ≡ width → pre i row
+
+-- and puts the bytes f there
+pub record PutsRows (post : ℕ → MutBor (List ℕ) → Unit {0} → MutBor (List ℕ) → Type 0) (n width : ℕ) (f : ℕ → List ℕ) : Type 0 where
+  pub wide : (i : ℕ) → length (f i) ≡ width
+  pub puts : (i : ℕ) (row left : MutBor (List ℕ)) → i < n → post i row tt left → left.now ≡ f i
 
 -- ── what they give ──
 

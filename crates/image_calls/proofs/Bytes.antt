@@ -1,5 +1,5 @@
 -- The bytes that a list of calls in bytes leaves.
-use Rattle.image_calls.proofs.Ground.{ℕ, ◌+◌, ◌*◌, ◌≡◌, List, ◌++◌, length, Call, LeftBy, called}
+use Rattle.image_calls.proofs.Ground.{ℕ, ◌+◌, ◌*◌, ◌≡◌, List, ◌++◌, length, Call, LeftBy, begun, called}
 use Rattle.folds.proofs.Ground.{◌/◌, append-nil, add-one}
 use Rattle.machine_calls.specs.declared.CallBytes.{CallBytes}
 use Rattle.machine_calls.specs.Calls.{bytes_at, call_in, calls_below, calls_of}
@@ -11,6 +11,10 @@ one_left : (f b : List ℕ) (before : List Call) (l next : List ℕ) (cs : List 
     → LeftBy f b (before ++ cs) next
 one_left f b before l next cs none r e = rw (e, append-nil) r
 one_left f b before l next cs (one c) r n = called r n
+
+pub left_none : (f s : List ℕ) (w : ℕ) {b : List ℕ} → LeftBy f b (calls_below w 0 s) b
+unfolding calls_below
+left_none f s w = begun
 
 pub left_step : (f s : List ℕ) (w x : ℕ) {b l next : List ℕ} {bytes : CallBytes}
     → LeftBy f b (calls_below w x s) l

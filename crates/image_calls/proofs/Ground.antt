@@ -1,5 +1,5 @@
 -- The names that the proofs of this crate share, by one module: a definition that moves is named anew here alone.
-pub use Rattle.folds.proofs.Ground.{List, ◌*◌, ◌++◌, ◌+◌, ◌-◌, ◌<◌, ◌∙◌, ◌≡◌, ◌≤◌, ap, arith, eq-eqb, false, get_or}
+pub use Rattle.folds.proofs.Ground.{List, ◌*◌, ◌++◌, ◌+◌, ◌<◌, ◌∙◌, ◌≡◌, ◌≤◌, ap, arith, eq-eqb, false, get_or}
 pub use Rattle.folds.proofs.Ground.{le-leb, length, lt-leb, ne_eqb, rules, not-false, not-true, refl, sym, true, ℕ}
 pub use Rattle.folds.proofs.Tests.{code_zero, first_zero, then_zero}
 unfoldable pub use Rattle.plan.specs.Acceptance.{refusal}

@@ -4,7 +4,8 @@ use Rattle.image_calls.proofs.Ground.{refusal, plan_of, Valid, most_resources, m
 use Rattle.image_calls.proofs.Ground.{Refused, call_code, step, fresh_state, shows, sound, fresh_sound, fresh_shows, Reply, Acted}
 use Rattle.image_calls.proofs.Ground.{State, View, image_length, image_with, shown_in, state_in, image_sound, kept_long, stored_sound}
 use Rattle.image_calls.proofs.Ground.{loaded_shows, lent_refusal, image_refusal, image_call_refusal, image_reply, image_after, image_started}
-use Rattle.image_calls.proofs.Ground.{StartedImage, Made}
+use Rattle.image_calls.proofs.Ground.{StartedImage, NextImage, Made, code_zero, then_zero}
+use Rattle.folds.proofs.Ground.{leb, leb-true}
 
 module _ (f b : List ℕ) where
   -- 1 to 9
@@ -20,6 +21,11 @@ module _ (f b : List ℕ) where
   pub room_lent : refusal f ≡ 0 → image_length (plan_of f) ≤ length b → lent_refusal f b ≡ 0
   unfolding lent_refusal
   room_lent z l = rw (eq-eqb _ _ z, le-leb _ _ l)
+
+  -- where there is none, there is room
+  pub room_left : refusal f ≡ 0 → lent_refusal f b ≡ 0 → image_length (plan_of f) ≤ length b
+  unfolding lent_refusal
+  room_left z e = leb-true _ _ (code_zero (leb (image_length (plan_of f)) (length b)) 0 23 (then_zero (refusal f) _ e))
 
   -- these come before what is asked of the image
   pub lent_first : {k : ℕ} → lent_refusal f b ≡ k → (k ≡ 0 → ⊥) → image_refusal f b ≡ k
@@ -46,17 +52,18 @@ module _ (f b : List ℕ) where
     own_code z = rw z
 
     -- a call that is refused
-    pub refused : {k : ℕ} → image_call_refusal f b c ≡ k → (k ≡ 0 → ⊥) → Made f b c (Refused k) b
-    unfolding image_reply image_after step
-    refused e d =
+    pub refused_next : {k : ℕ} → image_call_refusal f b c ≡ k → (k ≡ 0 → ⊥) → NextImage f b c b
+    unfolding image_after step
+    refused_next e d =
         record {
-          answer = rw (e, ne_eqb _ _ d);
-          next = record {
-            bytes = rw (e, ne_eqb _ _ d);
-            sound = λ z. z;
-            shows = λ z. rw (ne_eqb (call_code (plan_of f) (shown_in (plan_of f) b) c) 0 (λ y. d (sym e ∙ own_code z ∙ y)));
-          };
+          bytes = rw (e, ne_eqb _ _ d);
+          sound = λ z. z;
+          shows = λ z. rw (ne_eqb (call_code (plan_of f) (shown_in (plan_of f) b) c) 0 (λ y. d (sym e ∙ own_code z ∙ y)));
         }
+
+    pub refused : {k : ℕ} → image_call_refusal f b c ≡ k → (k ≡ 0 → ⊥) → Made f b c (Refused k) b
+    unfolding image_reply
+    refused e d = record { answer = rw (e, ne_eqb _ _ d); next = refused_next e d }
 
 -- an image that is stored is sound
 stored_code : (f b : List ℕ) → Valid (plan_of f) → (s : State) → refusal f ≡ 0 → image_length (plan_of f) ≤ length b → sound (plan_of f) s ≡ true

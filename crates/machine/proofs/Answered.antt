@@ -70,3 +70,6 @@ module _ (f : List ℕ) (s : State) where
         answer = rw (e, ne_eqb _ _ d);
         next = record { unchanged = λ n. refl; sound = λ z. absurd (refused z); shows = λ z. absurd (refused z) };
       }
+
+  pub plan_reply : (c : Call) {k : ℕ} → k ≡ refusal f → (k ≡ 0 → ⊥) → Replied f s c (refused_at s k)
+  plan_reply c e d = refused_reply c (plan_refused c e d) d

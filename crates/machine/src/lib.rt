@@ -2,7 +2,8 @@
 // refuses by number what it does not accept.
 #![tactic(auto)]
 
-ghost use Rattle.std.specs.Prelude.{◌≡◌, true};
+ghost use Rattle.std.specs.Prelude.{◌≡◌, true, IfOk};
+ghost use Rattle.refusals.specs.Refusals.{number, Told};
 ghost use Rattle.plan.specs.Acceptance.{refusal};
 ghost use Rattle.plan_reading.specs.Plan.{plan_of};
 ghost use Rattle.machine_rules.specs.declared.Call.TheVariants.{Request, Release, GiveUp, Tick};
@@ -11,13 +12,14 @@ ghost use Rattle.machine_calls.specs.Calls.{call_width, call_in, calls_of};
 ghost use Rattle.machine_state.specs.Shows.{fresh_state, shows};
 ghost use Rattle.machine_state.specs.Sound.{sound};
 ghost use Rattle.machine.specs.Replies.{reply, reply_outcome, Next, AfterBytes, cut_count};
-ghost use Rattle.machine.specs.Inner.{cuts_in};
+ghost use Rattle.machine.specs.Inner.{cuts_in, refused_at};
 ghost use Rattle.machine.specs.Promise.{Ran, FreshRan};
 
 use machine_calls::{CallBytes, WIDTH};
 use machine_replies::Reply;
 use machine_rules::{Answer, Call};
 use machine_state::State;
+use refusals::Refusal;
 
 pub mod surveyed;
 
@@ -29,34 +31,38 @@ pub struct TickReply {
     pub state: State,
 }
 
-// Why the plan is refused, 0 where it is not; and the fresh state, in both cases.
-#[derive(Clone, Copy)]
-pub struct Started {
-    pub refusal: u8,
-    pub state: State,
+// A fresh machine, or why the plan is refused.
+pub fn start(file: &[u8]) -> Result<State, Refusal>
+    ensures value { Told (refusal file.now) fresh_state result }
+    ensures sound_value { IfOk result (λ s. sound (plan_of file.now) s ≡ true) }
+    ensures shown { IfOk result (λ s. shows (plan_of file.now) s ≡ fresh) }
+{
+    plan::check(file)?;
+    Ok(machine_state::fresh())
 }
 
-// A fresh machine.
-pub fn start(file: &[u8]) -> Started
-    ensures refusal_value { (result.refusal ≡ refusal file.now) × (result.state ≡ fresh_state) }
-    ensures state_value { refusal file.now ≡ 0 → sound (plan_of file.now) result.state ≡ true }
-    ensures state_value_2 { shows (plan_of file.now) result.state ≡ fresh }
+// The refusal of a call on a state.
+fn refuse(unchanged: State, refusal: Refusal) -> Reply
+    ensures { result ≡ refused_at unchanged (number refusal) }
 {
-    Started {
-        refusal: plan::check(file),
-        state: machine_state::fresh(),
+    Reply {
+        answer: Answer::Refused(refusal.number()),
+        state: unchanged,
     }
 }
 
 // A call on a state.
+#[tactic(auto, using(crate::proofs::Answered::reply_told))]
 pub fn call(file: &[u8], state: State, call: Call) -> Reply
     ensures answer_value { result.answer ≡ reply file.now state call }
     ensures next { Next file.now state call result.state }
     ensures answer_value_2 { answer_outcome result.answer ≡ reply_outcome file.now state call }
 {
     let mut figures = [0u16; analysis_figures::FIGURES];
-    let code = surveyed::look(file, &mut figures);
-    surveyed::call(file, code, &figures, state, call)
+    match surveyed::look(file, &mut figures) {
+        Ok(()) => surveyed::call(file, &figures, state, call),
+        Err(refusal) => refuse(state, refusal),
+    }
 }
 
 // A request of a resource by the task with this tag.
@@ -91,17 +97,13 @@ fn cuts_in(answer: Answer) -> u32
     ensures { result ≡ cuts_in answer }
 {
     match answer {
-        Answer::Ticked(cuts, _) => u16::count_ones(cuts),
-        Answer::Granted => 0,
-        Answer::Waits(_, _) => 0,
-        Answer::Next(_) => 0,
-        Answer::Free => 0,
-        Answer::Left => 0,
-        Answer::Refused(_) => 0,
+        Answer::Ticked(cuts, _) => cuts.count_ones(),
+        _ => 0,
     }
 }
 
 // A tick.
+#[tactic(auto, using(crate::proofs::Answered::tick_cuts))]
 pub fn tick(file: &[u8], state: State) -> TickReply
     ensures answer_value { result.answer ≡ reply file.now state Tick }
     ensures next { Next file.now state Tick result.state }
@@ -109,12 +111,10 @@ pub fn tick(file: &[u8], state: State) -> TickReply
     ensures answer_value_2 { answer_outcome result.answer ≡ reply_outcome file.now state Tick }
 {
     let reply = call(file, state, Call::Tick);
-    let answer = reply.answer;
-    let next = reply.state;
     TickReply {
-        answer,
-        cut_count: cuts_in(answer),
-        state: next,
+        answer: reply.answer,
+        cut_count: cuts_in(reply.answer),
+        state: reply.state,
     }
 }
 
@@ -122,12 +122,10 @@ pub fn tick(file: &[u8], state: State) -> TickReply
 fn after(file: &[u8], state: State, bytes: CallBytes) -> State
     ensures { AfterBytes file.now state (call_in bytes) result }
 {
-    let decoded = machine_calls::decode(bytes.letter, bytes.tag, bytes.resource);
-    if !decoded.known {
-        return state;
+    match machine_calls::decode(bytes.letter, bytes.tag, bytes.resource) {
+        Some(wanted) => call(file, state, wanted).state,
+        None => state,
     }
-    let wanted = decoded.call;
-    call(file, state, wanted).state
 }
 
 // The state after a list of calls, the first made on `start`. Bytes left over are no call.
@@ -135,16 +133,8 @@ pub fn run_from(file: &[u8], start: State, calls: &[u8]) -> State
     ensures { Ran file.now start (calls_of call_width calls.now) result }
 {
     let mut state = start;
-    let n = calls.len() / WIDTH;
-    let mut x = 0;
-    while x < n {
-        let next = after(
-            file,
-            state,
-            machine_calls::bytes_at(calls, x * WIDTH, WIDTH),
-        );
-        state = next;
-        x += 1;
+    for call in calls.chunks_exact(WIDTH) {
+        state = after(file, state, machine_calls::bytes_at(call, 0, WIDTH));
     }
     state
 }

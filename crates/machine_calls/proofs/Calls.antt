@@ -1,19 +1,9 @@
 -- Bytes as calls: that they are one call at most, and that those in front do not depend on what lies behind.
-use Rattle.folds.proofs.Ground.{ℕ, zero, suc, ◌+◌, ◌*◌, ◌-◌, ◌≤◌, ◌<◌, Bool, true, false, cond, ◌&&◌, not, ◌≡◌, refl, sym, ap, ap₂, ◌∙◌, List, [], ◌∷◌, ◌++◌, eqb, length, get_or, take, drop, List·getD-append, get_or-append-add, get_or-drop, get_or-take, add-zero, zero-add, add_assoc, add_comm, suc-mul, arith, not-true, not-false}
+use Rattle.folds.proofs.Ground.{ℕ, zero, suc, ◌+◌, ◌*◌, ◌-◌, ◌≤◌, ◌<◌, Bool, true, false, cond, ◌&&◌, ◌≡◌, refl, ap, ap₂, List, [], ◌∷◌, ◌++◌, eqb, length, get_or, take, drop, List·getD-append, get_or-append-add, get_or-drop, get_or-take, add-zero, zero-add, add_assoc, add_comm, suc-mul, arith}
 use Rattle.folds.specs.Bytes.{number}
 use Rattle.machine_rules.specs.declared.Call.{Call}
 use Rattle.machine_rules.specs.declared.Call.TheVariants.{Request, Release, GiveUp, Tick}
-use Rattle.machine_calls.specs.declared.Decoded.{Decoded}
-use Rattle.machine_calls.specs.Calls.{call_of, decoded_calls, tag_at, bytes_at, call_in, calls_below}
-
--- a decoding says whether there is a call
-pub decoded_call : (d : Decoded) {cs : List Call} → decoded_calls d ≡ cs → not d.known ≡ false → cs ≡ d.call ∷ []
-unfolding decoded_calls
-decoded_call d e n = sym e ∙ rw (not-false d.known n)
-
-pub decoded_no_call : (d : Decoded) {cs : List Call} → decoded_calls d ≡ cs → not d.known ≡ true → cs ≡ []
-unfolding decoded_calls
-decoded_no_call d e n = sym e ∙ rw (not-true d.known n)
+use Rattle.machine_calls.specs.Calls.{call_of, tag_at, bytes_at, call_in, calls_below}
 
 -- bytes are one call or none
 pub data AtMostOne : List Call → Type 0 where
@@ -31,16 +21,6 @@ at_most_one letter tag q =
     when : (b : Bool) {x y : List Call} → AtMostOne x → AtMostOne y → AtMostOne (cond b x y)
     when true f g = f
     when false f g = g
-
--- ── the tag ──
-module _ (w : ℕ) (l : List ℕ) (at : ℕ) where
-  pub tag_one : w ≡ 3 → get_or l (at + 1) 0 + 256 * 0 ≡ tag_at w l at
-  unfolding tag_at number
-  tag_one e = rw e (omega arith)
-
-  pub tag_two : w ≡ 4 → get_or l (at + 1) 0 + 256 * get_or l (at + 2) 0 ≡ tag_at w l at
-  unfolding tag_at number
-  tag_two e = rw e (ap (λ (k : ℕ). get_or l (at + 1) 0 + 256 * get_or l k 0) (let x : at + 2 ≡ at + 1 + 1 = omega arith in x))
 
 -- ── the same bytes are the same call, wherever they stand ──
 number_alike : (n : ℕ) (l m : List ℕ) (a b : ℕ) → ((k : ℕ) → k < n → get_or l (a + k) 0 ≡ get_or m (b + k) 0) → number n l a ≡ number n m b

@@ -1,10 +1,9 @@
 -- Calls as bytes: document 01, "The printing program", and document 02 §1.
-use Rattle.std.specs.Prelude.{ℕ, zero, suc, ◌+◌, ◌*◌, ◌-◌, ◌/◌, cond, ◌&&◌, List, [], ◌∷◌, ◌++◌, eqb, length, get_or}
+use Rattle.std.specs.Prelude.{ℕ, zero, suc, ◌+◌, ◌*◌, ◌-◌, ◌/◌, cond, ◌&&◌, List, [], ◌∷◌, ◌++◌, Option, Some, None, eqb, length, get_or}
 use Rattle.folds.specs.Bytes.{number}
 use Rattle.machine_rules.specs.declared.Call.{Call}
 use Rattle.machine_rules.specs.declared.Call.TheVariants.{Request, Release, GiveUp, Tick}
 use Rattle.machine_calls.specs.declared.CallBytes.{CallBytes}
-use Rattle.machine_calls.specs.declared.Decoded.{Decoded}
 
 -- "calls of 3 bytes"
 abbrev pub call_width : ℕ
@@ -20,8 +19,9 @@ call_of letter tag q =
     (cond (eqb letter 84 && (eqb tag 0 && eqb q 0)) (Tick ∷ []) [])))
 
 -- the calls that a decoding gives
-unfoldable pub decoded_calls : Decoded → List Call
-decoded_calls d = cond d.known (d.call ∷ []) []
+abbrev pub decoded_calls : Option Call → List Call
+decoded_calls (Some c) = c ∷ []
+decoded_calls None = []
 
 -- the tag in a call of w bytes that begins at `at`: all but the first byte and the last, low byte first
 unfoldable pub tag_at : (w : ℕ) → List ℕ → (at : ℕ) → ℕ

@@ -19,57 +19,30 @@ pub struct CallBytes {
     pub resource: u8,
 }
 
-// The call, where there is one.
-#[derive(Clone, Copy)]
-pub struct Decoded {
-    pub known: bool,
-    pub call: Call,
-}
-
 // The call of this letter, where there is one: another letter, or a tick with other bytes than 0, is none.
-pub fn decode(letter: u8, tag: u16, resource: u8) -> Decoded
+#[tactic(auto, unfolding(crate::specs::Calls::call_of))]
+pub fn decode(letter: u8, tag: u16, resource: u8) -> Option<Call>
     ensures { decoded_calls result ≡ call_of letter tag resource }
 {
     match letter {
-        b'Q' => Decoded {
-            known: true,
-            call: Call::Request(tag, resource),
-        },
-        b'R' => Decoded {
-            known: true,
-            call: Call::Release(tag, resource),
-        },
-        b'W' => Decoded {
-            known: true,
-            call: Call::GiveUp(tag, resource),
-        },
-        b'T' => Decoded {
-            known: (tag == 0) & (resource == 0),
-            call: Call::Tick,
-        },
-        _ => Decoded {
-            known: false,
-            call: Call::Tick,
-        },
+        b'Q' => Some(Call::Request(tag, resource)),
+        b'R' => Some(Call::Release(tag, resource)),
+        b'W' => Some(Call::GiveUp(tag, resource)),
+        b'T' if tag == 0 && resource == 0 => Some(Call::Tick),
+        _ => None,
     }
 }
 
-// A tag of two bytes, low byte first.
-fn tag_of(low: u8, high: u8) -> u16
-    ensures { result ≡ low + 256 * high }
-{
-    low as u16 + 256 * high as u16
-}
-
 // The tag of the call of this width that begins at `at`: one byte or two.
+#[tactic(auto, unfolding(crate::specs::Calls::tag_at, folds::specs::Bytes::number))]
 fn tag_at(calls: &[u8], at: usize, width: usize) -> u16
     requires { CallIn width at (length calls.now) }
     ensures { result ≡ tag_at width calls.now at }
 {
-    if width == 3 {
-        return tag_of(calls[at + 1], 0);
+    if width == WIDTH {
+        return u16::from(calls[at + 1]);
     }
-    tag_of(calls[at + 1], calls[at + 2])
+    u16::from_le_bytes([calls[at + 1], calls[at + 2]])
 }
 
 // The letter, the tag and the resource of the call of this width that begins at `at`.

@@ -1,5 +1,7 @@
 -- What the functions of this crate rely on and give. None of this is a rule of document 01.
-use Rattle.std.specs.Prelude.{ℕ, ◌-◌, ◌≤◌, ◌<◌, true, cond, List, ◌≢◌, ◌≡◌, eqb, length, get_or}
+use Rattle.std.specs.Prelude.{ℕ, ◌-◌, ◌≤◌, ◌<◌, true, cond, List, Result, IfOk, ◌≢◌, ◌≡◌, eqb, length, get_or}
+use Rattle.refusals.specs.declared.Refusal.{Refusal}
+use Rattle.refusals.specs.Refusals.{code_of}
 use Rattle.sizes.specs.Sizes.{most_processors, most_resources}
 use Rattle.plan_reading.specs.Plan.{Plan, plan_of, Checked}
 use Rattle.analysis_equations.specs.Questions.{task_number}
@@ -68,11 +70,11 @@ pub record Makes (f : List ℕ) (s : State) (figures keys seats : List ℕ) (c :
 
 -- ── what they give ──
 
--- the task with a tag; 11 or 12; where neither, whether it holds the resource
-pub record NamedBy (p : Plan) (s : State) (tag q : ℕ) (r : Named) : Type 0 where
-  pub task : r.task ≡ task_number p tag
-  pub code : r.code ≡ named_code p tag q
-  pub holds : named_code p tag q ≡ 0 → r.holds ≡ holds (task_number p tag) ((shows p s).lines q)
+-- the task with a tag, and whether it holds the resource; or 11 or 12
+pub record NamedBy (p : Plan) (s : State) (tag q : ℕ) (r : Result Named Refusal) : Type 0 where
+  pub code : code_of r ≡ named_code p tag q
+  pub task : IfOk r (λ n. n.task ≡ task_number p tag)
+  pub holds : IfOk r (λ n. n.holds ≡ holds (task_number p tag) ((shows p s).lines q))
 
 -- the first task of the head, as its number plus 1; 0 where the line is free
 unfoldable pub holder_seat : List ℕ → ℕ → LineRow → ℕ

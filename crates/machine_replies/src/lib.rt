@@ -3,6 +3,7 @@
 #![tactic(auto)]
 
 ghost use Rattle.std.specs.Prelude.{◌≡◌, ℕ};
+ghost use Rattle.refusals.specs.Refusals.{code_of};
 ghost use Rattle.plan_reading.specs.Plan.{plan_of};
 ghost use Rattle.machine_rules.specs.declared.Call.TheVariants.{Request, Release, GiveUp, Tick};
 ghost use Rattle.machine_rules.specs.Machine.{request_code, release_code, give_up_code, call_code};
@@ -12,6 +13,7 @@ ghost use Rattle.machine_replies.specs.Inner.{Grants, NamedBy, holder_seat, Acte
 
 use machine_rules::{Answer, Call};
 use machine_state::{LineRow, State};
+use refusals::Refusal;
 
 // The answer to a call, and the next state.
 #[derive(Clone, Copy)]
@@ -20,32 +22,28 @@ pub struct Reply {
     pub state: State,
 }
 
-// A task, why it or a resource is refused, and whether it holds that.
+// A task, and whether it holds a resource.
 #[derive(Clone, Copy)]
 struct Named {
-    code: u8,
     task: usize,
     holds: bool,
 }
 
-// 11 to 15, 0 where none, of a request on a sound state.
-fn request_code(file: &[u8], figures: &[u16], state: State, tag: u16, q: u8) -> u8
+// 11 to 15, where a request on a sound state is refused.
+#[tactic(auto, unfolding(machine_rules::specs::Machine::request_code), using(crate::proofs::Asked::user_low, crate::proofs::Asked::user_busy))]
+fn check_request(file: &[u8], figures: &[u16], state: State, tag: u16, q: u8) -> Result<(), Refusal>
     requires { OnKnown file.now state figures.now }
-    ensures { result ≡ request_code (plan_of file.now) (shows (plan_of file.now) state) tag q }
+    ensures { code_of result ≡ request_code (plan_of file.now) (shows (plan_of file.now) state) tag q }
 {
-    let user = analysis_figures::user_in(file, figures, tag, q);
-    if user.code != 0 {
-        return user.code;
+    let task = analysis_figures::user_in(file, figures, tag, q)?;
+    if machine_state::is_in_line(state.tasks[task]) {
+        return Err(Refusal::AlreadyInLine);
     }
-    let i = user.task;
-    let standing = state.tasks[i];
-    if machine_state::is_in_line(standing) {
-        return refusals::ALREADY_IN_LINE;
-    }
-    0
+    Ok(())
 }
 
 // Who holds q, as a task's number plus 1; 0 where it is free.
+#[tactic(auto, unfolding(crate::specs::Inner::holder_seat))]
 fn holder(line: LineRow, seats: &[u8], q: usize) -> u8
     requires { HeadOf seats.now q line }
     ensures { result ≡ holder_seat seats.now q line }
@@ -53,86 +51,73 @@ fn holder(line: LineRow, seats: &[u8], q: usize) -> u8
     if line.queued == 0 {
         return 0;
     }
-    let queue = line.queue;
-    seats[(q * sizes::PROCESSORS + folds::wide(queue[0])) * sizes::TASKS]
+    seats[(q * sizes::PROCESSORS + usize::from(line.queue[0])) * sizes::TASKS]
 }
 
-// The task with this tag; 11 or 12 where it or the resource is not there, 0 where both are, and then whether it holds the resource.
-fn task_named(file: &[u8], seats: &[u8], state: State, tag: u16, q: u8) -> Named
+// The task with this tag and whether it holds the resource; 11 or 12 where one of them is not there.
+#[tactic(auto, unfolding(machine_rules::specs::Machine::named_code), using(crate::proofs::Refused::resources_few, crate::proofs::Refused::head_of, crate::proofs::Refused::holds_told))]
+fn task_named(file: &[u8], seats: &[u8], state: State, tag: u16, q: u8) -> Result<Named, Refusal>
     requires { OnSeats file.now state seats.now }
     ensures { NamedBy (plan_of file.now) state tag q result }
 {
     let counts = plan_reading::checked::counts(file);
     let task = analysis_figures::task_number(file, tag);
-    if folds::wide(counts.tasks) <= task {
-        return Named {
-            code: refusals::UNKNOWN_TAG,
-            task,
-            holds: false,
-        };
+    if usize::from(counts.tasks) <= task {
+        return Err(Refusal::UnknownTag);
     }
     if counts.resources <= q {
-        return Named {
-            code: refusals::UNKNOWN_RESOURCE,
-            task,
-            holds: false,
-        };
+        return Err(Refusal::UnknownResource);
     }
-    let r = folds::wide(q);
-    let line = state.lines[r];
-    let first = folds::wide(holder(line, seats, r));
-    Named {
-        code: 0,
+    let r = usize::from(q);
+    let first = holder(state.lines[r], seats, r);
+    Ok(Named {
         task,
-        holds: first == task + 1,
-    }
+        holds: usize::from(first) == task + 1,
+    })
 }
 
-// 11, 12 and 16, 0 where none, of a release on a sound state.
-fn release_code(file: &[u8], seats: &[u8], state: State, tag: u16, q: u8) -> u8
+// 11, 12 and 16, where a release on a sound state is refused.
+#[tactic(auto, unfolding(machine_rules::specs::Machine::line_code))]
+fn check_release(file: &[u8], seats: &[u8], state: State, tag: u16, q: u8) -> Result<(), Refusal>
     requires { OnSeats file.now state seats.now }
-    ensures { result ≡ release_code (plan_of file.now) (shows (plan_of file.now) state) tag q }
+    ensures { code_of result ≡ release_code (plan_of file.now) (shows (plan_of file.now) state) tag q }
 {
-    let named = task_named(file, seats, state, tag, q);
-    if named.code != 0 {
-        return named.code;
-    }
+    let named = task_named(file, seats, state, tag, q)?;
     if !named.holds {
-        return refusals::NOT_HELD;
+        return Err(Refusal::NotHeld);
     }
-    0
+    Ok(())
 }
 
-// 11, 12 and 23, 0 where none, of a give-up on a sound state: it waits where its row names the resource and it does not hold it.
-fn give_up_code(file: &[u8], seats: &[u8], state: State, tag: u16, q: u8) -> u8
+// 11, 12 and 23, where a give-up on a sound state is refused: a task waits where its row names the resource and it does not hold it.
+#[tactic(auto, unfolding(machine_rules::specs::Machine::line_code), using(crate::proofs::Refused::named_low, crate::proofs::Refused::waits_told))]
+fn check_give_up(file: &[u8], seats: &[u8], state: State, tag: u16, q: u8) -> Result<(), Refusal>
     requires { OnSeats file.now state seats.now }
-    ensures { result ≡ give_up_code (plan_of file.now) (shows (plan_of file.now) state) tag q }
+    ensures { code_of result ≡ give_up_code (plan_of file.now) (shows (plan_of file.now) state) tag q }
 {
-    let named = task_named(file, seats, state, tag, q);
-    if named.code != 0 {
-        return named.code;
+    let named = task_named(file, seats, state, tag, q)?;
+    if state.tasks[named.task].resource == q && !named.holds {
+        return Ok(());
     }
-    let i = named.task;
-    let row = state.tasks[i];
-    if row.resource != q {
-        return refusals::NOT_WAITING;
-    }
-    if !named.holds {
-        return 0;
-    }
-    refusals::NOT_WAITING
+    Err(Refusal::NotWaiting)
 }
 
-// The refusal of a call on a sound state, 0 where there is none.
-pub fn call_code(file: &[u8], figures: &[u16], seats: &[u8], state: State, call: Call) -> u8
+// Why a call on a sound state is refused, if it is.
+pub fn check_call(
+    file: &[u8],
+    figures: &[u16],
+    seats: &[u8],
+    state: State,
+    call: Call,
+) -> Result<(), Refusal>
     requires { OnSound file.now state figures.now seats.now }
-    ensures { result ≡ call_code (plan_of file.now) (shows (plan_of file.now) state) call }
+    ensures { code_of result ≡ call_code (plan_of file.now) (shows (plan_of file.now) state) call }
 {
     match call {
-        Call::Request(tag, q) => request_code(file, figures, state, tag, q),
-        Call::Release(tag, q) => release_code(file, seats, state, tag, q),
-        Call::GiveUp(tag, q) => give_up_code(file, seats, state, tag, q),
-        Call::Tick => 0,
+        Call::Request(tag, q) => check_request(file, figures, state, tag, q),
+        Call::Release(tag, q) => check_release(file, seats, state, tag, q),
+        Call::GiveUp(tag, q) => check_give_up(file, seats, state, tag, q),
+        Call::Tick => Ok(()),
     }
 }
 
@@ -142,26 +127,27 @@ fn request_on(file: &[u8], figures: &[u16], seats: &[u8], state: State, tag: u16
     ensures { Acted (plan_of file.now) state (Request tag q) result }
 {
     let i = analysis_figures::task_number(file, tag);
-    let row = plan_reading::checked::task(file, i);
-    let k = row.processor;
-    let r = folds::wide(q);
+    let k = plan_reading::checked::task(file, i).processor;
+    let r = usize::from(q);
     let ahead = machine_steps::ahead_of(figures, seats, r, k);
-    let held = state.lines[r];
+    let queued = state.lines[r].queued;
     let next = machine_steps::join(state, figures, q, i, k, ahead.count);
-    if held.queued == 0 {
+    if queued == 0 {
         return Reply {
             answer: Answer::Granted,
             state: next,
         };
     }
     let wait = analysis_figures::wait_in(file, figures, k, r);
+    let most = ahead.holds + (u32::from(ahead.count) + 1) * wait;
     Reply {
-        answer: Answer::Waits(ahead.count, ahead.holds + (ahead.count as u32 + 1) * wait),
+        answer: Answer::Waits(ahead.count, most),
         state: next,
     }
 }
 
 // Who is granted q, once the first task of processor `gone` left and the line is as given.
+#[tactic(auto, unfolding(crate::specs::Inner::granted_answer))]
 fn granted(file: &[u8], line: LineRow, seats: &[u8], q: usize, gone: u8) -> Answer
     requires { Grants file.now seats.now q gone line }
     ensures { result ≡ granted_answer (plan_of file.now) seats.now q gone line }
@@ -169,15 +155,14 @@ fn granted(file: &[u8], line: LineRow, seats: &[u8], q: usize, gone: u8) -> Answ
     if line.queued == 0 {
         return Answer::Free;
     }
-    let queue = line.queue;
-    let k = queue[0];
-    let behind = k == gone;
-    let first = seats[(q * sizes::PROCESSORS + folds::wide(k)) * sizes::TASKS + behind as usize];
-    let row = plan_reading::checked::task(file, folds::wide(first) - 1);
+    let k = line.queue[0];
+    let seat = (q * sizes::PROCESSORS + usize::from(k)) * sizes::TASKS + usize::from(k == gone);
+    let row = plan_reading::checked::task(file, usize::from(seats[seat]) - 1);
     Answer::Next(row.tag)
 }
 
 // A release that is not refused, whatever the tag of the holder.
+#[tactic(auto, using(crate::proofs::Freed::free_ready, crate::proofs::Freed::free_grants))]
 fn release_on(
     file: &[u8],
     figures: &[u16],
@@ -189,13 +174,12 @@ fn release_on(
     requires { Frees file.now state figures.now keys.now seats.now q }
     ensures { (tag : ℕ) → Acted (plan_of file.now) state (Release tag q) result }
 {
-    let r = folds::wide(q);
-    let line = state.lines[r];
-    let queue = line.queue;
+    let r = usize::from(q);
+    let gone = state.lines[r].queue[0];
     let next = machine_steps::leave(state, figures, keys, seats, r);
-    let after = next.lines[r];
+    let answer = granted(file, next.lines[r], seats, r, gone);
     Reply {
-        answer: granted(file, after, seats, r, queue[0]),
+        answer,
         state: next,
     }
 }
@@ -206,28 +190,28 @@ fn give_up_on(file: &[u8], keys: &[u16], seats: &[u8], state: State, tag: u16, q
     ensures { Acted (plan_of file.now) state (GiveUp tag q) result }
 {
     let i = analysis_figures::task_number(file, tag);
-    let row = plan_reading::checked::task(file, i);
-    let next = machine_steps::withdraw(state, keys, seats, folds::wide(q), i, row.processor);
+    let k = plan_reading::checked::task(file, i).processor;
     Reply {
         answer: Answer::Left,
-        state: next,
+        state: machine_steps::withdraw(state, keys, seats, usize::from(q), i, k),
     }
 }
 
 // A tick, which is never refused.
+#[tactic(auto, using(crate::proofs::Beaten::beat_ready))]
 fn tick_on(file: &[u8], figures: &[u16], keys: &[u16], seats: &[u8], state: State) -> Reply
     requires { Makes file.now state figures.now keys.now seats.now Tick }
     ensures { Acted (plan_of file.now) state Tick result }
 {
     let ticked = machine_steps::tick(state, figures, keys, seats);
-    let next = ticked.state;
     Reply {
         answer: Answer::Ticked(ticked.cuts, ticked.grants),
-        state: next,
+        state: ticked.state,
     }
 }
 
 // A call on a sound state that is not refused.
+#[tactic(auto, using(crate::proofs::Freed::release_low, crate::proofs::Freed::release_held))]
 pub fn make(
     file: &[u8],
     figures: &[u16],

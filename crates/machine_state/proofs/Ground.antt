@@ -1,15 +1,15 @@
 -- The names that the proofs of this crate share, by one module: a definition that moves is named anew here alone.
 pub use Rattle.folds.proofs.Ground.{Bool, List, List·getD-eq-default, ◌%◌, ◌&&◌, ◌*◌, ◌+◌, ◌-◌, ◌/◌, ◌<◌, ◌||◌, ◌∙◌, ◌≡◌, ◌≢◌, ◌≤◌, ◌⊎◌}
-pub use Rattle.folds.proofs.Ground.{add-zero, and_assoc, and-true, ap, ap₂, arith, cond, eq-eqb, eqb, eqb-true, false, get_or, get_or-replicate}
+pub use Rattle.folds.proofs.Ground.{and_assoc, and-true, ap, ap₂, arith, cond, eq-eqb, eqb, eqb-true, false, get_or, get_or-replicate}
 pub use Rattle.folds.proofs.Ground.{get_or-set_other, get_or-set_same, inl, inr, le-leb, le-ltb, leb, leb-true, length, length-replicate}
 pub use Rattle.folds.proofs.Ground.{lt-leb, lt-ltb, ltb, ltb-true, ne_eqb, rules, not, not-true, or-true, refl, replicate, set, suc, sym}
 pub use Rattle.folds.proofs.Ground.{true, true≢false, zero, ℕ, ⊎_elim}
-pub use Rattle.folds.proofs.Tests.{all_at, all_done, all_from, all_more, all_same, all_step, and_parts, any_at, any_none, any_out}
+pub use Rattle.folds.proofs.Tests.{all_at, all_done, all_from, all_more, all_same, and_parts, any_at, any_none, any_out}
 pub use Rattle.folds.proofs.Tests.{find_none, is_not_true, or_out, same_test}
 pub use Rattle.folds.proofs.Searches.{find_is, on_eq, on_le}
 unfoldable pub use Rattle.folds.specs.Below.{all_below, any_below, max_below}
-unfoldable pub use Rattle.folds.specs.Bytes.{number, placed_below}
-pub use Rattle.folds.proofs.Arrays.{by_eq, placed_at, placed_length, placed_step, stamped_length, stamped_step}
+unfoldable pub use Rattle.folds.specs.Bytes.{number}
+pub use Rattle.folds.proofs.Arrays.{by_eq, stamped_length}
 unfoldable pub use Rattle.folds.proofs.Arrays.{stamped_below}
 pub use Rattle.folds.proofs.Figures.{max_at}
 pub use Rattle.sizes.specs.Sizes.{absent, most_processors, most_resources, most_tasks}

@@ -3,14 +3,20 @@ use Rattle.machine_state.proofs.Ground.{ℕ, zero, suc, ◌+◌, ◌-◌, ◌*�
 use Rattle.machine_state.proofs.Ground.{refl, ap, ◌∙◌, List, eqb, ltb, get_or, arith, eqb-true, eq-eqb, ne_eqb, ltb-true, lt-ltb}
 use Rattle.machine_state.proofs.Ground.{all_below, number, same_test, all_at, all_from, or_out, by_eq, on_eq, on_le, tail_test}
 use Rattle.folds.proofs.Ground.{◌^◌, ◌↔◌, pow-succ', div-lt_iff_lt-mul}
-use lib.Pow.{pow_pos, pow-add}
+use Rattle.std.specs.Int.{w64, from_le_bytes}
 use Rattle.folds.proofs.Searches.{same_eqb}
+use lib.Pow.{pow_pos, pow-add}
 
 module _ (s : List ℕ) where
   number_more : (w at : ℕ) → number (suc w) s at ≡ get_or s at 0 + 256 * number w s (at + 1)
   unfolding number
   number_more zero at = omega arith
   number_more (suc w) at = refl
+
+  -- it is what the library makes of them
+  pub le_bytes : {n : ℕ} → n ≡ from_le_bytes w64 s → n ≡ number 8 s 0
+  unfolding number
+  le_bytes e = omega (arith, e)
 
   -- a number is 0 exactly when all its bytes are
   zero_more : (a b : ℕ) → eqb (a + 256 * b) 0 ≡ (eqb a 0 && eqb b 0)

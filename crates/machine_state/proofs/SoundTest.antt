@@ -15,7 +15,7 @@ use Rattle.analysis_equations.specs.HoldTimes.{budget}
 use Rattle.queue_ranks.proofs.Ranked.{seated, ranks_few}
 use Rattle.machine_state.specs.Inner.{seated_at}
 use Rattle.machine_state.proofs.Tables.{low_processor, key_own, key_on, rank_out}
-use Rattle.machine_state.proofs.Passing.{slot_high, head_passed}
+use Rattle.machine_state.proofs.Passing.{head_passed}
 use Rattle.machine_state.proofs.Wholes.{both, row_none, rank_own, serves_max, server_low, alone_from, hold_test, hold_user, hold_task, hold_resource, row_of, served_at, ranked}
 
 -- ── tests ──
@@ -178,7 +178,7 @@ module _ (p : Plan) (v : Valid p) (ts : List Standing) (figures keys seats : Lis
     unfolding slot_test
     slot_same i =
         on_le (slot_test seats q l.queue i ≡ served_at p ts q l i) most_processors (slot l i)
-        (λ a. rw (slot_high seats q l.queue i a, serves_not (slot l i) (omega (arith, v.processors))))
+        (λ a. rw (le-ltb (slot l i) most_processors a, serves_not (slot l i) (omega (arith, v.processors))))
         (λ a. rw (lt-ltb (slot l i) most_processors a, serves_is (slot l i) a, none_any))
 
     slots_same : l.queued ≤ most_processors

@@ -1,21 +1,16 @@
 -- Laws of the tables: the seats of the tasks, and who sits where.
 use Rattle.machine_state.proofs.Ground.{ℕ, zero, suc, ◌+◌, ◌<◌, ◌≤◌, Bool, true, false, cond, ◌&&◌, ◌≡◌, refl, sym, ◌∙◌, ◌≢◌, List}
-use Rattle.machine_state.proofs.Ground.{eqb, ltb, length, get_or, set, replicate, length-replicate, get_or-replicate, get_or-set_same}
-use Rattle.machine_state.proofs.Ground.{get_or-set_other, arith, eqb-true, eq-eqb, ltb-true, lt-ltb, most_processors, most_tasks}
-use Rattle.machine_state.proofs.Ground.{most_resources, max_below, placed_below, and_parts, same_test, by_eq, placed_length, placed_at}
-use Rattle.machine_state.proofs.Ground.{placed_step, stamped_below, stamped_length, on_eq, on_le, Plan, Valid, processor_of, Figures}
-use Rattle.machine_state.proofs.Ground.{Standing, standing, rank, seat, no_seat, seat_count, key_of, Keys, Seats, InQueue}
-use Rattle.folds.proofs.Ground.{max, set-get_or, max-zero}
+use Rattle.machine_state.proofs.Ground.{eqb, ltb, length, get_or, set, replicate, length-replicate, get_or-replicate}
+use Rattle.machine_state.proofs.Ground.{get_or-set_same, get_or-set_other, arith, eqb-true, eq-eqb, ltb-true, lt-ltb}
+use Rattle.machine_state.proofs.Ground.{most_processors, most_tasks, most_resources, max_below, and_parts, same_test, by_eq}
+use Rattle.machine_state.proofs.Ground.{stamped_below, stamped_length, on_eq, on_le, Plan, Valid, processor_of, Figures, Standing}
+use Rattle.machine_state.proofs.Ground.{plan_of, valid_plan, standing, rank, seat, no_seat, seat_count, key_of, Keys, Seats, InQueue}
+use Rattle.folds.proofs.Ground.{max, max-zero}
 use Rattle.folds.proofs.Tests.{is_not_false}
 use Rattle.folds.proofs.Figures.{max_same}
 use Rattle.folds.proofs.Ranges.{max_where_bound}
-use Rattle.folds.proofs.Arrays.{placed_later}
+use Rattle.plan_reading.specs.Plan.{Checked}
 use Rattle.machine_state.specs.Inner.{SeatSized, Sized}
-
-module _ (p : Plan) where
-  -- the seats of the tasks below n
-  abbrev pub keys_below : List Standing → ℕ → List ℕ
-  keys_below ts n = placed_below n (λ u. key_of (standing ts u) (processor_of p u)) (replicate most_tasks no_seat)
 
 -- who of the tasks below n sits where
 abbrev pub seats_below : List ℕ → ℕ → List ℕ
@@ -25,16 +20,12 @@ module _ (p : Plan) (v : Valid p) where
   pub low_processor : (u : ℕ) → u < p.tasks → processor_of p u < most_processors
   low_processor u l = omega (arith, v.processors, (v.every_task_fits u l).processor)
 
-  -- the end of the loop over the tasks
-  pub keys_done : (ts : List Standing) (n : ℕ) {t : List ℕ} → n ≡ p.tasks → t ≡ keys_below p ts n → Keys p ts t
-  keys_done ts n e f =
-      let none : List ℕ = replicate most_tasks no_seat in
-      rw (f, e)
-      (record {
-        long = placed_length p.tasks _ none ∙ length-replicate {A = ℕ} most_tasks no_seat;
-        at = λ u l. placed_at p.tasks u _ none 0 l (rw length-replicate v.tasks);
-        rest = λ u l m. placed_later p.tasks u _ none 0 m ∙ get_or-replicate {A = ℕ} most_tasks u no_seat 0 l;
-      })
+-- the same of a file that passed every check
+pub few_tasks : (f : List ℕ) → Checked f → (plan_of f).tasks ≤ most_tasks
+few_tasks f h = (valid_plan f h).tasks
+
+pub core_low : (f : List ℕ) (u : ℕ) → Checked f → u < (plan_of f).tasks → processor_of (plan_of f) u < most_processors
+core_low f u h l = low_processor (plan_of f) (valid_plan f h) u l
 
 module _ (s : Standing) where
   -- the row names a resource and a place
@@ -46,23 +37,12 @@ module _ (s : Standing) where
       let a = and_parts (ltb s.resource most_resources) (ltb s.place most_tasks) t in
       record { core = l; resource = ltb-true _ _ a.0; place = ltb-true _ _ a.1 }
 
-  -- its seat by that test
-  pub key_at_lem : (m : ℕ) {k : ℕ} → k ≡ m → in_line ≡ true → seat s.resource k s.place ≡ key_of s m
-  unfolding key_of
-  key_at_lem m e t = rw (e, t)
-
   pub key_off : (m : ℕ) → in_line ≡ false → key_of s m ≡ no_seat
   unfolding key_of
   key_off m t = rw t
 
   pub key_on : (m : ℕ) → m < most_processors → key_of s m ≢ no_seat → InQueue s m
   key_on m l n = row_low m l (is_not_false in_line (λ t. n (key_off m t)))
-
--- a turn that puts nothing down, where it would put down what stands there
-pub placed_skip : (n : ℕ) (f : ℕ → ℕ) (l : List ℕ) {m : List ℕ} → m ≡ placed_below n f l → f n ≡ get_or l n 0 → m ≡ placed_below (n + 1) f l
-placed_skip n f l {m} e same =
-    let own : f n ≡ get_or m n 0 = rw (e, placed_later n n f l 0 (omega arith)) same in
-    sym (set-get_or m n 0) ∙ placed_step n f l e (sym own)
 
 -- a task of processor m with this row stands in place j of k's queue for q
 pub record Stands (s : Standing) (m q k j : ℕ) : Type 0 where

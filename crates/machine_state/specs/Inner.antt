@@ -1,9 +1,8 @@
 -- How the code looks up a state: the tables of its tasks, and the test of soundness by them. None of this is a rule of document 01:
 -- `Sound` has the rule.
-use Rattle.std.specs.Prelude.{ℕ, ◌+◌, ◌-◌, ◌*◌, ◌/◌, ◌%◌, ◌<◌, ◌≤◌, Bool, cond, ◌&&◌, ◌||◌, not, List, ◌≡◌, eqb, leb, ltb, length, get_or, replicate}
+use Rattle.std.specs.Prelude.{ℕ, ◌+◌, ◌-◌, ◌*◌, ◌/◌, ◌%◌, ◌<◌, ◌≤◌, Bool, true, false, cond, ◌&&◌, ◌||◌, not, Option, MatchOption, List, ◌≡◌, eqb, leb, ltb, length, get_or, replicate}
 use Rattle.sizes.specs.Sizes.{most_processors, most_tasks, most_resources, absent}
 use Rattle.folds.specs.Below.{all_below, any_below, max_below}
-use Rattle.folds.specs.Bytes.{number}
 use Rattle.plan_reading.specs.Plan.{Plan, plan_of, Checked}
 use Rattle.analysis_equations.specs.Sharing.{processor_of}
 use Rattle.machine_state.specs.declared.Standing.{Standing}
@@ -12,7 +11,6 @@ use Rattle.analysis_figures.specs.Figures.{figure_count, hold_cell, budget_cell}
 use Rattle.machine_state.specs.declared.LineRow.{LineRow}
 use Rattle.machine_state.specs.declared.State.{State}
 use Rattle.machine_state.specs.Sound.{sound}
-use Rattle.machine_state.specs.declared.Seated.{Seated}
 
 -- the number of the queue of processor k for q
 abbrev pub queue_at : ℕ → ℕ → ℕ
@@ -147,12 +145,11 @@ pub record Sized (figures keys seats : List ℕ) : Type 0 where
   pub keys_long : length keys ≡ most_tasks
   pub keys_low : (u : ℕ) → u < most_tasks → get_or keys u 0 < seat_count
 
--- task u with its seat, and the seats of all tasks before it counted
-pub record TaskSeat (figures seats : List ℕ) (key u base : ℕ) : Type 0 where
+-- task u with its seat
+pub record TaskSeat (figures seats : List ℕ) (key u : ℕ) : Type 0 where
   pub tables : SeatSized figures seats
   pub task : u < most_tasks
   pub seat : key < seat_count
-  pub counted : base ≡ u * no_seat
 
 -- the number of processors in a queue that is not empty
 pub record QueueCount (c : ℕ) : Type 0 where
@@ -181,13 +178,7 @@ pub record HeadRow (figures seats : List ℕ) (q : ℕ) (l : LineRow) : Type 0 w
 
 -- ── what they give ──
 
--- eight bytes as one number, low byte first
-pub record EightBytes (b : List ℕ) (r : ℕ) : Type 0 where
-  pub is : r ≡ number 8 b 0
-  pub low : (k : ℕ) → k < 8 → get_or b k 0 < 256
-
--- the tables of a state, and whether it is sound
-pub record SeatedState (p : Plan) (s : State) (t : List ℕ) (r : Seated) : Type 0 where
-  pub keys : Keys p s.tasks r.keys
+-- the seats of a state; where it is sound, the table of its tasks' seats too
+pub record SeatedState (p : Plan) (s : State) (t : List ℕ) (r : Option (List ℕ)) : Type 0 where
   pub seats : Seats p s.tasks t
-  pub sound : r.sound ≡ sound p s
+  pub told : MatchOption r (sound p s ≡ false) (λ keys. (sound p s ≡ true) × Keys p s.tasks keys)

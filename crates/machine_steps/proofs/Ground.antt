@@ -1,5 +1,5 @@
 -- The names that the proofs of this crate share, by one module: a definition that moves is named anew here alone.
-pub use Rattle.folds.proofs.Ground.{Bool, List, List·getD-eq-default, ◌&&◌, ◌||◌, ◌*◌, ◌+◌, ◌-◌, ◌/◌, ◌<◌, ◌∙◌, ◌≡◌, ◌≢◌, ◌≤◌, ◌⊎◌}
+pub use Rattle.folds.proofs.Ground.{Bool, List, List·getD-eq-default, ◌&&◌, ◌*◌, ◌+◌, ◌-◌, ◌/◌, ◌<◌, ◌∙◌, ◌≡◌, ◌≢◌, ◌≤◌, ◌⊎◌}
 pub use Rattle.folds.proofs.Ground.{and-false, ap, ap₂, arith, cond, eq-eqb, eqb, eqb-true, false, get_or, get_or-set_other, get_or-set_same, inl}
 pub use Rattle.folds.proofs.Ground.{inr, le-leb, length, lt-leb, lt-ltb, ltb, ne_eqb, rules, not, refl, replicate, set, suc, sym, true}
 pub use Rattle.folds.proofs.Ground.{zero, ℕ, ⊎_elim}
@@ -9,9 +9,8 @@ pub use Rattle.folds.proofs.Figures.{max_at}
 pub use Rattle.folds.proofs.Searches.{on_eq, on_le, same_eqb}
 pub use Rattle.folds.proofs.Arrays.{by_eq, stamped_at}
 unfoldable pub use Rattle.folds.proofs.Arrays.{stamped_below}
-pub use Rattle.folds.proofs.EachLaws.{each_at, each_done, each_step}
+pub use Rattle.folds.proofs.EachLaws.{each_at}
 unfoldable pub use Rattle.folds.specs.Each.{each_below}
-pub use Rattle.folds.specs.Words.{bit_of}
 unfoldable pub use Rattle.folds.specs.Words.{word_below}
 unfoldable pub use Rattle.folds.specs.Bytes.{placed_below}
 pub use Rattle.folds.proofs.WordLaws.{word_done, word_same}

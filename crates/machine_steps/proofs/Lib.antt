@@ -1,7 +1,7 @@
 pub mod Ground
 pub mod Marks
-pub mod Passing
 pub mod Taken
+pub mod Rows
 pub mod Joins
 pub mod Asking
 pub mod Ready

@@ -1,15 +1,13 @@
 -- Laws of what a tick tells: the words of resources, and the queues that lose their first.
-use Rattle.machine_steps.proofs.Ground.{ℕ, zero, suc, ◌+◌, ◌*◌, ◌/◌, ◌<◌, ◌≤◌, Bool, true, false, cond, ◌&&◌, ◌≡◌, refl, sym, ap}
+use Rattle.machine_steps.proofs.Ground.{ℕ, zero, suc, ◌/◌, ◌<◌, ◌≤◌, Bool, true, false, cond, ◌&&◌, ◌≡◌, refl, sym, ap}
 use Rattle.machine_steps.proofs.Ground.{ap₂, ◌∙◌, List, eqb, ltb, length, get_or, set, arith, any_below, and_parts, any_at, each_below}
-use Rattle.machine_steps.proofs.Ground.{bit_of, word_below, stamped_at, each_at, word_done, word_same, Standing, LineRow, no_standing}
-use Rattle.machine_steps.proofs.Ground.{no_line, slot, seat_count, fallen, lowered, cuts_holder, lost_queue, ended_below, ended_of}
+use Rattle.machine_steps.proofs.Ground.{word_below, stamped_at, each_at, word_done, word_same, Standing, LineRow, no_standing}
+use Rattle.machine_steps.proofs.Ground.{no_line, seat_count, fallen, lowered, cuts_holder, lost_queue, ended_of}
 use Rattle.machine_steps.proofs.Ground.{stepped, stepped_lines, cut_word, grant_word}
 use Rattle.folds.proofs.Ground.{true≢false, set-get_or, ltb-true}
 use lib.Count.{ones}
 use Rattle.folds.proofs.Tests.{is_not_true}
 use Rattle.folds.proofs.Ranges.{any_count}
-use Rattle.folds.proofs.Arrays.{stamped_step}
-use Rattle.folds.proofs.EachLaws.{each_later}
 use Rattle.folds.proofs.WordLaws.{word_ones}
 
 -- what stands for a queue that loses nobody
@@ -20,11 +18,6 @@ no_mark_lem false = refl
 -- where a tick cuts the holder, somebody is queued
 pub cut_queued : (l : LineRow) → cuts_holder l ≡ true → 1 ≤ l.queued
 cut_queued l e = ltb-true 0 l.queued (and_parts (ltb 0 l.queued) (eqb l.hold_left 1) e).0
-
--- the end of the loop that marks the queues
-pub ended_done : (ls : List LineRow) (n : ℕ) {m : List ℕ} → n ≡ 16 → m ≡ ended_below ls n → m ≡ ended_of ls
-unfolding ended_of
-ended_done ls n e p = rw (← e, p)
 
 -- a resource with a new grant, by its line before the tick
 module _ (figures seats : List ℕ) (ls : List LineRow) where
@@ -37,36 +30,6 @@ module _ (figures seats : List ℕ) (ls : List LineRow) where
       word_done 16 n newly e p
       ∙ word_same 16 _ _
       (λ q l. ap (λ (x : LineRow). cuts_holder (get_or ls q no_line) && ltb 0 x.queued) (sym (each_at no_line (λ r x. stepped figures seats r x) 16 q ls l h)))
-
-  -- a turn of the loop over the lines: the line that it takes is as it was, and so are the bits that it adds
-  module _ (n : ℕ) {m : List LineRow} (p : m ≡ each_below no_line (λ r l. stepped figures seats r l) n ls) where
-    pub line_kept : get_or m n no_line ≡ get_or ls n no_line
-    line_kept = ap (λ (x : List LineRow). get_or x n no_line) p ∙ each_later _ _ n n _ (omega arith)
-
-    module _ {on : Bool} (e : on ≡ cuts_holder (get_or m n no_line)) where
-      pub ends_kept : on ≡ cuts_holder (get_or ls n no_line)
-      ends_kept = e ∙ ap (λ (x : LineRow). cuts_holder x) line_kept
-
-      pub kept_queued : on ≡ true → 1 ≤ (get_or ls n no_line).queued
-      kept_queued t = cut_queued (get_or ls n no_line) (sym ends_kept ∙ t)
-
-      -- the marks, where the tick cuts the holder and where it does not
-      pub mark_cut : {t : List ℕ} {k : ℕ} → t ≡ ended_below ls n → on ≡ true → k ≡ slot (get_or m n no_line) 0 → set t (n * 8 + k) 1 ≡ ended_below ls (n + 1)
-      mark_cut f t k =
-          let e : cuts_holder (get_or ls n no_line) ≡ true = sym ends_kept ∙ t in
-          stamped_step n _ _ _ f (rw (e, k, line_kept)) (rw e)
-
-      pub mark_kept : {t : List ℕ} → t ≡ ended_below ls n → on ≡ false → set t 128 0 ≡ ended_below ls (n + 1)
-      mark_kept f t = let e : cuts_holder (get_or ls n no_line) ≡ false = sym ends_kept ∙ t in stamped_step n _ _ _ f (rw e) (rw e)
-
-      pub cut_bit : {b : ℕ} → b ≡ bit_of on n → b ≡ bit_of (cuts_holder (get_or ls n no_line)) n
-      cut_bit f = f ∙ ap (λ (x : Bool). bit_of x n) ends_kept
-
-      pub grant_bit : {b : ℕ} {after : LineRow} → after ≡ stepped figures seats n (get_or m n no_line) → b ≡ bit_of (on && ltb 0 after.queued) n → b ≡ bit_of (newly n) n
-      grant_bit g f =
-          f
-          ∙ ap₂ (λ (x : Bool) (y : LineRow). bit_of (x && ltb 0 y.queued) n) ends_kept
-          (g ∙ ap (λ (x : LineRow). stepped figures seats n x) line_kept)
 
 -- ── a tick that cuts nobody ──
 

@@ -6,12 +6,13 @@ ghost use Rattle.std.specs.Prelude.{◌≡◌, ◌&&◌, ◌<◌, ◌≤◌, eqb
 ghost use Rattle.folds.specs.Words.{bit_of};
 ghost use Rattle.machine_state.specs.Shows.{line_at};
 ghost use Rattle.machine_state.specs.Inner.{SeatSized, Sized};
-ghost use Rattle.machine_steps.specs.Inner.{pushed, joined_by, fallen, lowered, hold_of, begun, passed, stepped, left_by};
+ghost use Rattle.machine_steps.specs.Inner.{pushed, joined_by, lowered, hold_of, begun, passed, stepped, left_by};
 ghost use Rattle.machine_steps.specs.Inner.{QueueOf, PlaceTaken, Joining, Lowering, Beginning, Passing, Stepping, Leaving, AllRunning};
 ghost use Rattle.machine_steps.specs.Inner.{AheadOf, SteppedOf, TickedOf, closed, closed_up, dropped, withdrawn_by, Withdrawing};
 ghost use Rattle.sizes.specs.Sizes.{most_processors, most_tasks, most_resources};
 
 use machine_state::{LineRow, Standing, State};
+use std::array;
 
 // The queues of all processors for all resources.
 const QUEUES: usize = sizes::RESOURCES * sizes::PROCESSORS;
@@ -21,6 +22,9 @@ const MARKS: usize = QUEUES + 1;
 
 // The last slot of a queue of processors.
 const LAST: usize = sizes::PROCESSORS - 1;
+
+// The seats of one queue of tasks.
+const PLACES: u16 = sizes::TASKS as u16;
 
 // The tasks ahead in a queue: how many, and the sum of their hold times.
 #[derive(Clone, Copy)]
@@ -48,38 +52,33 @@ pub struct Ticked {
 }
 
 // Those in the queue of processor k for q.
+#[tactic(auto, unfolding(folds::specs::Below::sum_below))]
 pub fn ahead_of(figures: &[u16], seats: &[u8], q: usize, k: u8) -> Ahead
     requires { QueueOf figures.now seats.now q k }
     ensures { AheadOf figures.now seats.now q k result }
 {
-    let base = (q * sizes::PROCESSORS + folds::wide(k)) * sizes::TASKS;
-    let mut sum = 0u32;
-    let mut j = 0;
-    while j < sizes::TASKS {
-        let sits = folds::wide(seats[base + j]);
+    let base = (q * sizes::PROCESSORS + usize::from(k)) * sizes::TASKS;
+    let mut count = 0;
+    let mut holds = 0;
+    for &sits in &seats[base..base + sizes::TASKS] {
         if sits == 0 {
-            return Ahead {
-                count: j as u8,
-                holds: sum,
-            };
+            break;
         }
-        sum += analysis_figures::hold_at(figures, sits - 1, q) as u32;
-        j += 1;
+        count += 1;
+        holds += u32::from(analysis_figures::hold_at(figures, usize::from(sits) - 1, q));
     }
-    Ahead {
-        count: sizes::TASKS as u8,
-        holds: sum,
-    }
+    Ahead { count, holds }
 }
 
 // The line with processor k at its tail, which begins where nobody was queued.
+#[tactic(auto, unfolding(crate::specs::Inner::pushed))]
 fn push(line: LineRow, k: u8, hold: u16, budget: u16) -> LineRow
     requires { line.queued < most_processors }
     ensures { (result ≡ pushed line k hold budget) × (length line.queue ≡ most_processors) }
 {
     let mut queue = line.queue;
+    queue[usize::from(line.queued)] = k;
     if line.queued == 0 {
-        queue[0] = k;
         return LineRow {
             queued: 1,
             queue,
@@ -87,41 +86,41 @@ fn push(line: LineRow, k: u8, hold: u16, budget: u16) -> LineRow
             budget_left: budget,
         };
     }
-    queue[line.queued as usize] = k;
     LineRow {
         queued: line.queued + 1,
         queue,
-        hold_left: line.hold_left,
-        budget_left: line.budget_left,
+        ..line
     }
 }
 
 // Task i of processor k joins the line of q, behind `ahead` of its fellows.
+#[tactic(auto, unfolding(crate::specs::Inner::joined_lines))]
 pub fn join(mut state: State, figures: &[u16], q: u8, i: usize, k: u8, ahead: u8) -> State
     requires { Joining figures.now state q i k ahead }
     ensures { result ≡ joined_by figures.now state q i k ahead }
 {
-    let row = machine_state::in_line(q, ahead);
-    state.tasks[i] = row;
+    state.tasks[i] = machine_state::in_line(q, ahead);
     if ahead == 0 {
-        let r = folds::wide(q);
+        let r = usize::from(q);
         let hold = analysis_figures::hold_at(figures, i, r);
-        let budget = analysis_figures::budget_at(figures, folds::wide(k), r);
-        let line = state.lines[r];
-        state.lines[r] = push(line, k, hold, budget);
+        let budget = analysis_figures::budget_at(figures, usize::from(k), r);
+        state.lines[r] = push(state.lines[r], k, hold, budget);
     }
     state
 }
 
-// A row once the first of its queue left, where it did.
-fn fall(s: Standing, on: bool) -> Standing
-    ensures { result ≡ fallen on s }
+// A row once the task in this place of its queue left, where one did.
+#[tactic(auto, unfolding(crate::specs::Inner::closed))]
+fn close(s: Standing, on: bool, place: u8) -> Standing
+    ensures { result ≡ closed on place s }
 {
     if on {
-        if s.place == 0 {
+        if s.place == place {
             return machine_state::idle();
         }
-        return machine_state::moved_up(s);
+        if place < s.place {
+            return machine_state::moved_up(s);
+        }
     }
     s
 }
@@ -131,17 +130,7 @@ fn lower(tasks: [Standing; sizes::TASKS], keys: &[u16], ended: &[u8]) -> [Standi
     requires { Lowering keys.now ended.now }
     ensures { result ≡ lowered keys.now ended.now tasks }
 {
-    let mut next = tasks;
-    let mut u = 0;
-    while u < sizes::TASKS {
-        let s = next[u];
-        let queue = (keys[u] / sizes::TASKS as u16) as usize;
-        let on = ended[queue] == 1;
-        let after = fall(s, on);
-        next[u] = after;
-        u += 1;
-    }
-    next
+    array::from_fn(|u| close(tasks[u], ended[usize::from(keys[u] / PLACES)] == 1, 0))
 }
 
 // The hold time of the task in place j of the queue of processor k for q.
@@ -149,11 +138,12 @@ fn hold_of(figures: &[u16], seats: &[u8], q: usize, k: u8, j: usize) -> u16
     requires { PlaceTaken figures.now seats.now q k j }
     ensures { result ≡ hold_of figures.now seats.now q k j }
 {
-    let sits = folds::wide(seats[(q * sizes::PROCESSORS + folds::wide(k)) * sizes::TASKS + j]);
-    analysis_figures::hold_at(figures, sits - 1, q)
+    let sits = seats[(q * sizes::PROCESSORS + usize::from(k)) * sizes::TASKS + j];
+    analysis_figures::hold_at(figures, usize::from(sits) - 1, q)
 }
 
 // The head of a queue of c begins, once the first task of processor `gone` left.
+#[tactic(auto, unfolding(crate::specs::Inner::begun))]
 fn begin(
     queue: [u8; sizes::PROCESSORS],
     c: u8,
@@ -174,23 +164,23 @@ fn begin(
         };
     }
     let k = queue[0];
-    let behind = k == gone;
     LineRow {
         queued: c,
         queue,
-        hold_left: hold_of(figures, seats, q, k, behind as usize),
-        budget_left: analysis_figures::budget_at(figures, folds::wide(k), q),
+        hold_left: hold_of(figures, seats, q, k, usize::from(k == gone)),
+        budget_left: analysis_figures::budget_at(figures, usize::from(k), q),
     }
 }
 
 // The line once its holder left.
+#[tactic(auto, unfolding(crate::specs::Inner::passed))]
 fn pass(line: LineRow, figures: &[u16], seats: &[u8], q: usize) -> LineRow
     requires { Passing figures.now seats.now q line }
     ensures { result ≡ passed figures.now seats.now q line }
 {
     let l = line.queue;
     let head = l[0];
-    let next = seats[(q * sizes::PROCESSORS + folds::wide(head)) * sizes::TASKS + 1];
+    let next = seats[(q * sizes::PROCESSORS + usize::from(head)) * sizes::TASKS + 1];
     let mut queue = [l[1], l[2], l[3], l[4], l[5], l[6], l[7], sizes::ABSENT];
     if next == 0 {
         return begin(queue, line.queued - 1, head, figures, seats, q);
@@ -198,13 +188,11 @@ fn pass(line: LineRow, figures: &[u16], seats: &[u8], q: usize) -> LineRow
     let hold = hold_of(figures, seats, q, head, 1);
     if hold <= line.budget_left {
         return LineRow {
-            queued: line.queued,
-            queue: l,
             hold_left: hold,
-            budget_left: line.budget_left,
+            ..line
         };
     }
-    queue[line.queued as usize - 1] = head;
+    queue[usize::from(line.queued) - 1] = head;
     begin(queue, line.queued, head, figures, seats, q)
 }
 
@@ -214,30 +202,11 @@ pub fn leave(mut state: State, figures: &[u16], keys: &[u16], seats: &[u8], q: u
     ensures { result ≡ left_by figures.now keys.now seats.now q state }
 {
     let line = state.lines[q];
-    let queue = line.queue;
     let mut marks = [0u8; MARKS];
-    marks[q * sizes::PROCESSORS + folds::wide(queue[0])] = 1;
-    let rows = state.tasks;
-    let tasks = lower(rows, keys, &marks);
-    let after = pass(line, figures, seats, q);
-    state.lines[q] = after;
-    state.tasks = tasks;
+    marks[q * sizes::PROCESSORS + usize::from(line.queue[0])] = 1;
+    state.tasks = lower(state.tasks, keys, &marks);
+    state.lines[q] = pass(line, figures, seats, q);
     state
-}
-
-// A row once the task in this place of its queue left, where one did.
-fn close(s: Standing, on: bool, place: u8) -> Standing
-    ensures { result ≡ closed on place s }
-{
-    if on {
-        if s.place == place {
-            return machine_state::idle();
-        }
-        if place < s.place {
-            return machine_state::moved_up(s);
-        }
-    }
-    s
 }
 
 // The rows of the tasks once that in this place of one queue left.
@@ -250,59 +219,44 @@ fn close_up(
     requires { length keys.now ≡ most_tasks }
     ensures { result ≡ closed_up keys.now queue place tasks }
 {
-    let mut next = tasks;
-    let mut u = 0;
-    while u < sizes::TASKS {
-        let s = next[u];
-        let on = keys[u] / sizes::TASKS as u16 == queue;
-        let after = close(s, on, place);
-        next[u] = after;
-        u += 1;
-    }
-    next
+    array::from_fn(|u| close(tasks[u], keys[u] / PLACES == queue, place))
 }
 
 // The line without processor k, which is queued: those behind it move up.
+#[tactic(auto, unfolding(folds::specs::Below::any_below, folds::specs::Bytes::placed_below, crate::specs::Inner::dropped))]
 fn drop_core(line: LineRow, k: u8) -> LineRow
     requires { 1 ≤ line.queued }
     ensures { result ≡ dropped line k }
 {
-    let l = line.queue;
     let mut queue = [sizes::ABSENT; sizes::PROCESSORS];
     let mut past = false;
-    let mut j = 0;
-    while j < LAST {
-        past = past | (l[j] == k);
-        queue[j] = l[j + past as usize];
-        j += 1;
+    for j in 0..LAST {
+        past |= line.queue[j] == k;
+        queue[j] = line.queue[j + usize::from(past)];
     }
     LineRow {
         queued: line.queued - 1,
         queue,
-        hold_left: line.hold_left,
-        budget_left: line.budget_left,
+        ..line
     }
 }
 
 // Task i of processor k, which waits for q, leaves its queue.
+#[tactic(auto, unfolding(crate::specs::Inner::withdrawn_lines))]
 pub fn withdraw(mut state: State, keys: &[u16], seats: &[u8], q: usize, i: usize, k: u8) -> State
     requires { Withdrawing keys.now seats.now q i k state }
     ensures { result ≡ withdrawn_by keys.now seats.now q i k state }
 {
-    let own = state.tasks[i];
-    let queue = q * sizes::PROCESSORS + folds::wide(k);
-    let rows = state.tasks;
-    let tasks = close_up(rows, keys, queue as u16, own.place);
-    state.tasks = tasks;
+    let queue = q * sizes::PROCESSORS + usize::from(k);
+    state.tasks = close_up(state.tasks, keys, queue as u16, state.tasks[i].place);
     if seats[queue * sizes::TASKS + 1] == 0 {
-        let line = state.lines[q];
-        let after = drop_core(line, k);
-        state.lines[q] = after;
+        state.lines[q] = drop_core(state.lines[q], k);
     }
     state
 }
 
 // The line of q after a tick.
+#[tactic(auto, unfolding(crate::specs::Inner::stepped))]
 fn step(line: LineRow, figures: &[u16], seats: &[u8], q: usize) -> LineRow
     requires { Stepping figures.now seats.now q line }
     ensures { result ≡ stepped figures.now seats.now q line }
@@ -310,12 +264,10 @@ fn step(line: LineRow, figures: &[u16], seats: &[u8], q: usize) -> LineRow
     if line.queued == 0 {
         return line;
     }
-    let queue = line.queue;
     let after = LineRow {
-        queued: line.queued,
-        queue,
         hold_left: line.hold_left - 1,
         budget_left: line.budget_left - 1,
+        ..line
     };
     if line.hold_left == 1 {
         return pass(after, figures, seats, q);
@@ -335,64 +287,59 @@ fn bit(on: bool, q: usize) -> u16
     requires { q < most_resources }
     ensures { result ≡ bit_of on q }
 {
-    if on {
-        return 1u16 << q;
-    }
-    0
+    u16::from(on) << q
 }
 
 // The lines after a tick, in one pass with what the tick tells of them.
+#[tactic(auto, unfolding(folds::specs::Each::each_below, folds::specs::Words::word_below, folds::proofs::Arrays::stamped_below))]
 fn step_lines(lines: [LineRow; sizes::RESOURCES], figures: &[u16], seats: &[u8]) -> Stepped
     requires { (SeatSized figures.now seats.now) × (AllRunning seats.now lines) }
     ensures { SteppedOf figures.now seats.now lines result }
 {
     let mut next = lines;
-    let mut lost = [0u8; MARKS];
-    let mut cuts = 0u16;
-    let mut grants = 0u16;
-    let mut q = 0;
-    while q < sizes::RESOURCES {
-        let line = next[q];
-        let queue = line.queue;
-        let on = cuts_holder(line);
-        let after = step(line, figures, seats, q);
+    let mut marks = [0u8; MARKS];
+    let mut cuts = 0;
+    let mut grants = 0;
+    for (q, line) in lines.iter().enumerate() {
+        let on = cuts_holder(*line);
+        let after = step(*line, figures, seats, q);
         next[q] = after;
         cuts += bit(on, q);
         grants += bit(on & (0 < after.queued), q);
         if on {
-            lost[q * sizes::PROCESSORS + folds::wide(queue[0])] = 1;
+            marks[q * sizes::PROCESSORS + usize::from(line.queue[0])] = 1;
         } else {
             // Past the last queue: both arms store once, so that the table is one of stores by key.
-            lost[QUEUES] = 0;
+            marks[QUEUES] = 0;
         }
-        q += 1;
     }
     Stepped {
         lines: next,
-        marks: lost,
+        marks,
         cuts,
         grants,
     }
 }
 
 // A tick. The rows of the tasks stay as they are where no hold ends.
+#[tactic(auto, using(crate::proofs::Marks::rows_kept))]
 pub fn tick(mut state: State, figures: &[u16], keys: &[u16], seats: &[u8]) -> Ticked
     requires { (Sized figures.now keys.now seats.now) × (AllRunning seats.now state.lines) }
     ensures { TickedOf figures.now keys.now seats.now state result }
 {
-    let lines = state.lines;
-    let stepped = step_lines(lines, figures, seats);
-    let after = stepped.lines;
-    state.lines = after;
-    if stepped.cuts != 0 {
-        let rows = state.tasks;
-        let marks = stepped.marks;
-        let tasks = lower(rows, keys, &marks);
-        state.tasks = tasks;
+    let Stepped {
+        lines,
+        marks,
+        cuts,
+        grants,
+    } = step_lines(state.lines, figures, seats);
+    state.lines = lines;
+    if cuts != 0 {
+        state.tasks = lower(state.tasks, keys, &marks);
     }
     Ticked {
         state,
-        cuts: stepped.cuts,
-        grants: stepped.grants,
+        cuts,
+        grants,
     }
 }

@@ -3,9 +3,8 @@
 // bits and stay at their top.
 #![tactic(auto)]
 
-ghost use Rattle.std.specs.Prelude.{◌≡◌, ◌<◌, get_or};
-ghost use Rattle.sizes.specs.Sizes.{most_resources};
-ghost use Rattle.meters.specs.Meters.{one_more, longer, no_mark, counted, counted_each, no_meters};
+ghost use Rattle.std.specs.Prelude.{◌≡◌};
+ghost use Rattle.meters.specs.Meters.{counted, counted_each, no_meters};
 
 // What is counted of one resource.
 #[derive(Clone, Copy)]
@@ -23,34 +22,19 @@ pub struct Mark {
     pub waited: u32,
 }
 
-// n, or one more where it is counted, up to the top.
-fn one_more(on: bool, n: u32) -> u32
-    ensures { result ≡ one_more on n }
-{
-    if on & (n < u32::MAX) {
-        return n + 1;
-    }
-    n
-}
-
-// n, or a wait that is longer, where a grant ended it.
-fn longer(on: bool, waited: u32, n: u32) -> u32
-    ensures { result ≡ longer on waited n }
-{
-    if on & (n < waited) {
-        return waited;
-    }
-    n
-}
-
 // A meter with a mark counted.
+#[tactic(auto, unfolding(crate::specs::Meters::counted, crate::specs::Meters::one_more, crate::specs::Meters::longer))]
 pub fn counted(meter: Meter, mark: Mark) -> Meter
     ensures { result ≡ counted meter mark }
 {
     Meter {
-        grants: one_more(mark.granted, meter.grants),
-        cuts: one_more(mark.cut, meter.cuts),
-        longest: longer(mark.granted, mark.waited, meter.longest),
+        grants: meter.grants.saturating_add(u32::from(mark.granted)),
+        cuts: meter.cuts.saturating_add(u32::from(mark.cut)),
+        longest: if mark.granted {
+            meter.longest.max(mark.waited)
+        } else {
+            meter.longest
+        },
     }
 }
 
@@ -61,23 +45,13 @@ pub fn count(meter: &mut Meter, mark: Mark)
     *meter = counted(*meter, mark);
 }
 
-// The mark of a resource.
-fn mark_at(marks: [Mark; sizes::RESOURCES], q: usize) -> Mark
-    requires { q < most_resources }
-    ensures { result ≡ get_or marks q no_mark }
-{
-    marks[q]
-}
-
 // Counts the mark of each resource, where its meter is.
+#[tactic(auto, using(folds::proofs::EachLaws::each_step), unfolding(folds::specs::Each::each_below, crate::specs::Meters::counted_each))]
 pub fn count_each(meters: &mut [Meter; sizes::RESOURCES], marks: [Mark; sizes::RESOURCES])
     ensures { meters.new ≡ counted_each meters.old marks }
 {
-    let mut q = 0;
-    while q < sizes::RESOURCES {
-        let mark = mark_at(marks, q);
-        count(&mut meters[q], mark);
-        q += 1;
+    for (q, meter) in meters.iter_mut().enumerate() {
+        count(meter, marks[q]);
     }
 }
 

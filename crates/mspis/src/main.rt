@@ -13,7 +13,6 @@ ghost use Rattle.mspis.specs.Served.{Wrote};
 
 use machine_calls::WIDTH;
 use machine_state::State;
-use plan::ReadAnswer;
 use std::io;
 use std::io::{Read, Write};
 
@@ -29,20 +28,14 @@ struct Served {
 fn print_plan<W: Write>(output: &mut W, counts: plan_rules::Counts) -> io::Result<()>
     ensures { OnOk result (Appends (W.contents output.old) (W.contents output.new) (plan_line counts)) }
 {
-    let mut out = [0u8; print_lines::LINE];
-    let line = print_calls::plan_line(counts, &mut out);
-    let end = line.length;
-    output.write_all(&out[0..end])
+    streams::print_line(output, |out| print_calls::plan_line(counts, out))
 }
 
 // "refused 22", where bytes are left over.
 fn print_end<W: Write>(output: &mut W, left: usize) -> io::Result<()>
     ensures { OnOk result (Appends (W.contents output.old) (W.contents output.new) (end_line left)) }
 {
-    let mut out = [0u8; print_lines::LINE];
-    let line = print_calls::end_line(left, &mut out);
-    let end = line.length;
-    output.write_all(&out[0..end])
+    streams::print_line(output, |out| print_calls::end_line(left, out))
 }
 
 // Makes all whole calls, and writes their lines in pieces as large as the buffer; a refusal, which the plan and the states of this
@@ -61,18 +54,22 @@ fn serve<W: Write>(
 {
     let mut state = start;
     let mut used = 0;
-    let mut written = true;
-    while written & (WIDTH <= calls.len() - used) {
-        let batch = print_calls::lines(file, state, &calls[used..], out);
-        let end = batch.length;
-        output.write_all(&out[0..end])?;
-        written = batch.refusal == 0;
+    // No counting loop: a turn goes as far as there was room for lines.
+    while WIDTH <= calls.len() - used {
+        let Ok(batch) = print_calls::lines(file, state, &calls[used..], out) else {
+            return Ok(Served {
+                used,
+                written: false,
+                state,
+            });
+        };
+        output.write_all(&out[..batch.length])?;
         state = batch.state;
         used += batch.used;
     }
     Ok(Served {
         used,
-        written,
+        written: true,
         state,
     })
 }
@@ -99,33 +96,30 @@ fn read_more<R: Read>(input: &mut R, buf: &mut [u8], kept: usize) -> io::Result<
     input.read(&mut buf[kept..])
 }
 
-// Makes the calls that follow the plan, as they come, until the input ends. A proved loop has to end: the
-// turns are counted down from a number that no run uses up.
+// Makes the calls that follow the plan, as they come, until the input ends. A proved loop has to end: there are more turns than any
+// run takes.
 fn serve_all<R: Read, W: Write>(input: &mut R, output: &mut W, file: &[u8]) -> io::Result<()>
     ensures { refusal file.now ≡ 0 → OnOk result (IfSome (R.remaining input.old) (λ xs. length xs < 2 ^ 64 - 1
         → Appends (W.contents output.old) (W.contents output.new) (calls_output file.now xs))) }
 {
     let mut calls = [0u8; streams::BUFFER];
     let mut out = [0u8; streams::BUFFER];
-    let mut state = machine::start(file).state;
+    let mut state = machine_state::fresh();
     let mut kept = 0;
-    let mut going = true;
-    let mut written = true;
-    let mut turns = u64::MAX;
-    while going & (turns > 0) {
+    for _turn in 0..u64::MAX {
         let got = read_more(input, &mut calls, kept)?;
         let end = kept + got;
-        let served = serve(output, file, state, &calls[0..end], &mut out)?;
+        let served = serve(output, file, state, &calls[..end], &mut out)?;
         state = served.state;
-        written = served.written;
         kept = keep(&mut calls, served.used, end);
-        going = written & (got != 0);
-        turns -= 1;
+        if !served.written {
+            return Ok(());
+        }
+        if got == 0 {
+            break;
+        }
     }
-    if written {
-        return print_end(output, kept);
-    }
-    Ok(())
+    print_end(output, kept)
 }
 
 fn main(rt: HostRuntime) -> io::Result<()> {
@@ -133,12 +127,11 @@ fn main(rt: HostRuntime) -> io::Result<()> {
     let mut output = rt.stdout();
     let mut buf = [0u8; streams::BUFFER];
     let end = streams::read_plan(&mut input, &mut buf)?;
-    let file = &buf[0..end];
-    let found = plan::read(file);
-    let answer = found.answer;
-    let ReadAnswer::Accepted(counts) = answer else {
-        return streams::print_refused(&mut output, plan::number(answer));
+    let file = &buf[..end];
+    let read = plan::read(file);
+    let Ok(plan) = read else {
+        return streams::print_refused(&mut output, refusals::code(&read));
     };
-    print_plan(&mut output, counts)?;
+    print_plan(&mut output, plan.counts)?;
     serve_all(&mut input, &mut output, file)
 }

@@ -10,27 +10,27 @@ ghost use Rattle.mspis_c.specs.Words.{word_of};
 
 use machine_rules::{Answer, Call};
 
-// 256 to these powers: the second, third and fourth byte of a word.
-const SECOND: u64 = 256;
-
-const THIRD: u64 = 65536;
-
-const FOURTH: u64 = 16777216;
-
 // The word of an answer.
+#[tactic(auto, unfolding(crate::specs::Words::word_of, folds::specs::Bytes::number, folds::specs::Bytes::row_bytes, folds::specs::Bytes::digits))]
 fn word(answer: Answer) -> u64
     ensures { result ≡ word_of answer }
 {
     match answer {
-        Answer::Granted => 0,
-        Answer::Waits(ahead, limit) => SECOND
-            + THIRD * folds::byte(ahead)
-            + FOURTH * (limit as u64),
-        Answer::Next(tag) => SECOND + THIRD * folds::word(tag),
-        Answer::Free => 0,
-        Answer::Left => 0,
-        Answer::Ticked(cuts, grants) => SECOND * folds::word(cuts) + FOURTH * folds::word(grants),
-        Answer::Refused(code) => folds::byte(code),
+        Answer::Granted | Answer::Free | Answer::Left => 0,
+        Answer::Waits(ahead, limit) => {
+            let [l0, l1, l2, l3] = limit.to_le_bytes();
+            u64::from_le_bytes([0, 1, ahead, l0, l1, l2, l3, 0])
+        }
+        Answer::Next(tag) => {
+            let [t0, t1] = tag.to_le_bytes();
+            u64::from_le_bytes([0, 1, t0, t1, 0, 0, 0, 0])
+        }
+        Answer::Ticked(cuts, grants) => {
+            let [c0, c1] = cuts.to_le_bytes();
+            let [g0, g1] = grants.to_le_bytes();
+            u64::from_le_bytes([0, c0, c1, g0, g1, 0, 0, 0])
+        }
+        Answer::Refused(code) => u64::from(code),
     }
 }
 
@@ -39,7 +39,7 @@ pub fn mspis_start(plan: &[u8], image: &mut [u8]) -> u64
     ensures value { result ≡ lent_refusal plan.now image.old }
     ensures started_image { StartedImage plan.now image.old image.new }
 {
-    folds::byte(image_calls::start(plan, image))
+    u64::from(refusals::code(&image_calls::start(plan, image)))
 }
 
 // A request of a resource by the task with this tag.

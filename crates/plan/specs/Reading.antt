@@ -1,43 +1,27 @@
 -- Document 01, "What each operation refuses, in order": reading a plan, and the question for a name.
-use Rattle.std.specs.Prelude.{ℕ, min, cond, List, [], ◌∷◌, ltb, eqb, length, replicate}
+use Rattle.std.specs.Prelude.{ℕ, min, cond, List, [], ◌∷◌, ltb, eqb, length, Result}
 use Rattle.refusals.specs.Numbers.{unknown_resource}
 use Rattle.refusals.specs.Outcomes.{Outcome, outcome}
-use Rattle.sizes.specs.Sizes.{most_tasks, most_resources, most_sections}
-use Rattle.plan_rules.specs.Rules.{no_task, no_section}
+use Rattle.refusals.specs.Refusals.{outcome_by}
+use Rattle.refusals.specs.declared.Refusal.{Refusal}
 use Rattle.plan_rules.specs.declared.Counts.{Counts}
-use Rattle.plan_rules.specs.declared.Rows.{Rows}
 use Rattle.plan_layout.specs.Editions.{header_length}
 use Rattle.plan_layout.specs.Layout.{counts_of, length_said, rows_of}
 use Rattle.plan_reading.specs.Plan.{name_part}
 use Rattle.plan.specs.declared.Reading.{Reading}
-use Rattle.plan.specs.declared.ReadAnswer.{ReadAnswer}
-use Rattle.plan.specs.declared.ReadAnswer.TheVariants.{Accepted, Refused}
 use Rattle.plan.specs.Acceptance.{refusal}
 
--- no rows
-abbrev pub no_rows : Rows
-no_rows = record { tasks = replicate most_tasks no_task; lengths = replicate most_resources 0; sections = replicate most_sections no_section }
-
--- a refusal: no plan is given
-abbrev pub refused_with : ℕ → Reading
-refused_with code = record { answer = Refused code; rows = no_rows }
-
--- the plan, or the refusal where that is not 0
-unfoldable pub given : List ℕ → ℕ → Reading
-given f code = cond (eqb code 0) (record { answer = Accepted (counts_of f); rows = rows_of f }) (refused_with code)
-
--- reading a file: its counts and rows, or the first check that it fails
+-- the plan in a file by value
 abbrev pub reading : List ℕ → Reading
-reading f = given f (refusal f)
+reading f = record { counts = counts_of f; rows = rows_of f }
 
 -- the values that counts tell: P, N, R and S
 abbrev pub count_values : Counts → List ℕ
 count_values c = c.processors ∷ c.tasks ∷ c.resources ∷ c.sections ∷ []
 
 -- document 01's number and values for each case of the answer: a plan that is read has no refusal, and the values of its counts
-abbrev pub read_outcome : ReadAnswer → Outcome
-read_outcome (Accepted c) = record { number = 0; values = count_values c }
-read_outcome (Refused code) = record { number = code; values = [] }
+abbrev pub read_outcome : Result Reading Refusal → Outcome
+read_outcome = outcome_by (λ r. count_values r.counts)
 
 -- what reading a file tells
 abbrev pub reading_outcome : List ℕ → Outcome

@@ -1,19 +1,17 @@
 -- The names that the proofs of this crate share, by one module: a definition that moves is named anew here alone.
-pub use Rattle.folds.proofs.Ground.{Bool, List, ◌%◌, ◌&&◌, ◌*◌, ◌+◌, ◌-◌, ◌<◌, ◌∙◌, ◌≡◌, ◌≤◌, ap, ap₂, arith, cond, eqb, false, get_or}
-pub use Rattle.folds.proofs.Ground.{length, rules, not-false, not-true, refl, replicate, sym, true, ℕ}
+pub use Rattle.folds.proofs.Ground.{Bool, List, ◌%◌, ◌&&◌, ◌*◌, ◌+◌, ◌<◌, ◌∙◌, ◌≡◌, ◌≤◌, ap, ap₂, arith, cond, eqb, false, get_or}
+pub use Rattle.folds.proofs.Ground.{length, refl, replicate, sym, true, ℕ}
 unfoldable pub use Rattle.folds.specs.Bytes.{fields, number, row_at}
 pub use Rattle.folds.proofs.RowLaws.{Bytes}
 unfoldable pub use Rattle.folds.specs.Below.{all_below, sum_below}
-pub use Rattle.folds.proofs.Tests.{all_at, all_same, all_step, failed, failed_not, held, held_not}
+pub use Rattle.folds.proofs.Tests.{all_at, all_same}
 pub use Rattle.folds.proofs.Figures.{sum_same}
 unfoldable pub use Rattle.folds.proofs.Arrays.{gathered_below, marked_below}
 pub use Rattle.plan_rules.specs.declared.TaskRow.{TaskRow}
 pub use Rattle.sizes.specs.Sizes.{most_sections, most_tasks}
 pub use Rattle.plan_rules.specs.Rules.{no_section, no_task, section_ok, task_of}
-pub use Rattle.plan_rules.proofs.Laws.{counts_facts}
 pub use Rattle.refusals.specs.Numbers.{repeated, sections_above, wrong_task}
-pub use Rattle.plan_rules.proofs.Loops.{Placed, Tested, placed_all, placed_none, placed_one, tested_all, tested_none, tested_one}
 pub use Rattle.plan_layout.specs.Editions.{Edition, edition1, format_of}
 unfoldable pub use Rattle.plan_layout.specs.Layout.{length_at, length_rows, length_rows_ok, section_at, section_rows, section_rows_ok, task_at}
 unfoldable pub use Rattle.plan_layout.specs.Layout.{task_rows, task_rows_ok}
-unfoldable pub use Rattle.plan_layout.specs.Inner.{rest_code, section_code, sums_fit, task_code}
+unfoldable pub use Rattle.plan_layout.specs.Inner.{section_code, sums_fit, task_code}

@@ -50,15 +50,14 @@ priority_byte : (part : List ℕ) → Bytes part → (k : ℕ) → (task_at edit
 priority_byte part b k = rw (ap (λ (t : TaskRow). t.priority) (task_fields part k)) (b (k * 8 + 2))
 
 -- what a pass over the rows below i has found
-pub record Seen (n p : ℕ) (part ts ps : List ℕ) (test new : Bool) (i : ℕ) : Type 0 where
-  pub below : i ≤ n
-  pub tags : ts ≡ marked_below i (tag_key part) (replicate 256 0)
-  pub places : ps ≡ marked_below i (place_key part) (replicate 2048 0)
+pub record Seen (n p : ℕ) (part : List ℕ) (ts ps : List Bool) (test new : Bool) (i : ℕ) : Type 0 where
+  pub tags : ts ≡ marked_below i (tag_key part) (replicate 256 false)
+  pub places : ps ≡ marked_below i (place_key part) (replicate 2048 false)
   pub ok : test ≡ task_rows_ok edition1 i p part
   pub fresh : new ≡ all_below i (keys_new part)
 
 -- and a pass over all
-module _ {n p : ℕ} {part ts ps : List ℕ} {test new : Bool} {i : ℕ} (s : Seen n p part ts ps test new i) (e : i ≡ n) where
+module _ {n p : ℕ} {part : List ℕ} {ts ps : List Bool} {test new : Bool} {i : ℕ} (s : Seen n p part ts ps test new i) (e : i ≡ n) where
   pub seen_code : TasksFit n p part → Bytes part → cond test (cond new 0 repeated) wrong_task ≡ task_code edition1 n p part
   unfolding task_code
   seen_code f b = go test (rw (← e) s.ok)

@@ -1,12 +1,13 @@
 -- What a file that passed its checks tells.
-use Rattle.plan_reading.proofs.Ground.{ℕ, ◌+◌, ◌≤◌, ◌≡◌, sym, ap, ◌∙◌, length, length-drop, arith, eq-eqb, ne_eqb, counts_ok, Counts}
+use Rattle.plan_reading.proofs.Ground.{ℕ, ◌+◌, ◌≤◌, ◌≡◌, sym, ap, length, length-drop, arith, counts_ok, Counts}
 use Rattle.plan_reading.proofs.Ground.{known, header_length, counts_of, resources_at, sections_at, names_at, offsets_ok, task_rows_of}
-use Rattle.plan_reading.proofs.Ground.{lengths_of, sections_of, plan_of, name_part, counts_code, header_code}
-use Rattle.folds.proofs.Ground.{suc, ◌*◌, ◌<◌, Bool, true, false, cond, refl, List, eqb, ltb, get_or, drop, length-take, List·getD-eq-default, get_or-drop, ltb-true, ltb-false, eqb-true}
+use Rattle.plan_reading.proofs.Ground.{lengths_of, sections_of, plan_of, counts_code, header_code}
+use Rattle.folds.proofs.Ground.{suc, ◌*◌, ◌<◌, Bool, true, false, cond, refl, List, eqb, ltb, get_or, drop, List·getD-eq-default, get_or-drop, ltb-true, ltb-false, eqb-true}
 use Rattle.folds.specs.Bytes.{number}
 use Rattle.folds.proofs.Tests.{code_zero, code_next, first_zero, then_zero, all_at}
 use Rattle.folds.proofs.Figures.{sum_at}
 use Rattle.folds.proofs.RowLaws.{Bytes}
+use Rattle.folds.proofs.Parts.{part_rest, part_span}
 use Rattle.plan_rules.specs.Rules.{task_of, unique_ok, names_ok, sums_ok, Tests}
 use Rattle.plan_rules.specs.declared.TaskRow.{TaskRow}
 use Rattle.sizes.specs.Sizes.{most_name_bytes}
@@ -16,16 +17,6 @@ use Rattle.plan_rules.proofs.Laws.{facts, InRange, counts_facts, task_facts, uni
 use Rattle.plan_layout.proofs.Laws.{task_read, length_read, start_read, task_fields, task_kept, resource_kept}
 use Rattle.plan_reading.specs.Plan.{Checked, TaskFits, SectionFits, Valid}
 use Rattle.plan_reading.specs.Checks.{rows_code, check_code}
-
--- the first check that a file fails, by whether one of its header's does
-module _ (f : List ℕ) where
-  pub header_fails : {k : ℕ} → k ≡ header_code f → (k ≡ 0 → ⊥) → check_code f ≡ k
-  unfolding check_code
-  header_fails e d = rw (← e, ne_eqb _ _ d)
-
-  pub header_holds : {k : ℕ} → k ≡ header_code f → k ≡ 0 → check_code f ≡ rows_code f
-  unfolding check_code
-  header_holds e z = rw (eq-eqb (header_code f) 0 (sym e ∙ z))
 
 -- the header
 pub record Header (f : List ℕ) : Type 0 where
@@ -135,25 +126,13 @@ name_facts f q e l =
       short = omega (arith, rule.high, length_read (edition_in f) r part q l h.ranges.resources);
     }
 
--- a part of the file that is such a name
-pub name_said : (part f : List ℕ) (q : ℕ) → Named f q → part ≡ name_part f q → (part ≡ name_part f q) × (length part ≤ most_name_bytes)
-unfolding name_part
-name_said part f q n e =
-    (e, rw e (omega (arith, length-take (length_in f q) (drop (names_at (counts_of f) + start_in f q) f), n.short)))
+-- what a name's part of the file is proved by: for `search`
+pub ruleset named = (whole_facts, name_facts, part_rest, part_span)
 
 -- the plan of a file has the counts in its header
-module _ (f : List ℕ) where
-  pub plan_tasks : (plan_of f).tasks ≡ (counts_of f).tasks
-  unfolding plan_of
-  plan_tasks = refl
-
-  pub plan_resources : (plan_of f).resources ≡ (counts_of f).resources
-  unfolding plan_of
-  plan_resources = refl
-
-  pub plan_sections : (plan_of f).sections ≡ (counts_of f).sections
-  unfolding plan_of
-  plan_sections = refl
+pub plan_resources : (f : List ℕ) → (plan_of f).resources ≡ (counts_of f).resources
+unfolding plan_of
+plan_resources f = refl
 
 -- what is read past the end of a file is 0, so a byte too
 checked_bytes : (f : List ℕ) → Checked f → Bytes f

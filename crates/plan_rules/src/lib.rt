@@ -11,7 +11,7 @@ const SECTION_TICKS: u16 = 1000;
 
 // A task: its tag, period T, execution time C, processor and priority. The wide fields stand first, so that no byte is lost
 // between them.
-#[derive(Clone, Copy)]
+#[derive(Clone, Copy, PartialEq, Eq)]
 pub struct TaskRow {
     pub tag: u16,
     pub period: u16,
@@ -21,7 +21,7 @@ pub struct TaskRow {
 }
 
 // A section: a task holds a resource for so many ticks.
-#[derive(Clone, Copy)]
+#[derive(Clone, Copy, PartialEq, Eq)]
 pub struct SectionRow {
     pub task: u8,
     pub resource: u8,
@@ -29,7 +29,7 @@ pub struct SectionRow {
 }
 
 // The edition of a plan file, and how many processors, tasks, resources and sections the plan has.
-#[derive(Clone, Copy)]
+#[derive(Clone, Copy, PartialEq, Eq)]
 pub struct Counts {
     pub edition: u8,
     pub processors: u8,

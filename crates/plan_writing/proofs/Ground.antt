@@ -27,5 +27,4 @@ pub use Rattle.plan_reading.proofs.Laws.{whole_facts}
 pub use Rattle.plan_bytes.specs.Encode.{file_length}
 unfoldable pub use Rattle.plan_bytes.specs.Encode.{file_of, header_bytes, resource_bytes, section_bytes, task_bytes}
 pub use Rattle.plan_bytes.proofs.Put.{header_length_lem}
-pub use Rattle.plan_writing.specs.declared.WriteAnswer.TheVariants.{Written}
 unfoldable pub use Rattle.plan_writing.specs.RoundTrip.{trimmed}

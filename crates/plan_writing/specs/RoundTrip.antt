@@ -9,12 +9,9 @@ use Rattle.plan_rules.specs.declared.Rows.{Rows}
 use Rattle.plan_layout.specs.Layout.{counts_of, rows_of, names_of, values_code}
 use Rattle.plan_bytes.specs.Encode.{file_of}
 use Rattle.plan.specs.declared.Reading.{Reading}
-use Rattle.plan.specs.declared.ReadAnswer.TheVariants.{Accepted}
 use Rattle.refusals.specs.Outcomes.{Outcome, outcome}
 use Rattle.plan.specs.Acceptance.{refusal}
-use Rattle.plan.specs.Reading.{refused_with, count_values, name_refusal, name_of}
-use Rattle.plan_writing.specs.declared.WriteAnswer.{WriteAnswer}
-use Rattle.plan_writing.specs.declared.WriteAnswer.TheVariants.{Written, Refused}
+use Rattle.plan.specs.Reading.{count_values, name_refusal, name_of}
 use Rattle.plan_writing.specs.Writing.{write_code}
 
 -- the rows of a plan, with whatever stands past the counts made zero, as a reader gives them
@@ -52,10 +49,9 @@ pub record SameFile (f : List ℕ) : Type 0 where
 abbrev pub ReadThenWritten : Type 0
 ReadThenWritten = (f : List ℕ) → ((i : ℕ) → get_or f i 0 < 256) → refusal f ≡ 0 → SameFile f
 
--- reading back what was written: the same plan, or why it was not written
-unfoldable pub read_back : Counts → Rows → List ℕ → ℕ → Reading
-read_back c rows names room =
-    cond (eqb (write_code c rows names room) 0) (record { answer = Accepted c; rows = trimmed c rows }) (refused_with (write_code c rows names room))
+-- what is read back where it was written: the same plan
+abbrev pub read_back : Counts → Rows → Reading
+read_back c rows = record { counts = c; rows = trimmed c rows }
 
 -- what that tells
 abbrev pub read_back_outcome : Counts → Rows → List ℕ → ℕ → Outcome
@@ -65,10 +61,6 @@ read_back_outcome c rows names room =
 -- copying a file by reading and writing it: 1 to 9 as reading does, then 10
 unfoldable pub copy_refusal : List ℕ → ℕ → ℕ
 copy_refusal f room = cond (eqb (refusal f) 0) (cond (leb (length f) room) 0 no_room) (refusal f)
-
--- the answer of it
-unfoldable pub copying : List ℕ → ℕ → WriteAnswer
-copying f room = cond (eqb (copy_refusal f room) 0) (Written (length f)) (Refused (copy_refusal f room))
 
 -- what that tells
 abbrev pub copy_outcome : List ℕ → ℕ → Outcome

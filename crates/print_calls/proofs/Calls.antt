@@ -1,15 +1,10 @@
 -- What the bytes of a call print and do, once it is known whether they are a call.
-use Rattle.print_calls.proofs.Ground.{ℕ, ◌≡◌, refl, sym, ◌∙◌, List, [], ◌∷◌, Call, Answer, State, state_refusal, reply, Surveyed}
+use Rattle.print_calls.proofs.Ground.{ℕ, ◌≡◌, refl, List, [], ◌∷◌, Call, Answer, State, reply}
 use Rattle.print_calls.proofs.Ground.{CallBytes, call_in, most_line, call_line, Stepped}
 use Rattle.refusals.specs.Numbers.{no_call}
 use Rattle.print_text.specs.Text.{PutIn}
 use Rattle.machine.specs.Replies.{Next}
-use Rattle.machine.proofs.Answered.{state_accepted}
 use Rattle.print_lines.specs.Lines.{refused_line, answer_line}
-
--- a file that was looked at, where neither the plan nor the state is refused
-pub looked_at : {f t : List ℕ} (s : State) {code first : ℕ} → Surveyed f code t → first ≡ state_refusal f s → first ≡ 0 → Surveyed f 0 t
-looked_at {f} s h e z = rw (h.refusal ∙ (state_accepted f s (sym e ∙ z)).0) at h
 
 module _ (f : List ℕ) (s : State) (b : CallBytes) {before now : List ℕ} {at end : ℕ} where
   pub stepped_none : call_in b ≡ [] → PutIn before now at most_line (refused_line no_call) end

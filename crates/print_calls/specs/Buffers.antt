@@ -1,16 +1,14 @@
 -- What a lent buffer holds once lines have been put into it, and what is refused before that.
-use Rattle.std.specs.Prelude.{ℕ, ◌+◌, ◌≤◌, ◌<◌, cond, ◌&&◌, List, [], ◌++◌, ◌⊎◌, ◌≢◌, ◌≡◌, eqb, leb, ltb, length, take, drop}
+use Rattle.std.specs.Prelude.{ℕ, ◌+◌, ◌≤◌, ◌<◌, cond, ◌&&◌, List, [], ◌++◌, ◌⊎◌, ◌≢◌, ◌≡◌, eqb, leb, ltb, Result, IfOk, length, take, drop}
 use Rattle.refusals.specs.Numbers.{no_room}
+use Rattle.refusals.specs.declared.Refusal.{Refusal}
+use Rattle.refusals.specs.Refusals.{code_of}
 use Rattle.machine_state.specs.declared.State.{State}
 use Rattle.machine.specs.Replies.{state_refusal, AfterBytes}
 use Rattle.machine_calls.specs.Calls.{call_width, bytes_at, call_in}
 use Rattle.print_lines.specs.Lines.{most_line}
 use Rattle.print_calls.specs.declared.Batch.{Batch}
 use Rattle.print_calls.specs.Calls.{call_line}
-
--- the state beside the line of a call: as it was where there is no line
-abbrev pub StateBeside : (refusal : ℕ) → (before after : State) → (State → Type 0) → Type 0
-StateBeside refusal before after made = (refusal ≡ 0 → made after) × (refusal ≢ 0 → after ≡ before)
 
 -- what stands before the lines of n bytes of calls in a buffer of `room` bytes: the number of the plan or of the state; then 10, where
 -- a whole call is there and not the room for the longest line
@@ -38,18 +36,15 @@ pub record Written (f : List ℕ) (s : State) (calls before now : List ℕ) (use
   pub fits : end ≤ length before
   pub long : length now ≡ length before
 
--- nothing made, and all as it was
-pub record Unmade (s : State) (before now : List ℕ) (r : Batch) : Type 0 where
-  pub used : r.used ≡ 0
-  pub length : r.length ≡ 0
-  pub state : r.state ≡ s
-  pub buffer : now ≡ before
+-- the lines are those of all whole calls, or of as many as there was room for, and of one at least where there is one. So a caller who
+-- goes on with the rest comes to an end
+pub record Made (f : List ℕ) (s : State) (calls before now : List ℕ) (b : Batch) : Type 0 where
+  pub written : Written f s calls before now b.used b.length b.state
+  pub ended : (length calls < b.used + call_width) ⊎ (length before < b.length + most_line)
+  pub some : call_width ≤ length calls → call_width ≤ b.used
 
--- what `lines` does: nothing where it is refused; else the lines are those of all whole calls, or of as many as there was room for, and
--- of one at least where there is one. So a caller who goes on with the rest comes to an end
-pub record Batched (f : List ℕ) (s : State) (calls before now : List ℕ) (r : Batch) : Type 0 where
-  pub number : r.refusal ≡ lines_refusal f s (length calls) (length before)
-  pub unmade : r.refusal ≢ 0 → Unmade s before now r
-  pub written : Written f s calls before now r.used r.length r.state
-  pub ended : r.refusal ≡ 0 → (length calls < r.used + call_width) ⊎ (length before < r.length + most_line)
-  pub some : r.refusal ≡ 0 → call_width ≤ length calls → call_width ≤ r.used
+-- what `lines` does: nothing where it is refused, and the buffer is as it was
+pub record Batched (f : List ℕ) (s : State) (calls before now : List ℕ) (r : Result Batch Refusal) : Type 0 where
+  pub number : code_of r ≡ lines_refusal f s (length calls) (length before)
+  pub unmade : code_of r ≢ 0 → now ≡ before
+  pub made : IfOk r (Made f s calls before now)

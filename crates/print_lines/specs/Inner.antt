@@ -45,6 +45,14 @@ field_text f (Name q) = quoted " " ++ name_part f q
 field_text f (Says w) = quoted " " ++ word_text w
 field_text f None = []
 
+-- the same without the space
+abbrev pub value_text : List ℕ → Field → List ℕ
+value_text f (Number n) = decimal n
+value_text f (Signed z) = signed z
+value_text f (Name q) = name_part f q
+value_text f (Says w) = word_text w
+value_text f None = []
+
 -- the texts of fields, one behind the other
 abbrev pub fields_text : List ℕ → List Field → List ℕ
 fields_text f [] = []
@@ -69,6 +77,14 @@ room_of (Signed z) = suc most_signed
 room_of (Name q) = suc most_name_bytes
 room_of (Says w) = suc most_word
 room_of None = 0
+
+-- the same without the space
+abbrev pub value_room : Field → ℕ
+value_room (Number n) = most_digits
+value_room (Signed z) = most_signed
+value_room (Name q) = most_name_bytes
+value_room (Says w) = most_word
+value_room None = 0
 
 -- those of all fields
 abbrev pub rooms_of : List Field → ℕ

@@ -5,15 +5,16 @@
 
 ghost use Rattle.std.specs.Prelude.{◌≡◌, cond, [], ◌+◌, ◌≤◌, length};
 ghost use Rattle.print_text.specs.Text.{PutIn};
-ghost use Rattle.print_text.specs.Buffers.{handed, buffer_with};
+ghost use Rattle.print_text.specs.Buffers.{handed_code, buffer_with};
+ghost use Rattle.refusals.specs.Refusals.{Told};
 ghost use Rattle.print_lines.specs.declared.Field.TheVariants.{Number, Signed, Name, Says};
 ghost use Rattle.print_lines.specs.Lines.{most_line, refused_line, plan_line, answer_line};
-ghost use Rattle.print_lines.specs.Inner.{Nameable, Names, field_text, fields_text, four_fields};
-ghost use Rattle.print_lines.specs.Inner.{room_of, rooms_of, line_room, AllNamed, FieldFits, FieldsFit, LinePut};
+ghost use Rattle.print_lines.specs.Inner.{Names, word_text, value_text, field_text, fields_text, four_fields};
+ghost use Rattle.print_lines.specs.Inner.{value_room, room_of, rooms_of, line_room, Asking, AllNamed, FieldFits, FieldsFit, LinePut};
 
 use machine_rules::Answer;
 use plan_rules::Counts;
-use print_text::Handed;
+use refusals::Refusal;
 
 // A word in a line.
 #[derive(Clone, Copy)]
@@ -51,81 +52,64 @@ pub const LINE: usize = 96;
 pub fn either(first: bool, yes: Word, no: Word) -> Field
     ensures { result ≡ Says (cond first yes no) }
 {
-    if first {
-        return Field::Says(yes);
-    }
-    Field::Says(no)
+    Field::Says(if first { yes } else { no })
 }
 
-// A space and a number.
-fn put_number(buf: &mut [u8], at: usize, n: u64) -> usize
-    requires { at + room_of (Number n) ≤ length buf.old }
-    ensures { PutIn buf.old buf.new at (room_of (Number n)) (field_text [] (Number n)) result }
-{
-    let a = print_text::put(buf, at, b" ");
-    print_text::put_decimal(buf, a, n)
-}
-
-// A space and a number that may be below zero.
-fn put_signed(buf: &mut [u8], at: usize, z: i64) -> usize
-    requires { at + room_of (Signed z) ≤ length buf.old }
-    ensures { PutIn buf.old buf.new at (room_of (Signed z)) (field_text [] (Signed z)) result }
-{
-    let a = print_text::put(buf, at, b" ");
-    print_text::put_signed(buf, a, z)
-}
-
-// A space and the name of a resource.
-fn put_name(buf: &mut [u8], at: usize, file: &[u8], resource: u8) -> usize
-    requires { (Nameable file.now resource) × (at + room_of (Name resource) ≤ length buf.old) }
-    ensures { PutIn buf.old buf.new at (room_of (Name resource)) (field_text file.now (Name resource)) result }
-{
-    let a = print_text::put(buf, at, b" ");
-    print_text::put(buf, a, plan_reading::checked::name(file, resource))
-}
-
-// A space and a word.
-fn put_word(buf: &mut [u8], at: usize, word: Word) -> usize
-    requires { at + room_of (Says word) ≤ length buf.old }
-    ensures { PutIn buf.old buf.new at (room_of (Says word)) (field_text [] (Says word)) result }
+// What a word says.
+fn said(word: Word) -> &'static [u8]
+    ensures { result.now ≡ word_text word }
 {
     match word {
-        Word::To => print_text::put(buf, at, b" to"),
-        Word::Free => print_text::put(buf, at, b" free"),
-        Word::Global => print_text::put(buf, at, b" global"),
-        Word::Local => print_text::put(buf, at, b" local"),
-        Word::Met => print_text::put(buf, at, b" met"),
-        Word::Unmet => print_text::put(buf, at, b" unmet"),
-        Word::Yes => print_text::put(buf, at, b" yes"),
-        Word::No => print_text::put(buf, at, b" no"),
+        Word::To => b"to",
+        Word::Free => b"free",
+        Word::Global => b"global",
+        Word::Local => b"local",
+        Word::Met => b"met",
+        Word::Unmet => b"unmet",
+        Word::Yes => b"yes",
+        Word::No => b"no",
     }
 }
 
-// A field, after a space.
-fn put_field(buf: &mut [u8], at: usize, file: &[u8], field: Field) -> usize
-    requires { FieldFits file.now buf.old at field }
-    ensures { PutIn buf.old buf.new at (room_of field) (field_text file.now field) result }
+// A field without the space before it.
+fn put_value(buf: &mut [u8], at: usize, file: &[u8], field: Field) -> usize
+    requires named { Asking file.now field (Unit {0}) }
+    requires room { at + value_room field ≤ length buf.old }
+    ensures { PutIn buf.old buf.new at (value_room field) (value_text file.now field) result }
 {
     match field {
-        Field::Number(n) => put_number(buf, at, n),
-        Field::Signed(z) => put_signed(buf, at, z),
-        Field::Name(resource) => put_name(buf, at, file, resource),
-        Field::Says(word) => put_word(buf, at, word),
+        Field::Number(n) => print_text::put_decimal(buf, at, n),
+        Field::Signed(z) => print_text::put_signed(buf, at, z),
+        Field::Name(resource) => {
+            print_text::put(buf, at, plan_reading::checked::name(file, resource))
+        }
+        Field::Says(word) => print_text::put(buf, at, said(word)),
         Field::None => at,
     }
 }
 
+// A field, after a space.
+#[tactic(auto, using(crate::proofs::Fields::spaced_room))]
+fn put_field(buf: &mut [u8], at: usize, file: &[u8], field: Field) -> usize
+    requires { FieldFits file.now buf.old at field }
+    ensures { PutIn buf.old buf.new at (room_of field) (field_text file.now field) result }
+{
+    if let Field::None = field {
+        return at;
+    }
+    let start = print_text::put(buf, at, b" ");
+    put_value(buf, start, file, field)
+}
+
 // One field behind the other.
+#[tactic(auto, using(crate::proofs::Fields::left_more))]
 fn put_fields(buf: &mut [u8], at: usize, file: &[u8], fields: [Field; FIELDS]) -> usize
     requires { FieldsFit file.now buf.old at fields }
     ensures { PutIn buf.old buf.new at (rooms_of fields) (fields_text file.now fields) result }
 {
     let mut end = at;
-    let mut i = 0;
-    while i < FIELDS {
-        let field = fields[i];
-        end = put_field(buf, end, file, field);
-        i += 1;
+    for field in &fields {
+        end = put_field(buf, end, file, *field);
     }
     end
 }
@@ -146,29 +130,30 @@ pub fn put_line(
     print_text::put(buf, b, b"\n")
 }
 
+// The fields of a line that has at most four.
+pub fn four(a: Field, b: Field, c: Field, d: Field) -> [Field; FIELDS]
+    ensures { result ≡ four_fields a b c d }
+{
+    [a, b, c, d, NONE, NONE, NONE, NONE]
+}
+
 // "refused N".
 pub fn put_refused(buf: &mut [u8], at: usize, number: u8) -> usize
     requires { at + most_line ≤ length buf.old }
     ensures { PutIn buf.old buf.new at most_line (refused_line number) result }
 {
-    let code = Field::Number(number as u64);
-    put_line(
-        buf,
-        at,
-        b"",
-        b"refused",
-        [code, NONE, NONE, NONE, NONE, NONE, NONE, NONE],
-    )
+    let code = Field::Number(u64::from(number));
+    put_line(buf, at, b"", b"refused", four(code, NONE, NONE, NONE))
 }
 
 // That line alone, at the front of a lent buffer.
-pub fn refused_line(number: u8, out: &mut [u8]) -> Handed
-    ensures value { result ≡ handed (refused_line number) (length out.old) }
+pub fn refused_line(number: u8, out: &mut [u8]) -> Result<usize, Refusal>
+    ensures told { Told (handed_code (refused_line number) (length out.old)) (length (refused_line number)) result }
     ensures out_after { out.new ≡ buffer_with (refused_line number) out.old }
 {
     let mut line = [0u8; LINE];
     let end = put_refused(&mut line, 0, number);
-    print_text::hand_over(&line[0..end], out)
+    print_text::hand_over(&line[..end], out)
 }
 
 // "plan P N R S".
@@ -176,18 +161,11 @@ pub fn put_plan(buf: &mut [u8], at: usize, counts: Counts) -> usize
     requires { at + most_line ≤ length buf.old }
     ensures { PutIn buf.old buf.new at most_line (plan_line counts) result }
 {
-    let p = Field::Number(counts.processors as u64);
-    let n = Field::Number(counts.tasks as u64);
-    let r = Field::Number(counts.resources as u64);
-    let s = Field::Number(counts.sections as u64);
-    put_line(buf, at, b"", b"plan", [p, n, r, s, NONE, NONE, NONE, NONE])
-}
-
-// The fields of a line that has at most four.
-fn four(a: Field, b: Field, c: Field, d: Field) -> [Field; FIELDS]
-    ensures { result ≡ four_fields a b c d }
-{
-    [a, b, c, d, NONE, NONE, NONE, NONE]
+    let p = Field::Number(u64::from(counts.processors));
+    let n = Field::Number(u64::from(counts.tasks));
+    let r = Field::Number(u64::from(counts.resources));
+    let s = Field::Number(u64::from(counts.sections));
+    put_line(buf, at, b"", b"plan", four(p, n, r, s))
 }
 
 // The line of an answer.
@@ -202,18 +180,18 @@ pub fn put_answer(
     requires { (Names file.now resource answer) × (at + most_line ≤ length buf.old) }
     ensures { PutIn buf.old buf.new at most_line (answer_line file.now tag resource answer) result }
 {
-    let tag = Field::Number(tag as u64);
+    let tag = Field::Number(u64::from(tag));
     let name = Field::Name(resource);
     match answer {
         Answer::Granted => put_line(buf, at, file, b"granted", four(tag, name, NONE, NONE)),
         Answer::Waits(ahead, most) => {
-            let ahead = Field::Number(ahead as u64);
-            let limit = Field::Number(most as u64);
+            let ahead = Field::Number(u64::from(ahead));
+            let limit = Field::Number(u64::from(most));
             put_line(buf, at, file, b"waits", four(tag, name, ahead, limit))
         }
         Answer::Next(next) => {
             let to = Field::Says(Word::To);
-            let next = Field::Number(next as u64);
+            let next = Field::Number(u64::from(next));
             put_line(buf, at, file, b"released", four(tag, name, to, next))
         }
         Answer::Free => {
@@ -222,8 +200,8 @@ pub fn put_answer(
         }
         Answer::Left => put_line(buf, at, file, b"left", four(tag, name, NONE, NONE)),
         Answer::Ticked(cuts, grants) => {
-            let cuts = Field::Number(cuts as u64);
-            let grants = Field::Number(grants as u64);
+            let cuts = Field::Number(u64::from(cuts));
+            let grants = Field::Number(u64::from(grants));
             put_line(buf, at, file, b"tick", four(cuts, grants, NONE, NONE))
         }
         Answer::Refused(code) => put_refused(buf, at, code),

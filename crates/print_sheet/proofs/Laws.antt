@@ -1,6 +1,7 @@
 -- Which lines of a sheet are left out, and what the tables tell of them.
 use Rattle.print_sheet.proofs.Ground.{ℕ, ◌<◌, Bool, true, false, ◌&&◌, not, ◌≡◌, refl, sym, ◌∙◌, List, eqb, arith}
-use Rattle.print_sheet.proofs.Ground.{most_processors, most_resources, plan_of, Valid, used_on, global, hold_at, global_count}
+use Rattle.folds.proofs.Ground.{◌≤◌, length}
+use Rattle.print_sheet.proofs.Ground.{valid_plan, most_tasks, most_processors, most_resources, plan_of, Valid, used_on, global, hold_at, global_count}
 use Rattle.print_sheet.proofs.Ground.{requirement_line, requirement_at, requirement_room, passes}
 use Rattle.folds.proofs.Ground.{cond, [], get_or, eq-eqb, ne_eqb, not-true, not-false}
 use Rattle.folds.proofs.Tests.{and_parts}
@@ -9,19 +10,21 @@ use Rattle.print_text.proofs.TextLaws.{put_none, put_in}
 use Rattle.plan_rules.specs.declared.Counts.{Counts}
 use Rattle.plan_rules.specs.declared.TaskRow.{TaskRow}
 use Rattle.plan_layout.specs.Layout.{counts_of}
-use Rattle.plan_reading.specs.Plan.{Plan}
+use Rattle.plan_reading.specs.Plan.{Plan, Checked}
 use Rattle.plan_reading.specs.Inner.{Counted}
 use Rattle.analysis_equations.specs.Sharing.{uses}
-use Rattle.analysis_equations.specs.HoldTimes.{hold_time, wait_time}
 use Rattle.analysis_equations.proofs.Laws.{asks_not, asks_some, hold_zero, hold_shared}
-use Rattle.analysis_totals.specs.Totals.{users_cell, wait_cell, Totals}
+use Rattle.analysis_figures.specs.Figures.{hold_cell, budget_cell}
+use Rattle.analysis_totals.specs.Totals.{users_cell, wait_cell, Added, SharingTask}
 use Rattle.analysis_totals.proofs.Laws.{users_told}
 use Rattle.analysis_requirements.specs.declared.Requirement.{Requirement}
 use Rattle.analysis_requirements.specs.Figures.{requirement_of}
 use Rattle.print_lines.specs.declared.Word.{Word}
 use Rattle.print_lines.specs.Lines.{plan_line}
 use Rattle.print_lines.specs.Inner.{word_text}
-use Rattle.print_sheet.specs.Inner.{PutAll}
+use Rattle.machine_rules.specs.Longest.{fellows, longest_wait}
+use Rattle.print_sheet.specs.Sheet.{budget_line, budget_at, hold_line, hold_line_at}
+use Rattle.print_sheet.specs.Inner.{budget_room, hold_room, PutAll}
 
 -- the text of one of two words
 pub either_text : (first : Bool) (x y : Word) → word_text (cond first x y) ≡ cond first (word_text x) (word_text y)
@@ -35,41 +38,69 @@ pub plan_counts : {l m : List ℕ} {at e room : ℕ} (f : List ℕ) (c : Counts)
 unfolding plan_of
 plan_counts f c h p = rw (h.processors, h.tasks, h.resources, h.sections) at p
 
+-- the plan's counts
+pub few_resources : (f : List ℕ) → Checked f → (plan_of f).resources ≤ most_resources
+few_resources f h = let v = valid_plan f h in omega arith
+
+pub few_tasks : (f : List ℕ) → Checked f → (plan_of f).tasks ≤ most_tasks
+few_tasks f h = let v = valid_plan f h in omega arith
+
+pub few_processors : (f : List ℕ) → Checked f → (plan_of f).processors ≤ most_processors
+few_processors f h = let v = valid_plan f h in omega arith
+
 -- a line that is left out
-pub line_out : (l : List ℕ) (at room : ℕ) → PutIn l l at room [] at
+line_out : (l : List ℕ) (at room : ℕ) → PutIn l l at room [] at
 line_out l at room = put_in room (put_none l at) (omega arith)
 
--- the wait time of a processor, by the totals
-pub wait_read : (p : Plan) {t : List ℕ} → Totals p t → {k q r : ℕ} → r ≡ q → k < p.processors → q < p.resources
-    → get_or t (wait_cell k r) 0 ≡ wait_time p k q
-wait_read p h {k} {q} e lk lq = rw e (h.wait k q lk lq)
+module _ {f figures t : List ℕ} (h : Added f figures t) where
+  abbrev p : Plan
+  p = plan_of f
 
-module _ (p : Plan) (v : Valid p) where
-  -- whether a processor uses a global resource, by the users that the totals tell
-  module _ {t : List ℕ} (h : Totals p t) {k q n : ℕ} (lk : k < most_processors) (lq : q < most_resources) (e : n ≡ get_or t (users_cell k q) 0) where
+  v : Valid p
+  v = valid_plan f h.known.plan
+
+  -- processor k and resource q, where the totals have n users of q on k
+  module _ {k q n : ℕ} (lk : k < p.processors) (lq : q < p.resources) (e : n ≡ get_or t (users_cell k q) 0) where
     told : eqb n 0 ≡ not (global p q && used_on p k q)
-    told = rw e (users_told p v h lk lq)
+    told = rw e (users_told p v h.totals (omega (arith, v)) (omega (arith, v)))
 
-    pub unused : n ≡ 0 → (global p q && used_on p k q) ≡ false
-    unused z = not-true _ (sym told ∙ eq-eqb n 0 z)
+    -- there is no line where there are none
+    pub budget_out : (l : List ℕ) (at : ℕ) → n ≡ 0 → PutIn l l at budget_room (budget_at f k q) at
+    budget_out l at z = rw (not-true _ (sym told ∙ eq-eqb n 0 z)) (line_out l at budget_room)
 
-    pub used : (n ≡ 0 → ⊥) → (global p q && used_on p k q) ≡ true
-    used d = not-false _ (sym told ∙ ne_eqb n 0 d)
+    -- else the line has budget and wait time as the tables have them
+    pub budget_in : {l m : List ℕ} {at b w r : ℕ} → (n ≡ 0 → ⊥) → b ≡ get_or figures (budget_cell k q) 0 → w ≡ get_or t (wait_cell k q) 0
+        → PutIn l m at budget_room (budget_line f k q b w) r → PutIn l m at budget_room (budget_at f k q) r
+    budget_in d eb ew line =
+        let b = eb ∙ h.known.figures.budget k q (omega (arith, v)) (omega (arith, v)) in
+        rw (not-false _ (sym told ∙ ne_eqb n 0 d)) (rw (b, ew ∙ h.totals.wait k q lk lq) at line)
 
-  -- a hold time that is 0, and one that is not
-  module _ (i q : ℕ) {r : ℕ} (e : r ≡ hold_at p i q) where
-    pub hold_none : r ≡ 0 → (global p q && uses p i q) ≡ false
-    hold_none z = not-true _ (sym (hold_zero p v i q) ∙ eq-eqb _ 0 (sym e ∙ z))
+  -- task i and resource q, where the figures have r as its hold time
+  module _ {i q r : ℕ} (li : i < p.tasks) (lq : q < p.resources) (e : r ≡ get_or figures (hold_cell i q) 0) where
+    held : r ≡ hold_at p i q
+    held = e ∙ h.known.figures.hold i q (omega (arith, v)) (omega (arith, v))
 
-    module _ (n : r ≡ 0 → ⊥) where
-      pub hold_some : (global p q && uses p i q) ≡ true
-      hold_some = not-false _ (sym (hold_zero p v i q) ∙ ne_eqb _ 0 (λ z. n (e ∙ z)))
+    held_zero : eqb r 0 ≡ not (global p q && uses p i q)
+    held_zero = rw held (hold_zero p v i q)
 
-      pub hold_global : (global p q ≡ true) × (uses p i q ≡ true)
-      hold_global = and_parts (global p q) (uses p i q) hold_some
+    -- there is no line where it is 0
+    pub hold_out : (l : List ℕ) (at : ℕ) → r ≡ 0 → PutIn l l at hold_room (hold_line_at f i q) at
+    hold_out l at z = rw (not-true _ (sym held_zero ∙ eq-eqb r 0 z)) (line_out l at hold_room)
 
-      pub hold_is : r ≡ hold_time p i q
-      hold_is = e ∙ hold_shared p i q hold_global.0 hold_global.1
+    -- else the task uses the resource, which is global
+    module _ (d : r ≡ 0 → ⊥) where
+      used : (global p q && uses p i q) ≡ true
+      used = not-false _ (sym held_zero ∙ ne_eqb r 0 d)
+
+      both : (global p q ≡ true) × (uses p i q ≡ true)
+      both = and_parts (global p q) (uses p i q) used
+
+      pub shares : SharingTask f figures t i q
+      shares = record { added = h; task = li; used = both.1; shared = both.0 }
+
+      pub hold_in : {l m : List ℕ} {at n w z : ℕ} {row : TaskRow} → row ≡ p.task i → n ≡ length (fellows p i q) → w ≡ longest_wait p i q
+          → PutIn l m at hold_room (hold_line f row.tag q r n w) z → PutIn l m at hold_room (hold_line_at f i q) z
+      hold_in o en ew line = rw used (rw (o, en, ew, held ∙ hold_shared p i q both.0 both.1) at line)
 
 -- the requirement of task i, which has n global sections
 module _ (f : List ℕ) (i : ℕ) {n : ℕ} (c : n ≡ global_count (plan_of f) i) where

@@ -1,10 +1,12 @@
 -- How much room the lines of a sheet take, what the private functions of this crate are given, and what some of them give. None of this
 -- is a rule.
-use Rattle.std.specs.Prelude.{ℕ, ◌+◌, ◌*◌, ◌<◌, ◌≤◌, Bool, ◌||◌, not, List, ◌≡◌, length}
+use Rattle.std.specs.Prelude.{ℕ, ◌+◌, ◌*◌, ◌<◌, ◌≤◌, Bool, ◌||◌, not, List, ◌≡◌, Result, IfOk, length}
+use Rattle.std.specs.Borrow.{MutBor}
 use Rattle.sizes.specs.Sizes.{most_processors, most_tasks, most_resources}
-use Rattle.print_text.specs.declared.Handed.{Handed}
+use Rattle.refusals.specs.declared.Refusal.{Refusal}
+use Rattle.refusals.specs.Refusals.{Told}
 use Rattle.print_text.specs.Text.{PutIn}
-use Rattle.print_text.specs.Buffers.{handed, buffer_with}
+use Rattle.print_text.specs.Buffers.{handed_code, buffer_with}
 use Rattle.plan_reading.specs.Plan.{plan_of}
 use Rattle.analysis_equations.specs.Requirement.{asks, met, admitted}
 use Rattle.analysis_figures.specs.Figures.{Known}
@@ -124,7 +126,21 @@ abbrev pub RowsPut : List ℕ → (before now : List ℕ) → ℕ → Required �
 RowsPut f before now at r = PutAll before now at requirements_room (requirement_lines f) (admitted (plan_of f)) r
 
 -- a sheet that was put together aside and handed over
-pub record AsideSheet (f before now : List ℕ) (r : Handed) : Type 0 where
-  pub line : r ≡ handed (plan_sheet f) (length before)
+pub record AsideSheet (f before now : List ℕ) (r : Result ℕ Refusal) : Type 0 where
+  pub line : Told (handed_code (plan_sheet f) (length before)) (length (plan_sheet f)) r
   pub buffer : now ≡ buffer_with (plan_sheet f) before
-  pub within : r.length ≤ most_sheet
+  pub within : IfOk r (λ n. n ≤ most_sheet)
+
+-- texts by number, each of at most `width` bytes, of which there are at most `most`
+pub record Texts : Type 0 where
+  pub text : ℕ → List ℕ
+  pub width : ℕ
+  pub most : ℕ
+
+-- what is asked of a closure that puts such a text at a place: that it may be called for each number below n where there is room
+abbrev pub MayPut : Texts → ℕ → (MutBor (List ℕ) → ℕ → ℕ → Type 0) → Type 0
+MayPut t n may = (b : MutBor (List ℕ)) (at k : ℕ) → k < n → at + t.width ≤ length b.now → may b at k
+
+-- and that a call puts the text of its number there
+abbrev pub Puts : Texts → ℕ → (MutBor (List ℕ) → ℕ → ℕ → ℕ → MutBor (List ℕ) → Type 0) → Type 0
+Puts t n does = (b c : MutBor (List ℕ)) (at k end : ℕ) → k < n → does b at k end c → PutIn b.now c.now at t.width (t.text k) end

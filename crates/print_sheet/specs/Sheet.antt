@@ -1,8 +1,7 @@
 -- The datasheet of a plan, line by line: what a builder asks before anything runs.
 use Rattle.std.specs.Prelude.{ℕ, Bool, cond, ◌&&◌, List, [], ◌∷◌, ◌++◌, eqb, length, take}
-use Rattle.print_text.specs.declared.Handed.{Handed}
 use Rattle.print_text.specs.Text.{quoted, decimal, signed, text_below}
-use Rattle.print_text.specs.Buffers.{handed_unless, buffer_unless}
+use Rattle.print_text.specs.Buffers.{unless_code, buffer_unless}
 use Rattle.plan_layout.specs.Layout.{counts_of}
 use Rattle.plan.specs.Acceptance.{refusal}
 use Rattle.plan.specs.Reading.{plan_length}
@@ -98,9 +97,9 @@ module _ (f : List ℕ) where
   plan_sheet = plan_line (counts_of f) ++ resource_lines ++ figure_lines ++ verdict_lines
 
   -- "Each operation given a plan file first gives 1 to 9 as reading does"; then 10, a buffer of n bytes that is too short for the sheet;
-  -- else its length
-  unfoldable pub sheet_line : ℕ → Handed
-  sheet_line n = handed_unless (refusal f) plan_sheet n
+  -- else 0
+  unfoldable pub sheet_code : ℕ → ℕ
+  sheet_code n = unless_code (refusal f) plan_sheet n
 
   -- the lent buffer afterwards: the sheet at its front and what lies behind as it was; all as it was after a refusal
   unfoldable pub sheet_in : List ℕ → List ℕ

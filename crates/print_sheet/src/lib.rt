@@ -1,20 +1,22 @@
 // The datasheet of a plan: what its analysis says, and the longest wait of each task for each resource, one fact a line.
 #![tactic(auto)]
 
-ghost use Rattle.std.specs.Prelude.{◌≡◌, ◌+◌, ◌≤◌, length};
-ghost use Rattle.print_text.specs.Text.{PutIn};
+ghost use Rattle.std.specs.Prelude.{◌≡◌, ◌+◌, ◌*◌, ◌≤◌, IfOk, length};
+ghost use Rattle.refusals.specs.Refusals.{Told};
+ghost use Rattle.print_text.specs.Text.{PutIn, text_below};
 ghost use Rattle.plan_reading.specs.Plan.{plan_of, Checked};
-ghost use Rattle.print_sheet.specs.Sheet.{requirement_line, admitted_line, resource_at, budget_at, hold_line_at};
-ghost use Rattle.print_sheet.specs.Sheet.{resource_lines, budget_lines_of, budget_lines, hold_lines_of, hold_lines, figure_lines, verdict_lines};
-ghost use Rattle.print_sheet.specs.Sheet.{plan_sheet, most_sheet, sheet_line, sheet_in};
+ghost use Rattle.print_sheet.specs.Sheet.{requirement_line, admitted_line, resource_at, budget_at, hold_line_at, resource_lines};
+ghost use Rattle.print_sheet.specs.Sheet.{budget_lines_of, budget_lines, hold_lines_of, hold_lines, figure_lines, verdict_lines};
+ghost use Rattle.print_sheet.specs.Sheet.{plan_sheet, most_sheet, sheet_code, sheet_in};
 ghost use Rattle.print_sheet.specs.Inner.{resource_room, budget_room, hold_room, requirement_room, admitted_room};
 ghost use Rattle.print_sheet.specs.Inner.{resources_room, budgets_of_room, budgets_room, holds_of_room, holds_room};
 ghost use Rattle.print_sheet.specs.Inner.{figures_room, verdict_room};
 ghost use Rattle.print_sheet.specs.Inner.{Ready, Summed, ReadyOf, Cell, EntryOf, RowReady, Rows, RowPut, RowsPut, AsideSheet};
+ghost use Rattle.print_sheet.specs.Inner.{Texts, MayPut, Puts};
 
 use analysis_requirements::Requirement;
-use print_lines::{Field, NONE, Word, put_line};
-use print_text::Handed;
+use print_lines::{Field, NONE, Word, four, put_line};
+use refusals::Refusal;
 
 // A buffer as long as this has room for every sheet.
 pub const SHEET: usize = 131072;
@@ -30,42 +32,60 @@ struct Required {
 #[derive(Clone, Copy)]
 struct Entry {
     row: usize,
-    resource: u8,
+    resource: usize,
 }
 
 // "resource NAME global" or "resource NAME local".
-fn put_resource(buf: &mut [u8], at: usize, file: &[u8], figures: &[u16], q: u8) -> usize
+#[tactic(auto, using(crate::proofs::Laws::few_resources))]
+fn put_resource(buf: &mut [u8], at: usize, file: &[u8], figures: &[u16], q: usize) -> usize
     requires { Cell file.now figures.now buf.old at resource_room q }
     ensures { PutIn buf.old buf.new at resource_room (resource_at file.now q) result }
 {
-    let shared = analysis_figures::is_global(file, figures, folds::wide(q));
-    let name = Field::Name(q);
+    let shared = analysis_figures::is_global(file, figures, q);
+    let name = Field::Name(q as u8);
     let reach = print_lines::either(shared, Word::Global, Word::Local);
-    put_line(
-        buf,
-        at,
-        file,
-        b"resource",
-        [name, reach, NONE, NONE, NONE, NONE, NONE, NONE],
-    )
+    put_line(buf, at, file, b"resource", four(name, reach, NONE, NONE))
 }
 
-// A line for each resource.
-fn put_resources(buf: &mut [u8], at: usize, file: &[u8], figures: &[u16]) -> usize
-    requires { Ready file.now figures.now buf.old at resources_room }
-    ensures { PutIn buf.old buf.new at resources_room (resource_lines file.now) result }
+// Texts one behind the other: those of the numbers below n.
+#[tactic(auto, using(print_text::proofs::Turns::turns_room, print_text::proofs::Turns::turns_done))]
+fn put_each<F: Fn(&mut [u8], usize, usize) -> usize>(
+    buf: &mut [u8],
+    at: usize,
+    n: usize,
+    put: F,
+) -> usize
+    ghost texts: { Texts }
+    requires callable { MayPut texts n (F.pre put) }
+    requires puts { Puts texts n (F.post put) }
+    requires few { n ≤ texts.most }
+    requires room { at + texts.most * texts.width ≤ length buf.old }
+    ensures { PutIn buf.old buf.new at (texts.most * texts.width) (text_below n texts.text) result }
 {
-    let counts = plan_reading::checked::counts(file);
     let mut end = at;
-    let mut q = 0u8;
-    while q < counts.resources {
-        end = put_resource(buf, end, file, figures, q);
-        q += 1;
+    for k in 0..n {
+        end = put(buf, end, k);
     }
     end
 }
 
+// A line for each resource.
+#[tactic(auto, unfolding(crate::specs::Sheet::resource_lines))]
+fn put_resources(buf: &mut [u8], at: usize, file: &[u8], figures: &[u16]) -> usize
+    requires { Ready file.now figures.now buf.old at resources_room }
+    ensures { PutIn buf.old buf.new at resources_room (resource_lines file.now) result }
+{
+    let n = usize::from(plan_reading::checked::counts(file).resources);
+    put_each(
+        buf,
+        at,
+        n,
+        |buf, end, q| put_resource(buf, end, file, figures, q),
+    )
+}
+
 // "budget K NAME B W", where processor k uses q and q is global: where it has users of q in the totals.
+#[tactic(auto, using(crate::proofs::Laws::few_processors, crate::proofs::Laws::few_resources))]
 fn put_budget_at(
     buf: &mut [u8],
     at: usize,
@@ -78,26 +98,19 @@ fn put_budget_at(
     ensures { PutIn buf.old buf.new at budget_room (budget_at file.now entry.row entry.resource) result }
 {
     let k = entry.row;
-    let q = folds::wide(entry.resource);
+    let q = entry.resource;
     if analysis_totals::users_at(totals, k, q) == 0 {
         return at;
     }
-    let budget = analysis_figures::budget_at(figures, k, q);
-    let wait = analysis_totals::wait_at(totals, k, q);
     let core = Field::Number(k as u64);
-    let name = Field::Name(entry.resource);
-    let most = Field::Number(budget as u64);
-    let others = Field::Number(wait as u64);
-    put_line(
-        buf,
-        at,
-        file,
-        b"budget",
-        [core, name, most, others, NONE, NONE, NONE, NONE],
-    )
+    let name = Field::Name(q as u8);
+    let most = Field::Number(u64::from(analysis_figures::budget_at(figures, k, q)));
+    let others = Field::Number(u64::from(analysis_totals::wait_at(totals, k, q)));
+    put_line(buf, at, file, b"budget", four(core, name, most, others))
 }
 
 // The lines of processor k.
+#[tactic(auto, unfolding(crate::specs::Sheet::budget_lines_of))]
 fn put_budgets_of(
     buf: &mut [u8],
     at: usize,
@@ -109,37 +122,30 @@ fn put_budgets_of(
     requires { ReadyOf file.now figures.now totals.now buf.old at budgets_of_room (plan_of file.now).processors k }
     ensures { PutIn buf.old buf.new at budgets_of_room (budget_lines_of file.now k) result }
 {
-    let counts = plan_reading::checked::counts(file);
-    let mut end = at;
-    let mut q = 0u8;
-    while q < counts.resources {
+    let n = usize::from(plan_reading::checked::counts(file).resources);
+    put_each(buf, at, n, |buf, end, q| {
         let entry = Entry {
             row: k,
             resource: q,
         };
-        end = put_budget_at(buf, end, file, figures, totals, entry);
-        q += 1;
-    }
-    end
+        put_budget_at(buf, end, file, figures, totals, entry)
+    })
 }
 
 // Those of every processor.
+#[tactic(auto, unfolding(crate::specs::Sheet::budget_lines))]
 fn put_budgets(buf: &mut [u8], at: usize, file: &[u8], figures: &[u16], totals: &[u32]) -> usize
     requires { Summed file.now figures.now totals.now buf.old at budgets_room }
     ensures { PutIn buf.old buf.new at budgets_room (budget_lines file.now) result }
 {
-    let counts = plan_reading::checked::counts(file);
-    let n = folds::wide(counts.processors);
-    let mut end = at;
-    let mut k = 0;
-    while k < n {
-        end = put_budgets_of(buf, end, file, figures, totals, k);
-        k += 1;
-    }
-    end
+    let n = usize::from(plan_reading::checked::counts(file).processors);
+    put_each(buf, at, n, |buf, end, k| {
+        put_budgets_of(buf, end, file, figures, totals, k)
+    })
 }
 
 // "hold TAG NAME H FELLOWS LONGEST", where task i has a section on q and q is global: where it has a hold time.
+#[tactic(auto, using(crate::proofs::Laws::few_tasks, crate::proofs::Laws::few_resources))]
 fn put_hold_at(
     buf: &mut [u8],
     at: usize,
@@ -152,18 +158,17 @@ fn put_hold_at(
     ensures { PutIn buf.old buf.new at hold_room (hold_line_at file.now entry.row entry.resource) result }
 {
     let i = entry.row;
-    let q = folds::wide(entry.resource);
+    let q = entry.resource;
     let hold = analysis_figures::hold_at(figures, i, q);
     if hold == 0 {
         return at;
     }
-    let task = plan_reading::checked::task(file, i);
     let longest = analysis_waits::longest_of(file, figures, totals, i, q);
-    let tag = Field::Number(task.tag as u64);
-    let name = Field::Name(entry.resource);
-    let own = Field::Number(hold as u64);
+    let tag = Field::Number(u64::from(plan_reading::checked::task(file, i).tag));
+    let name = Field::Name(q as u8);
+    let own = Field::Number(u64::from(hold));
     let fellows = Field::Number(longest.fellows as u64);
-    let most = Field::Number(longest.wait as u64);
+    let most = Field::Number(u64::from(longest.wait));
     put_line(
         buf,
         at,
@@ -174,6 +179,7 @@ fn put_hold_at(
 }
 
 // The lines of task i.
+#[tactic(auto, unfolding(crate::specs::Sheet::hold_lines_of))]
 fn put_holds_of(
     buf: &mut [u8],
     at: usize,
@@ -185,34 +191,26 @@ fn put_holds_of(
     requires { ReadyOf file.now figures.now totals.now buf.old at holds_of_room (plan_of file.now).tasks i }
     ensures { PutIn buf.old buf.new at holds_of_room (hold_lines_of file.now i) result }
 {
-    let counts = plan_reading::checked::counts(file);
-    let mut end = at;
-    let mut q = 0u8;
-    while q < counts.resources {
+    let n = usize::from(plan_reading::checked::counts(file).resources);
+    put_each(buf, at, n, |buf, end, q| {
         let entry = Entry {
             row: i,
             resource: q,
         };
-        end = put_hold_at(buf, end, file, figures, totals, entry);
-        q += 1;
-    }
-    end
+        put_hold_at(buf, end, file, figures, totals, entry)
+    })
 }
 
 // Those of every task.
+#[tactic(auto, unfolding(crate::specs::Sheet::hold_lines))]
 fn put_holds(buf: &mut [u8], at: usize, file: &[u8], figures: &[u16], totals: &[u32]) -> usize
     requires { Summed file.now figures.now totals.now buf.old at holds_room }
     ensures { PutIn buf.old buf.new at holds_room (hold_lines file.now) result }
 {
-    let counts = plan_reading::checked::counts(file);
-    let n = folds::wide(counts.tasks);
-    let mut end = at;
-    let mut i = 0;
-    while i < n {
-        end = put_holds_of(buf, end, file, figures, totals, i);
-        i += 1;
-    }
-    end
+    let n = usize::from(plan_reading::checked::counts(file).tasks);
+    put_each(buf, at, n, |buf, end, i| {
+        put_holds_of(buf, end, file, figures, totals, i)
+    })
 }
 
 // Those and these.
@@ -229,9 +227,9 @@ fn put_requirement(buf: &mut [u8], at: usize, tag: u16, found: Requirement) -> u
     requires { at + requirement_room ≤ length buf.old }
     ensures { PutIn buf.old buf.new at requirement_room (requirement_line tag found) result }
 {
-    let tag = Field::Number(tag as u64);
-    let first = Field::Number(found.blocking1 as u64);
-    let second = Field::Number(found.blocking2 as u64);
+    let tag = Field::Number(u64::from(tag));
+    let first = Field::Number(u64::from(found.blocking1));
+    let second = Field::Number(u64::from(found.blocking2));
     let tolerance = Field::Signed(found.tolerance);
     let slack = Field::Signed(found.slack);
     let side = Field::Number(found.side);
@@ -246,6 +244,7 @@ fn put_requirement(buf: &mut [u8], at: usize, tag: u16, found: Requirement) -> u
 }
 
 // That line where task i has a global section, and whether its requirement is met where it has one.
+#[tactic(auto, using(crate::proofs::Laws::few_tasks))]
 fn put_requirement_at(
     buf: &mut [u8],
     at: usize,
@@ -270,6 +269,7 @@ fn put_requirement_at(
 }
 
 // A line for each task with a global section, and whether all their requirements are met.
+#[tactic(auto, using(print_text::proofs::Turns::turns_room))]
 fn put_requirements(
     buf: &mut [u8],
     at: usize,
@@ -280,16 +280,13 @@ fn put_requirements(
     requires { Rows file.now terms.now sides.now buf.old at }
     ensures { RowsPut file.now buf.old buf.new at result }
 {
-    let counts = plan_reading::checked::counts(file);
-    let n = folds::wide(counts.tasks);
+    let n = usize::from(plan_reading::checked::counts(file).tasks);
     let mut end = at;
     let mut all = true;
-    let mut i = 0;
-    while i < n {
+    for i in 0..n {
         let one = put_requirement_at(buf, end, file, terms, sides, i);
         end = one.end;
-        all = all & one.all;
-        i += 1;
+        all &= one.all;
     }
     Required { end, all }
 }
@@ -300,13 +297,7 @@ fn put_admitted(buf: &mut [u8], at: usize, yes: bool) -> usize
     ensures { PutIn buf.old buf.new at admitted_room (admitted_line yes) result }
 {
     let word = print_lines::either(yes, Word::Yes, Word::No);
-    put_line(
-        buf,
-        at,
-        b"",
-        b"admitted",
-        [word, NONE, NONE, NONE, NONE, NONE, NONE, NONE],
-    )
+    put_line(buf, at, b"", b"admitted", four(word, NONE, NONE, NONE))
 }
 
 // The requirements and whether the plan is admitted.
@@ -346,32 +337,26 @@ fn put_plan_sheet(buf: &mut [u8], file: &[u8]) -> usize
 }
 
 // The sheet of a checked plan by way of a buffer of its own, for a lent one that may be too short for it.
-fn sheet_aside(file: &[u8], out: &mut [u8]) -> Handed
+fn sheet_aside(file: &[u8], out: &mut [u8]) -> Result<usize, Refusal>
     requires { Checked file.now }
     ensures { AsideSheet file.now out.old out.new result }
 {
     let mut buf = [0u8; SHEET];
     let end = put_plan_sheet(&mut buf, file);
-    print_text::hand_over(&buf[0..end], out)
+    print_text::hand_over(&buf[..end], out)
 }
 
 // The datasheet of a plan file, at the front of a lent buffer: its length, or the first of 1 to 9, or 10 where the buffer is too short
 // for it. A refusal leaves the buffer as it was.
-pub fn sheet(file: &[u8], out: &mut [u8]) -> Handed
-    ensures value { result ≡ sheet_line file.now (length out.old) }
+pub fn sheet(file: &[u8], out: &mut [u8]) -> Result<usize, Refusal>
+    ensures told { Told (sheet_code file.now (length out.old)) (length (plan_sheet file.now)) result }
     ensures out_after { out.new ≡ sheet_in file.now out.old }
-    ensures length_le_most_sheet { result.length ≤ most_sheet }
+    ensures length_le_most_sheet { IfOk result (λ n. n ≤ most_sheet) }
 {
-    let code = plan::check(file);
-    if code != 0 {
-        return Handed {
-            refusal: code,
-            length: 0,
-        };
-    }
+    plan::check(file)?;
     if out.len() < SHEET {
         return sheet_aside(file, out);
     }
     let length = put_plan_sheet(out, file);
-    Handed { refusal: 0, length }
+    Ok(length)
 }

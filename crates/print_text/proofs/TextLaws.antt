@@ -1,10 +1,12 @@
 -- Laws of text in a buffer, for the crates that put several texts one after the other; and what shows that `decimal` is decimal.
 use Rattle.print_text.proofs.Ground.{ℕ, zero, suc, ◌+◌, ◌-◌, ◌*◌, ◌/◌, ◌%◌, ◌^◌, ◌<◌, ◌≤◌, Bool, true, false, cond, ◌≡◌, refl, sym}
 use Rattle.print_text.proofs.Ground.{ap, ◌∙◌, List, [], ◌∷◌, ◌++◌, append_assoc, length, take, drop, take-append-drop, zero-add}
-use Rattle.print_text.proofs.Ground.{add-zero, not-suc-le-zero, arith, ltb-true, ℤ, pos, negsuc, w64, SFits, to_z, of_z, to_z-of_z}
+use Rattle.print_text.proofs.Ground.{add-zero, not-suc-le-zero, arith, ltb-true, ℤ, pos, negsuc, nat_abs, lt_z, add-one, w64, SFits, to_z, of_z, to_z-of_z}
 use Rattle.print_text.proofs.Ground.{quoted, places_to, decimals, decimal, signed, Put, PutIn}
-use Rattle.folds.proofs.Ground.{⊎_elim, append-nil, ltb, get_or, length-append, length-drop, drop_of_length-le, List·getD-append, length-take-le, take_all, take-append_seam, drop-append-add, drop-drop, drop-nil, get_or_at, suc-add, eq-or-lt_of_le, le_of_suc-le-suc, ltb-false, lt-ltb}
-use Rattle.print_text.specs.Text.{value_from, value_of}
+use Rattle.folds.proofs.Ground.{set, take-set-le, drop-cons, drop-set-lt, get_or-set_same, lt-length-set, append_snoc, ⊎_elim, append-nil, ltb, get_or, length-append, length-drop, drop_of_length-le, List·getD-append, length-take-le, take_all, take-append_seam, drop-append-add, drop-drop, drop-nil, get_or_at, suc-add, eq-or-lt_of_le, le_of_suc-le-suc, ltb-false, lt-ltb}
+use Rattle.std.specs.Prelude.{Option, None, Some, IfNone, IfSome, unwrap_or}
+use Rattle.print_text.specs.Text.{most_digits, most_signed, value_from, value_of}
+use Rattle.print_text.specs.Inner.{Digits}
 
 -- what a buffer holds up to where a text ends, and from there on; the place may lie behind the buffer's end too
 front : (at : ℕ) (l a : List ℕ) → take (at + length a) (take at l ++ (a ++ drop (at + length a) l)) ≡ take at l ++ a
@@ -55,9 +57,21 @@ put_wider more p h = record { put = p.put; within = omega (arith, p.within) }
 pub put_in_then : {l m n a b : List ℕ} {at e f r s : ℕ} → PutIn l m at r a e → PutIn m n e s b f → PutIn l n at (r + s) (a ++ b) f
 put_in_then p q = record { put = put_then p.put q.put; within = omega (arith, p.within, q.within) }
 
--- the text of an integer, as the machine has it
-pub put_held : {l m : List ℕ} {at e room : ℕ} (text : ℤ → List ℕ) (z : ℤ) → SFits w64 z → PutIn l m at room (text (to_z w64 (of_z w64 z))) e → PutIn l m at room (text z) e
-put_held text z s p = rw (to_z-of_z s) at p
+-- the text of an integer that the machine has: a minus and how far below zero it is, or the number itself
+minus_put : {l m n : List ℕ} {at e f : ℕ} (z : ℤ) → lt_z z (pos 0) ≡ true → Put l m at (quoted "-") e → PutIn m n e most_digits (decimal (nat_abs z)) f → PutIn l n at most_signed (signed z) f
+minus_put (pos a) t p q = absurd (not-suc-le-zero (ltb-true a 0 t))
+minus_put (negsuc a) t p q = put_in_then (put_in 1 p (omega arith)) q
+
+plain_put : {l n : List ℕ} {at f : ℕ} (z : ℤ) → lt_z z (pos 0) ≡ false → PutIn l n at most_digits (decimal (nat_abs z)) f → PutIn l n at most_signed (signed z) f
+plain_put (pos a) t q = put_wider most_signed q (omega arith)
+plain_put (negsuc a) t q = absurd cc
+
+module _ {l n : List ℕ} {at f k : ℕ} (z : ℤ) (s : SFits w64 z) (h : k ≡ nat_abs (to_z w64 (of_z w64 z))) where
+  pub put_below : {m : List ℕ} {e : ℕ} → lt_z (to_z w64 (of_z w64 z)) (pos 0) ≡ true → Put l m at (quoted "-") e → PutIn m n e most_digits (decimal k) f → PutIn l n at most_signed (signed z) f
+  put_below t p q = minus_put z (rw (to_z-of_z s) at t) p (rw (h, to_z-of_z s) at q)
+
+  pub put_not_below : lt_z (to_z w64 (of_z w64 z)) (pos 0) ≡ false → PutIn l n at most_digits (decimal k) f → PutIn l n at most_signed (signed z) f
+  put_not_below t q = plain_put z (rw (to_z-of_z s) at t) (rw (h, to_z-of_z s) at q)
 
 -- the number of digits, by what n is
 by_places : (R : ℕ → Type 0) (k n : ℕ) → (n < 10 → R 1) → (10 ≤ n → R (suc (places_to k (n / 10)))) → R (places_to (suc k) n)
@@ -68,15 +82,15 @@ by_places R k n f g = pick (ltb n 10) refl
     pick true e = f (ltb-true n 10 e)
     pick false e = g (ltb-false n 10 e)
 
-pub places_one : (k n : ℕ) → n < 10 → places_to k n ≡ 1
+places_one : (k n : ℕ) → n < 10 → places_to k n ≡ 1
 unfolding places_to
 places_one zero n l = refl
 places_one (suc k) n l = rw (lt-ltb n 10 l)
 
-pub places_more : (k n : ℕ) → 10 ≤ n → places_to (suc k) n ≡ suc (places_to k (n / 10))
+places_more : (k n : ℕ) → 10 ≤ n → places_to (suc k) n ≡ suc (places_to k (n / 10))
 places_more k n l = by_places (λ p. p ≡ suc (places_to k (n / 10))) k n (λ s. let bad : ⊥ = omega arith in absurd bad) (λ m. refl)
 
-pub places_low : (k n : ℕ) → 1 ≤ places_to k n
+places_low : (k n : ℕ) → 1 ≤ places_to k n
 unfolding places_to
 places_low zero n = omega arith
 places_low (suc k) n = by_places (λ p. 1 ≤ p) k n (λ l. omega arith) (λ l. omega arith)
@@ -85,6 +99,17 @@ pub places_high : (k n : ℕ) → places_to k n ≤ suc k
 unfolding places_to
 places_high zero n = omega arith
 places_high (suc k) n = by_places (λ p. p ≤ suc (suc k)) k n (λ l. omega arith) (λ l. omega (arith, places_high k (n / 10)))
+
+places_by_power : (k j n : ℕ) → k ≤ j → 10 ^ k ≤ n → n < 10 * 10 ^ k → places_to j n ≡ suc k
+places_by_power zero j n h l m = places_one j n (omega arith)
+places_by_power (suc k) zero n h l m = absurd (omega arith)
+places_by_power (suc k) (suc j) n h l m =
+    places_more j n (omega arith) ∙ ap suc (places_by_power k j (n / 10) (omega arith) (omega arith) (omega arith))
+
+-- what the logarithm of a number says of its digits: there is none of 0, which has one digit
+pub places_of_log : (n : ℕ) (r : Option ℕ) → IfNone r (n ≡ 0) → IfSome r (λ k. 10 ^ k ≤ n) → IfSome r (λ k. n < 10 * 10 ^ k) → IfSome r (λ k. k < 20) → Digits n (unwrap_or r 0 + 1)
+places_of_log n None z l m b = record { same = rw z (rw (places_one 19 0 (omega arith))); low = omega arith; high = omega arith }
+places_of_log n (Some k) z l m b = record { same = rw add-one (sym (places_by_power k 19 n (omega (arith, b)) l m)); low = omega arith; high = omega (arith, b) }
 
 -- a number has no more than its digits
 places_enough : (k n : ℕ) → n < 10 ^ suc k → n < 10 ^ places_to k n
@@ -97,6 +122,38 @@ pub digits_length : (k n : ℕ) → length (decimals k n) ≡ k
 unfolding decimals
 digits_length zero n = refl
 digits_length (suc k) n = omega (arith, length-append (decimals k (n / 10)) ((48 + n % 10) ∷ []), digits_length k (n / 10))
+
+-- a buffer with the digits of n that are still to be put: they end where the place p is now
+abbrev pub with_digits : List ℕ → ℕ → ℕ → ℕ → List ℕ
+with_digits m at p n = take at m ++ (decimals (p - at) n ++ drop p m)
+
+-- a store, and what begins there
+from_store : (m : List ℕ) (i d : ℕ) → i < length m → drop i (set m i d) ≡ d ∷ drop (suc i) m
+from_store m i d l =
+    drop-cons (set m i d) i 0 (lt-length-set m i d l) ∙ rw (get_or-set_same m i d 0 l, drop-set-lt (suc i) m i d (omega arith))
+
+digit_at : (m : List ℕ) (at i p n : ℕ) → p ≡ suc i → at ≤ i → i < length m → with_digits (set m i (48 + n % 10)) at i (n / 10) ≡ with_digits m at p n
+unfolding decimals
+digit_at m at i p n e h l =
+    let k : suc i - at ≡ suc (i - at) = omega arith in
+    rw (e, take-set-le at m i (48 + n % 10) h, from_store m i (48 + n % 10) l, k)
+    (ap (λ (r : List ℕ). take at m ++ r) (sym (append_snoc (decimals (i - at) (n / 10)) (48 + n % 10) (drop (suc i) m))))
+
+-- the digit before p is put, and the others are those of a tenth
+pub digit_put : (m : List ℕ) (at p n : ℕ) → at < p → p ≤ length m → with_digits (set m (p - 1) (48 + n % 10)) at (p - 1) (n / 10) ≡ with_digits m at p n
+digit_put m at p n h l = digit_at m at (p - 1) p n (omega arith) (omega arith) (omega arith)
+
+-- no digit is left
+pub digits_put : {l m : List ℕ} {at count n : ℕ} (rest p : ℕ) → Digits n count → p ≡ at → with_digits m at p rest ≡ with_digits l at (at + count) n → PutIn l m at most_digits (decimal n) (at + count)
+unfolding decimals
+digits_put {l} {m} {at} {count} {n} rest p d h e =
+    let z : at - at ≡ 0 = omega arith in
+    let k : at + count - at ≡ count = omega arith in
+    let f : count ≡ length (decimal n) = rw digits_length d.same in
+    record {
+      put = record { held = sym (take-append-drop at m) ∙ rw (h, z, k, d.same) at e ∙ rw (digits_length) refl; ends = ap (λ (c : ℕ). at + c) f };
+      within = omega (arith, d.high);
+    }
 
 -- a digit read after others
 value_last : (so d : ℕ) (text : List ℕ) → value_from so (text ++ (d ∷ [])) ≡ value_from so text * 10 + (d - 48)

@@ -1,54 +1,82 @@
-// The numbers by which operations refuse: document 01, "What each operation refuses, in order". 0 stands for no refusal.
+// What operations refuse: document 01, "What each operation refuses, in order", and document 02.
 #![tactic(auto)]
 
-// Reading and writing a plan.
-pub const WRONG_LENGTH: u8 = 1;
+ghost use Rattle.std.specs.Prelude.{◌≡◌};
+ghost use Rattle.refusals.specs.Refusals.{number, code_of};
 
-pub const WRONG_EDITION: u8 = 2;
+// Why an operation does nothing. Each has a number, by which it is told.
+#[derive(Clone, Copy, Debug, PartialEq, Eq)]
+pub enum Refusal {
+    // Reading and writing a plan.
+    WrongLength,
+    WrongEdition,
+    WrongCount,
+    WrongOffset,
+    WrongTask,
+    Repeated,
+    WrongName,
+    WrongSection,
+    SectionsAbove,
+    NoRoom,
+    // Calls and questions.
+    UnknownTag,
+    UnknownResource,
+    Undeclared,
+    Local,
+    AlreadyInLine,
+    NotHeld,
+    NothingGlobal,
+    UnknownProcessor,
+    Unsound,
+    NotWaiting,
+    // A state that is lent as an image.
+    ShortImage,
+    UnsoundImage,
+    // The printing program.
+    NoCall,
+    LeftOver,
+}
 
-pub const WRONG_COUNT: u8 = 3;
+impl Refusal {
+    // The number of a refusal: 1 and more.
+    pub fn number(self) -> u8
+        ensures { result ≡ number self }
+    {
+        match self {
+            Refusal::WrongLength => 1,
+            Refusal::WrongEdition => 2,
+            Refusal::WrongCount => 3,
+            Refusal::WrongOffset => 4,
+            Refusal::WrongTask => 5,
+            Refusal::Repeated => 6,
+            Refusal::WrongName => 7,
+            Refusal::WrongSection => 8,
+            Refusal::SectionsAbove => 9,
+            Refusal::NoRoom => 10,
+            Refusal::UnknownTag => 11,
+            Refusal::UnknownResource => 12,
+            Refusal::Undeclared => 13,
+            Refusal::Local => 14,
+            Refusal::AlreadyInLine => 15,
+            Refusal::NotHeld => 16,
+            Refusal::NothingGlobal => 17,
+            Refusal::UnknownProcessor => 18,
+            Refusal::Unsound => 19,
+            Refusal::NotWaiting => 23,
+            Refusal::ShortImage => 24,
+            Refusal::UnsoundImage => 25,
+            Refusal::NoCall => 21,
+            Refusal::LeftOver => 22,
+        }
+    }
+}
 
-pub const WRONG_OFFSET: u8 = 4;
-
-pub const WRONG_TASK: u8 = 5;
-
-pub const REPEATED: u8 = 6;
-
-pub const WRONG_NAME: u8 = 7;
-
-pub const WRONG_SECTION: u8 = 8;
-
-pub const SECTIONS_ABOVE: u8 = 9;
-
-pub const NO_ROOM: u8 = 10;
-
-// Calls and questions.
-pub const UNKNOWN_TAG: u8 = 11;
-
-pub const UNKNOWN_RESOURCE: u8 = 12;
-
-pub const UNDECLARED: u8 = 13;
-
-pub const LOCAL: u8 = 14;
-
-pub const ALREADY_IN_LINE: u8 = 15;
-
-pub const NOT_HELD: u8 = 16;
-
-pub const NOTHING_GLOBAL: u8 = 17;
-
-pub const UNKNOWN_PROCESSOR: u8 = 18;
-
-pub const UNSOUND: u8 = 19;
-
-pub const NOT_WAITING: u8 = 23;
-
-// A state that is lent as an image.
-pub const SHORT_IMAGE: u8 = 24;
-
-pub const UNSOUND_IMAGE: u8 = 25;
-
-// The printing program.
-pub const NO_CALL: u8 = 21;
-
-pub const LEFT_OVER: u8 = 22;
+// The number of a result: that of its refusal, 0 for none.
+pub fn code<T>(answer: &Result<T, Refusal>) -> u8
+    ensures { result ≡ code_of answer.now }
+{
+    match answer {
+        Ok(_) => 0,
+        Err(refusal) => refusal.number(),
+    }
+}

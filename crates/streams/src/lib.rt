@@ -5,8 +5,9 @@ ghost use Rattle.std.specs.Prelude.{◌<◌, ◌≤◌, ◌≡◌, IfOk, length,
 ghost use Rattle.std.specs.Io.KnownBytes.{Appends, Consumes, IsAtEnd};
 ghost use Rattle.print_lines.specs.Lines.{refused_line};
 ghost use Rattle.plan.specs.Reading.{plan_length};
-ghost use Rattle.streams.specs.Streams.{most_plan_bytes, Came, FirstPlan};
+ghost use Rattle.streams.specs.Streams.{most_plan_bytes, Came, FirstPlan, MayHand, HandsFitting, Handing};
 
+use refusals::Refusal;
 use std::io;
 use std::io::{Read, Write};
 
@@ -20,6 +21,7 @@ pub fn read_full<R: Read>(input: &mut R, buf: &mut [u8]) -> io::Result<usize>
     ensures ended { IfOk result (λ n. n < length buf.new → IsAtEnd (R.remaining input.new)) }
 {
     let mut done = 0;
+    // No counting loop: a turn goes as far as its read gave bytes.
     while done < buf.len() {
         let n = input.read(&mut buf[done..])?;
         if n == 0 {
@@ -58,15 +60,26 @@ pub fn read_plan<R: Read>(input: &mut R, buf: &mut [u8]) -> io::Result<usize>
 {
     let mut own = [0u8; BUFFER];
     let end = read_whole(input, &mut own)?;
-    Ok(print_text::put(buf, 0, &own[0..end]))
+    Ok(print_text::put(buf, 0, &own[..end]))
+}
+
+// Prints a line that is handed over to a buffer of its own; nothing, where it is refused.
+pub fn print_line<W: Write, F: FnOnce(&mut [u8]) -> Result<usize, Refusal>>(
+    output: &mut W,
+    line: F,
+) -> io::Result<()>
+    requires callable { MayHand (F.pre line) }
+    requires fits { HandsFitting (F.post line) }
+    ensures { OnOk result (Handing (F.post line) (W.contents output.old) (W.contents output.new)) }
+{
+    let mut out = [0u8; print_lines::LINE];
+    let length = line(&mut out).unwrap_or(0);
+    output.write_all(&out[..length])
 }
 
 // Prints "refused N".
 pub fn print_refused<W: Write>(output: &mut W, number: u8) -> io::Result<()>
     ensures { OnOk result (Appends (W.contents output.old) (W.contents output.new) (refused_line number)) }
 {
-    let mut out = [0u8; print_lines::LINE];
-    let line = print_lines::refused_line(number, &mut out);
-    let end = line.length;
-    output.write_all(&out[0..end])
+    print_line(output, |out| print_lines::refused_line(number, out))
 }

@@ -1,18 +1,11 @@
--- The line fits into its buffer.
-use Rattle.folds.proofs.Ground.{arith, subst}
-use Rattle.std.specs.Prelude.{OnOk}
-use Rattle.std.specs.Io.KnownBytes.{Appends}
-use Rattle.print_text.proofs.Lines.{line_fits_lem}
+-- The line of a plan is short.
+use Rattle.std.proofs.Common.{rules, of_calls}
 use Rattle.print_lines.specs.Lines.{plan_line}
-use Rattle.streams.proofs.Lines.{handed_front, plan_short}
+use Rattle.streams.proofs.Lines.{line_fits, line_wrote, plan_short}
 use Rattle.mspis.proofs.print_plan.Goals as goal
 
-pub slice_bounds-write_all-end : goal.slice_bounds-write_all-end
-slice_bounds-write_all-end g c = omega (arith, line_fits_lem _ _ c.plan_line-line.ensures.value)
+pub print_line-requires-clause-fits : goal.print_line-requires-clause-fits
+print_line-requires-clause-fits g c = line_fits (plan_line c.args.counts) (λ b d r p. search (rules, of_calls))
 
 pub returns : goal.returns
-returns g c =
-    let line = c.plan_line-line in
-    let text =
-    handed_front (plan_line c.args.counts) _ line.new.out line.result (omega (arith, plan_short c.args.counts)) line.ensures.value line.ensures.out_after in
-    subst (λ bs. OnOk c.write_all.result (Appends (g.W.Write.contents c.args.output.now) (g.W.Write.contents c.write_all.new.self) bs)) text c.write_all.ensures.bytes
+returns g c = line_wrote (plan_line c.args.counts) (λ b d r p. search (rules, of_calls)) _ _ _ (plan_short c.args.counts) c.print_line.ensures

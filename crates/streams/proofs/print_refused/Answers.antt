@@ -1,18 +1,11 @@
--- The line fits into its buffer.
-use Rattle.folds.proofs.Ground.{arith, subst}
-use Rattle.std.specs.Prelude.{OnOk}
-use Rattle.std.specs.Io.KnownBytes.{Appends}
-use Rattle.print_text.proofs.Lines.{line_fits_lem}
+-- The line of a refusal is short.
+use Rattle.std.proofs.Common.{rules, of_calls}
 use Rattle.print_lines.specs.Lines.{refused_line}
-use Rattle.streams.proofs.Lines.{handed_front, refused_short}
+use Rattle.streams.proofs.Lines.{line_fits, line_wrote, refused_short}
 use Rattle.streams.proofs.print_refused.Goals as goal
 
-pub slice_bounds-write_all-end : goal.slice_bounds-write_all-end
-slice_bounds-write_all-end g c = omega (arith, line_fits_lem _ _ c.refused_line-line.ensures.value)
+pub print_line-requires-clause-fits : goal.print_line-requires-clause-fits
+print_line-requires-clause-fits g c = line_fits (refused_line c.args.number) (λ b d r p. search (rules, of_calls))
 
 pub returns : goal.returns
-returns g c =
-    let line = c.refused_line-line in
-    let text =
-    handed_front (refused_line c.args.number) _ line.new.out line.result (omega (arith, refused_short c.args.number)) line.ensures.value line.ensures.out_after in
-    subst (λ bs. OnOk c.write_all.result (Appends (g.W.Write.contents c.args.output.now) (g.W.Write.contents c.write_all.new.self) bs)) text c.write_all.ensures.bytes
+returns g c = line_wrote (refused_line c.args.number) (λ b d r p. search (rules, of_calls)) _ _ _ (refused_short c.args.number) c.print_line.ensures

@@ -1,9 +1,0 @@
--- The measure is the lengths that are left.
-use Rattle.cases.proofs.Ground.{◌-◌, ◌≡◌, ◌≤◌, length}
-use Rattle.cases.proofs.given.lengths.Given as goal
-
-abbrev pub invariant-loop-i : goal.invariant-loop-i
-invariant-loop-i l = (l.i ≤ 16) × (length l.rows ≡ 16)
-
-abbrev pub decreases-loop-i : goal.decreases-loop-i
-decreases-loop-i l = 16 - l.i
