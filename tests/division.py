@@ -2,9 +2,9 @@
 """Looks for divisions in what works a tolerance out (document 02 §4), in the source and in the compiled code.
 
 The source of crates/analysis_tolerance, comments aside, may have no `/` and no `%`. The compiled code is looked for in the archive that
-`./prove bench_hooks` leaves, or in one that is named. Nothing uses that crate yet, so no gate runs this. Once requirements go by it, its
-functions are compiled into the one that works a requirement out, `analysis_requirements::requirement_of`, or stand beside it under their
-own names: none of these, and none that they call, may have a divide instruction. The same search has to find the one division that the
+`./prove bench_hooks` leaves, or in one that is named. No gate runs this yet. The crate's functions are compiled into the one that works
+a requirement out, `analysis_requirements::requirement_of`, or stand beside it under their own names: none of these, and none that they
+call, may have a divide instruction. The same search has to find the one division that the
 waiting side has, in `plan_admission`, so that a search that finds nothing anywhere is an error.
 """
 import re

@@ -14,7 +14,7 @@ POINTS = [
     ("1 a function that gives a refusal as a number", r"fn \w*(_code|_refusal|check|look)\(.*-> u8\b"),
     ("1 a flag or a number of a refusal beside a value", r"^\s*(pub )?(ok|known|sound|holds|refusal|code): (bool|u8),"),
     ("1 a test of a number against no refusal", r"\b(code|refusal|first|own) [!=]= 0\b"),
-    ("1 a refusal as a constant number", r"\brefusals::[A-Z_]+"),
+    ("1 a refusal as a constant number", r"\brefusals::[A-Z][A-Z_]+\b"),
     ("3 a loop whose index or count is kept by hand", r"^\s*while\b|^\s*loop\b"),
     ("4 a conversion by a function of our own", r"\bfolds::(wide|half|byte|word|low|high|difference|minus)\("),
     ("4 a choice, an order or a copy by a function of our own", r"\bfolds::(chosen|longer|smaller|greater|put_bytes)\(|\b(shorter|excess)\("),
