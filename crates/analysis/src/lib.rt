@@ -37,7 +37,9 @@ fn user_of(file: &[u8], tag: u16, q: u8, figures: &mut [u16]) -> Result<usize, R
 {
     plan::check(file)?;
     analysis_hold_times::fill_figures(file, figures);
-    analysis_figures::user_in(file, figures, tag, q)
+    let user = analysis_figures::user_in(file, figures, tag, q);
+    user.allowed?;
+    Ok(user.task)
 }
 
 // The hold time of a resource by the task with this tag.

@@ -4,7 +4,7 @@
 #![tactic(auto)]
 
 ghost use Rattle.std.specs.Prelude.{◌≡◌, ◌≤◌, ◌<◌, get_or};
-ghost use Rattle.refusals.specs.Refusals.{number, Told};
+ghost use Rattle.refusals.specs.Refusals.{number, code_of};
 ghost use Rattle.sizes.specs.Sizes.{most_processors, most_tasks, most_resources};
 ghost use Rattle.plan_reading.specs.Plan.{plan_of, Checked};
 ghost use Rattle.analysis_equations.specs.Sharing.{global};
@@ -15,6 +15,13 @@ ghost use Rattle.analysis_figures.specs.Figures.{hold_cell, budget_cell, Known, 
 ghost use Rattle.analysis_figures.specs.Inner.{Unheld};
 
 use refusals::Refusal;
+
+// A task and a resource that were asked about: why not, if so, and the number of the task. The number is told beside a refusal too.
+#[derive(Clone, Copy)]
+pub struct User {
+    pub allowed: Result<(), Refusal>,
+    pub task: usize,
+}
 
 // The hold times in a table of figures.
 pub const HOLDS: usize = sizes::TASKS * sizes::RESOURCES;
@@ -97,25 +104,38 @@ pub fn task_number(file: &[u8], tag: u16) -> usize
     n
 }
 
-// 11 to 14 for the task with this tag and resource q, or the task's number. A hold time in the table tells at once that the task uses
+// 11 to 14 for the task with this tag and resource q, and the task's number. A hold time in the table tells at once that the task uses
 // q and q is global.
 #[tactic(auto, using(crate::proofs::Cells::sharing))]
-pub fn user_in(file: &[u8], figures: &[u16], tag: u16, q: u8) -> Result<usize, Refusal>
+pub fn user_in(file: &[u8], figures: &[u16], tag: u16, q: u8) -> User
     requires { Known file.now figures.now }
-    ensures { Told (use_code (plan_of file.now) tag q) (task_number (plan_of file.now) tag) result }
+    ensures allowed { code_of result.allowed ≡ use_code (plan_of file.now) tag q }
+    ensures task { result.task ≡ task_number (plan_of file.now) tag }
 {
     let counts = plan_reading::checked::counts(file);
     let task = task_number(file, tag);
     if usize::from(counts.tasks) <= task {
-        return Err(Refusal::UnknownTag);
+        return User {
+            allowed: Err(Refusal::UnknownTag),
+            task,
+        };
     }
     if counts.resources <= q {
-        return Err(Refusal::UnknownResource);
+        return User {
+            allowed: Err(Refusal::UnknownResource),
+            task,
+        };
     }
     if hold_at(figures, task, usize::from(q)) == 0 {
-        return Err(sharing_refusal(file, task, q));
+        return User {
+            allowed: Err(sharing_refusal(file, task, q)),
+            task,
+        };
     }
-    Ok(task)
+    User {
+        allowed: Ok(()),
+        task,
+    }
 }
 
 // Whether resource q is global: some task has a hold time of it.

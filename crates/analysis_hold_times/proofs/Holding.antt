@@ -54,7 +54,7 @@ module _ {f old order tops flags : List ℕ} {k : ℕ} (w : Walk f old order top
   s : Sits p k x i
   s = next_sits k x w.plan w.tasks w.processor l told some
 
-  low : i < 64
+  pub low : i < 64
   low = let n = s in omega (arith, v.tasks)
 
   -- its sections on global resources

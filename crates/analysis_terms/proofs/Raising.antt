@@ -12,7 +12,7 @@ use Rattle.analysis_equations.proofs.Laws.{ceiling_section}
 use Rattle.analysis_equations.proofs.Rows.{Names, names}
 
 module _ {p : Plan} (v : Valid p) where
-  ceiling_high : (q : ℕ) → ceiling p q ≤ 255
+  pub ceiling_high : (q : ℕ) → ceiling p q ≤ 255
   ceiling_high q =
       rw (ceiling_section p v q) (max_where_bound p.sections 255 (λ s. eqb (p.section s).resource q) (λ s. priority_of p (p.section s).task)
       (λ s l t. omega (arith, (v.every_task_fits (p.section s).task (v.section_fits s l).task).high)))
@@ -28,7 +28,7 @@ module _ {p : Plan} (v : Valid p) where
 
   module _ {s j q : ℕ} {row : SectionRow} (told : row ≡ p.section s) (task : j ≡ row.task) (resource : q ≡ row.resource) (below : s < p.sections)
       {t : List ℕ} (h : TermsBelow p most_resources p.tasks p.sections s t) where
-    there : Names p j q
+    pub there : Names p j q
     there = names v (record { below = below; told = told; task = task; resource = resource })
 
     pub top_low : get_or t (precedence_cell j) 0 / 256 * 256 + get_or t (ceiling_cell q) 0 < 65536

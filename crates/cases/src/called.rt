@@ -192,18 +192,14 @@ fn next(rt: &impl Print, file: &[u8], state: State, bytes: CallBytes) -> io::Res
     Ok(after)
 }
 
-// A fresh machine; or why there is none, and then a fresh state all the same, on which each call is refused.
+// A fresh machine, or why there is none, and then its state all the same: each call on it is refused.
 fn start(rt: &impl Print, file: &[u8]) -> io::Result<State> {
-    match machine::start(file) {
-        Ok(state) => {
-            print::text(rt, b"start")?;
-            Ok(state)
-        }
-        Err(refusal) => {
-            print::refused(rt, refusal)?;
-            Ok(machine_state::fresh())
-        }
+    let started = machine::start(file);
+    match started.accepted {
+        Ok(()) => print::text(rt, b"start")?,
+        Err(refusal) => print::refused(rt, refusal)?,
     }
+    Ok(started.state)
 }
 
 // A list of calls from a fresh machine on, with every answer, and behind each what the state then shows, where that is asked: the last

@@ -63,7 +63,7 @@ fn each(rt: &impl Print, file: &[u8], start: State, rest: &[u8]) -> io::Result<(
 pub fn list(rt: &impl Print, case: &[u8]) -> io::Result<()> {
     let file = given::front(case);
     print::text(rt, b"start")?;
-    each(rt, file, machine_state::fresh(), given::behind(case))
+    each(rt, file, machine::start(file).state, given::behind(case))
 }
 
 // The same from a given state on.

@@ -46,7 +46,7 @@ fn act(file: &[u8], figures: &[u16], image: &mut [u8], call: Call) -> Result<Ans
     }
     let state = image::load(file, image);
     let mut seats = [0u8; machine_state::SEATS];
-    let Some(keys) = machine_state::seat_tasks(file, figures, state, &mut seats) else {
+    let Ok(keys) = machine_state::seat_tasks(file, figures, state, &mut seats) else {
         return Err(Refusal::UnsoundImage);
     };
     machine_replies::check_call(file, figures, &seats, state, call)?;

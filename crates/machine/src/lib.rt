@@ -2,8 +2,8 @@
 // refuses by number what it does not accept.
 #![tactic(auto)]
 
-ghost use Rattle.std.specs.Prelude.{◌≡◌, true, IfOk};
-ghost use Rattle.refusals.specs.Refusals.{number, Told};
+ghost use Rattle.std.specs.Prelude.{◌≡◌, true};
+ghost use Rattle.refusals.specs.Refusals.{number, code_of};
 ghost use Rattle.plan.specs.Acceptance.{refusal};
 ghost use Rattle.plan_reading.specs.Plan.{plan_of};
 ghost use Rattle.machine_rules.specs.declared.Call.TheVariants.{Request, Release, GiveUp, Tick};
@@ -31,14 +31,23 @@ pub struct TickReply {
     pub state: State,
 }
 
-// A fresh machine, or why the plan is refused.
-pub fn start(file: &[u8]) -> Result<State, Refusal>
-    ensures value { Told (refusal file.now) fresh_state result }
-    ensures sound_value { IfOk result (λ s. sound (plan_of file.now) s ≡ true) }
-    ensures shown { IfOk result (λ s. shows (plan_of file.now) s ≡ fresh) }
+// Why the plan is refused, if it is; and the fresh state, in both cases.
+#[derive(Clone, Copy)]
+pub struct Started {
+    pub accepted: Result<(), Refusal>,
+    pub state: State,
+}
+
+// A fresh machine.
+pub fn start(file: &[u8]) -> Started
+    ensures refusal_value { (code_of result.accepted ≡ refusal file.now) × (result.state ≡ fresh_state) }
+    ensures sound_value { refusal file.now ≡ 0 → sound (plan_of file.now) result.state ≡ true }
+    ensures shown { shows (plan_of file.now) result.state ≡ fresh }
 {
-    plan::check(file)?;
-    Ok(machine_state::fresh())
+    Started {
+        accepted: plan::check(file),
+        state: machine_state::fresh(),
+    }
 }
 
 // The refusal of a call on a state.
@@ -59,10 +68,8 @@ pub fn call(file: &[u8], state: State, call: Call) -> Reply
     ensures answer_value_2 { answer_outcome result.answer ≡ reply_outcome file.now state call }
 {
     let mut figures = [0u16; analysis_figures::FIGURES];
-    match surveyed::look(file, &mut figures) {
-        Ok(()) => surveyed::call(file, &figures, state, call),
-        Err(refusal) => refuse(state, refusal),
-    }
+    let looked = surveyed::look(file, &mut figures);
+    surveyed::call(file, looked, &figures, state, call)
 }
 
 // A request of a resource by the task with this tag.

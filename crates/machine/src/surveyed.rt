@@ -23,29 +23,53 @@ pub fn look(file: &[u8], figures: &mut [u16]) -> Result<(), Refusal>
     Ok(())
 }
 
-// What comes before a call's own refusals, of a plan that is accepted: 19 for a state that is not sound.
-pub fn check_state(file: &[u8], figures: &[u16], state: State) -> Result<(), Refusal>
-    requires { OnAccepted file.now figures.now }
+// What comes before a call's own refusals, with what a look at the file told: why the plan is refused, then 19 for a state that is not
+// sound.
+pub fn check_state(
+    file: &[u8],
+    looked: Result<(), Refusal>,
+    figures: &[u16],
+    state: State,
+) -> Result<(), Refusal>
+    requires { Surveyed file.now (code_of looked) figures.now }
     ensures { code_of result ≡ state_refusal file.now state }
 {
+    looked?;
     let mut seats = [0u8; machine_state::SEATS];
     match machine_state::seat_tasks(file, figures, state, &mut seats) {
-        Some(_) => Ok(()),
-        None => Err(Refusal::Unsound),
+        Ok(_) => Ok(()),
+        Err(_) => Err(Refusal::Unsound),
     }
 }
 
 // A call on any state of a plan that is accepted: 19, then its own refusal, or what it does.
-pub fn call(file: &[u8], figures: &[u16], state: State, call: Call) -> Reply
+fn act(file: &[u8], figures: &[u16], state: State, call: Call) -> Reply
     requires { OnAccepted file.now figures.now }
     ensures { Replied file.now state call result }
 {
     let mut seats = [0u8; machine_state::SEATS];
-    let Some(keys) = machine_state::seat_tasks(file, figures, state, &mut seats) else {
+    let Ok(keys) = machine_state::seat_tasks(file, figures, state, &mut seats) else {
         return crate::refuse(state, Refusal::Unsound);
     };
     if let Err(refusal) = machine_replies::check_call(file, figures, &seats, state, call) {
         return crate::refuse(state, refusal);
     }
     machine_replies::make(file, figures, &keys, &seats, state, call)
+}
+
+// A call on a state, with what a look at the file told.
+pub fn call(
+    file: &[u8],
+    looked: Result<(), Refusal>,
+    figures: &[u16],
+    state: State,
+    call: Call,
+) -> Reply
+    requires { Surveyed file.now (code_of looked) figures.now }
+    ensures { Replied file.now state call result }
+{
+    match looked {
+        Ok(()) => act(file, figures, state, call),
+        Err(refusal) => crate::refuse(state, refusal),
+    }
 }

@@ -35,8 +35,9 @@ fn check_request(file: &[u8], figures: &[u16], state: State, tag: u16, q: u8) ->
     requires { OnKnown file.now state figures.now }
     ensures { code_of result ≡ request_code (plan_of file.now) (shows (plan_of file.now) state) tag q }
 {
-    let task = analysis_figures::user_in(file, figures, tag, q)?;
-    if machine_state::is_in_line(state.tasks[task]) {
+    let user = analysis_figures::user_in(file, figures, tag, q);
+    user.allowed?;
+    if machine_state::is_in_line(state.tasks[user.task]) {
         return Err(Refusal::AlreadyInLine);
     }
     Ok(())

@@ -28,7 +28,7 @@ module _ (seats : List ℕ) (q : ℕ) (queue : List ℕ) where
   struck_more n k rest long e r j l = grind (arith, nat_tests, get_or-set_same, get_or-set_other, r j l)
 
   -- the test of the processors by them
-  cores_are : (c : ℕ) (rest : List ℕ) → Struck c rest → eqb (number 8 rest 0) 0 ≡ all_below most_processors (core_test seats q queue c)
+  pub cores_are : (c : ℕ) (rest : List ℕ) → Struck c rest → eqb (number 8 rest 0) 0 ≡ all_below most_processors (core_test seats q queue c)
   unfolding core_test
   cores_are c rest r =
       all_zero rest

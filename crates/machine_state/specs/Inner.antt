@@ -1,6 +1,6 @@
 -- How the code looks up a state: the tables of its tasks, and the test of soundness by them. None of this is a rule of document 01:
 -- `Sound` has the rule.
-use Rattle.std.specs.Prelude.{ℕ, ◌+◌, ◌-◌, ◌*◌, ◌/◌, ◌%◌, ◌<◌, ◌≤◌, Bool, true, false, cond, ◌&&◌, ◌||◌, not, Option, MatchOption, List, ◌≡◌, eqb, leb, ltb, length, get_or, replicate}
+use Rattle.std.specs.Prelude.{ℕ, ◌+◌, ◌-◌, ◌*◌, ◌/◌, ◌%◌, ◌<◌, ◌≤◌, Bool, true, false, cond, ◌&&◌, ◌||◌, not, Result, MatchResult, List, ◌≡◌, eqb, leb, ltb, length, get_or, replicate}
 use Rattle.sizes.specs.Sizes.{most_processors, most_tasks, most_resources, absent}
 use Rattle.folds.specs.Below.{all_below, any_below, max_below}
 use Rattle.plan_reading.specs.Plan.{Plan, plan_of, Checked}
@@ -178,7 +178,7 @@ pub record HeadRow (figures seats : List ℕ) (q : ℕ) (l : LineRow) : Type 0 w
 
 -- ── what they give ──
 
--- the seats of a state; where it is sound, the table of its tasks' seats too
-pub record SeatedState (p : Plan) (s : State) (t : List ℕ) (r : Option (List ℕ)) : Type 0 where
+-- the seats of a state, the table of its tasks' seats, and whether it is sound
+pub record SeatedState (p : Plan) (s : State) (t : List ℕ) (r : Result (List ℕ) (List ℕ)) : Type 0 where
   pub seats : Seats p s.tasks t
-  pub told : MatchOption r (sound p s ≡ false) (λ keys. (sound p s ≡ true) × Keys p s.tasks keys)
+  pub told : MatchResult r (λ keys. (sound p s ≡ true) × Keys p s.tasks keys) (λ keys. (sound p s ≡ false) × Keys p s.tasks keys)

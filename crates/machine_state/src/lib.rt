@@ -306,21 +306,22 @@ fn passes(state: State, figures: &[u16], keys: &[u16], seats: &[u8]) -> bool
     tasks_ok(state.tasks, figures, keys, seats) & lines_ok(state.lines, figures, seats)
 }
 
-// Seats the tasks of a state where nobody sat, and tests it: the seat of each task where the state is sound, None where it is not.
+// Seats the tasks of a state where nobody sat, and tests it: the seat of each task, as Ok where the state is sound, as Err where it is
+// not.
 pub fn seat_tasks(
     file: &[u8],
     figures: &[u16],
     state: State,
     seats: &mut [u8],
-) -> Option<[u16; sizes::TASKS]>
+) -> Result<[u16; sizes::TASKS], [u16; sizes::TASKS]>
     requires { (Known file.now figures.now) × (seats.old ≡ replicate seat_count 0) }
     ensures { SeatedState (plan_of file.now) state seats.new result }
 {
     let keys = key_table(file, state.tasks);
     fill_seats(file, state.tasks, &keys, seats);
     if passes(state, figures, &keys, seats) {
-        Some(keys)
+        Ok(keys)
     } else {
-        None
+        Err(keys)
     }
 }

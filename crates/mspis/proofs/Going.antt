@@ -26,7 +26,7 @@ pub record Going (from rest had has : Option (List ℕ)) (f : List ℕ) (s : Sta
   pub counted : turns ≤ length (done ++ left)
 
 -- one turn: `part` came, and the calls of what is left and it were made but for its end
-going_turn : (from rest now had has then : Option (List ℕ)) (f : List ℕ) (s t : State) (left part : List ℕ) (turns used k : ℕ)
+pub going_turn : (from rest now had has then : Option (List ℕ)) (f : List ℕ) (s t : State) (left part : List ℕ) (turns used k : ℕ)
     → Going from rest had has f s left turns
     → Consumes rest now part
     → Wrote has then f s (take used (left ++ part)) t
@@ -110,7 +110,7 @@ whole_output f k had has then s done left w few e =
     subst (Appends had then) (ap₂ (λ (a b : List ℕ). a ++ b) lines (end_same _ _ rest)) (appended_both had has then w.text (end_line (length left)) w.wrote e)
 
 -- the loop is over at the end of the input
-finished : (from rest had has then : Option (List ℕ)) (f : List ℕ) (s : State) (left : List ℕ) (turns : ℕ) → Accepted f
+pub finished : (from rest had has then : Option (List ℕ)) (f : List ℕ) (s : State) (left : List ℕ) (turns : ℕ) → Accepted f
     → Going from rest had has f s left turns
     → IsAtEnd rest
     → Appends has then (end_line (length left))

@@ -23,7 +23,7 @@ use Rattle.folds.proofs.Ground.{◌∷◌, inl, inr, le-ltb, eqb-true, eqb-false
 use Rattle.std.specs.Prelude.{◌⊎◌}
 use Rattle.mspis.specs.Served.{Wrote}
 
-cases_zero : (n : ℕ) → (n ≡ 0) ⊎ (n ≡ 0 → ⊥)
+pub cases_zero : (n : ℕ) → (n ≡ 0) ⊎ (n ≡ 0 → ⊥)
 cases_zero n = go (eqb n 0) refl
   where
     go : (b : Bool) → eqb n 0 ≡ b → (n ≡ 0) ⊎ (n ≡ 0 → ⊥)
@@ -62,7 +62,7 @@ wrote_turn a b c f s t u calls before now used n end p w q =
     (wrote_both a b c f s t u (take used calls) _ p (record { room = length before; text = take end now; printed = w.printed; wrote = q }))
 
 -- nothing is refused where the plan is accepted, the state is sound and there is room for a line
-lines_go : (f : List ℕ) (s : State) (n room : ℕ) → state_refusal f s ≡ 0 → most_line ≤ room → lines_refusal f s n room ≡ 0
+pub lines_go : (f : List ℕ) (s : State) (n room : ℕ) → state_refusal f s ≡ 0 → most_line ≤ room → lines_refusal f s n room ≡ 0
 unfolding lines_code
 lines_go f s n room e h = rw (e, le-ltb room most_line h) (go (leb call_width n))
   where

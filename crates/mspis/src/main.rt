@@ -104,7 +104,7 @@ fn serve_all<R: Read, W: Write>(input: &mut R, output: &mut W, file: &[u8]) -> i
 {
     let mut calls = [0u8; streams::BUFFER];
     let mut out = [0u8; streams::BUFFER];
-    let mut state = machine_state::fresh();
+    let mut state = machine::start(file).state;
     let mut kept = 0;
     for _turn in 0..u64::MAX {
         let got = read_more(input, &mut calls, kept)?;

@@ -7,8 +7,9 @@ use Rattle.plan_rules.specs.Rules.{counts_ok, unique_ok, sums_ok, tests_code}
 use Rattle.plan_rules.specs.declared.Counts.{Counts}
 use Rattle.plan_rules.specs.declared.TaskRow.{TaskRow}
 use Rattle.plan_layout.specs.Editions.{Edition, edition1, format_of}
-use Rattle.plan_layout.specs.Layout.{task_at, start_at, length_at, resource_spare, task_rows, section_rows, task_rows_ok, section_rows_ok, parts_tests}
+use Rattle.plan_layout.specs.Layout.{task_at, start_at, length_at, resource_spare, task_rows, length_rows, section_rows, task_rows_ok, length_rows_ok, section_rows_ok, parts_tests}
 use Rattle.plan_layout.specs.declared.ResourceRow.{ResourceRow}
+use Rattle.plan_layout.specs.declared.LoadedLengths.{LoadedLengths}
 
 -- the bytes of a task's row
 abbrev pub task_width : ℕ
@@ -51,6 +52,11 @@ pub record WordRead (s : List ℕ) (at r : ℕ) : Type 0 where
 pub record TaskRead (e : Edition) (part : List ℕ) (i : ℕ) (row : TaskRow) : Type 0 where
   pub read : row ≡ task_at e part i
   pub tag : row.tag ≤ (format_of e).most_tag
+
+-- what is read of r resource rows
+pub record LengthsRead (e : Edition) (part : List ℕ) (r : ℕ) (l : LoadedLengths) : Type 0 where
+  pub ok : l.ok ≡ length_rows_ok e r part
+  pub lengths : l.lengths ≡ length_rows e r part
 
 -- what is read of resource row i
 pub record ResourceRead (e : Edition) (part : List ℕ) (i : ℕ) (row : ResourceRow) : Type 0 where

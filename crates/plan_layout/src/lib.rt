@@ -9,9 +9,9 @@ ghost use Rattle.plan_rules.specs.Rules.{counts_ok, no_task, no_section};
 ghost use Rattle.refusals.specs.Refusals.{code_of};
 ghost use Rattle.plan_layout.specs.Editions.{edition1, known, header_length};
 ghost use Rattle.plan_layout.specs.Layout.{counts_of, length_said, offsets_ok, resources_at, sections_at, names_at, task_spare, section_at};
-ghost use Rattle.plan_layout.specs.Layout.{task_rows, length_rows, length_rows_ok, section_rows, section_rows_ok, parts_code, file_code};
+ghost use Rattle.plan_layout.specs.Layout.{task_rows, length_rows_ok, section_rows, section_rows_ok, parts_code, file_code};
 ghost use Rattle.plan_layout.specs.Inner.{task_width, resource_width, section_width, task_code, sums_fit, section_code, rest_code};
-ghost use Rattle.plan_layout.specs.Inner.{WordRead, TaskRead, ResourceRead, TasksFit, SectionsFit, PartsFit};
+ghost use Rattle.plan_layout.specs.Inner.{WordRead, TaskRead, ResourceRead, LengthsRead, TasksFit, SectionsFit, PartsFit};
 
 use plan_rules::{Counts, SectionRow, TaskRow};
 use refusals::Refusal;
@@ -28,6 +28,14 @@ pub const RESOURCE_ROW: usize = 4;
 pub const SECTION_ROW: usize = 4;
 
 pub const MOST_TAG: u16 = 255;
+
+// The name lengths of a part, and whether its rows follow one another as they should. Both are told, whatever the test says, so it is a
+// flag beside them and no `Result`.
+#[derive(Clone, Copy)]
+pub struct LoadedLengths {
+    pub lengths: [u8; sizes::RESOURCES],
+    pub ok: bool,
+}
 
 // A resource row: start and length of its name, and the spare byte.
 #[derive(Clone, Copy)]
@@ -229,14 +237,6 @@ pub fn resource_at(part: &[u8], i: usize) -> ResourceRow
     }
 }
 
-// The lengths of that part, by value.
-pub fn load_lengths(part: &[u8], r: usize) -> [u8; sizes::RESOURCES]
-    requires { (r ≤ most_resources) × (r * resource_width ≤ length part.now) }
-    ensures { result ≡ length_rows edition1 r part.now }
-{
-    folds::table(r, 0, |i| resource_at(part, i).length)
-}
-
 // 7: whether each name starts where the last ended, and each spare byte is 0.
 #[tactic(auto, unfolding(folds::specs::Below::all_below, folds::specs::Below::sum_below, crate::specs::Layout::length_rows_ok))]
 fn lengths_ok(part: &[u8], r: usize) -> bool
@@ -251,6 +251,17 @@ fn lengths_ok(part: &[u8], r: usize) -> bool
         end += usize::from(row.length);
     }
     ok
+}
+
+// The lengths of that part, by value, and that test of its rows.
+pub fn load_lengths(part: &[u8], r: usize) -> LoadedLengths
+    requires { (r ≤ most_resources) × (r * resource_width ≤ length part.now) }
+    ensures { LengthsRead edition1 part.now r result }
+{
+    LoadedLengths {
+        lengths: folds::table(r, 0, |i| resource_at(part, i).length),
+        ok: lengths_ok(part, r),
+    }
 }
 
 // Section row i of the part that begins at the section rows.
@@ -337,11 +348,11 @@ fn check_rest(
     ensures { code_of result ≡ rest_code c tasks.now resources.now sections.now names.now }
 {
     let r = usize::from(c.resources);
-    if !lengths_ok(resources, r) {
+    let loaded = load_lengths(resources, r);
+    if !loaded.ok {
         return Err(Refusal::WrongName);
     }
-    let lengths = load_lengths(resources, r);
-    if !plan_rules::names::names_ok(lengths, r, names) {
+    if !plan_rules::names::names_ok(loaded.lengths, r, names) {
         return Err(Refusal::WrongName);
     }
     check_sections(

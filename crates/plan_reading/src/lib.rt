@@ -73,9 +73,11 @@ pub fn load(file: &[u8], c: Counts) -> Rows
 {
     let resources_at = plan_layout::resources_at(c);
     let sections_at = plan_layout::sections_at(c);
+    let loaded = plan_layout::load_lengths(&file[resources_at..], usize::from(c.resources));
+    let lengths = loaded.lengths;
     Rows {
         tasks: plan_layout::load_tasks(&file[plan_layout::HEADER..], usize::from(c.tasks)),
-        lengths: plan_layout::load_lengths(&file[resources_at..], usize::from(c.resources)),
+        lengths,
         sections: plan_layout::load_sections(&file[sections_at..], usize::from(c.sections)),
     }
 }

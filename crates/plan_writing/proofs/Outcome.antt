@@ -27,7 +27,7 @@ module _ (c : Counts) (rows : Rows) (names : List ℕ) where
       }
 
   -- what the buffer then is
-  wrote : (l : List ℕ) → write_code c rows names (length l) ≡ 0 → written c rows names l ≡ file_of c rows names ++ drop (file_length c names) l
+  pub wrote : (l : List ℕ) → write_code c rows names (length l) ≡ 0 → written c rows names l ≡ file_of c rows names ++ drop (file_length c names) l
   unfolding written
   wrote l e = rw (eq-eqb _ _ e)
 

@@ -14,7 +14,7 @@ use Rattle.print_calls.specs.Calls.{call_text}
 use Rattle.print_calls.specs.Output.{line_after, lines_below}
 
 -- a buffer with more room prints the same
-printed_room : {f : List ℕ} {s : State} (n m : ℕ) → n ≤ m → {t : State} {calls text : List ℕ} → Printed f n s calls t text → Printed f m s calls t text
+pub printed_room : {f : List ℕ} {s : State} (n m : ℕ) → n ≤ m → {t : State} {calls text : List ℕ} → Printed f n s calls t text → Printed f m s calls t text
 printed_room n m h none = none
 printed_room n m h (more call w p r u) = more call w (printed_room n m h p) (omega arith) u
 

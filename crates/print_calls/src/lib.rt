@@ -57,7 +57,7 @@ fn put_call(
         let end = print_lines::put_refused(buf, at, Refusal::NoCall.number());
         return Step { end, state };
     };
-    let reply = machine::surveyed::call(file, figures, state, wanted);
+    let reply = machine::surveyed::call(file, Ok(()), figures, state, wanted);
     let answer = reply.answer;
     let next = reply.state;
     let end = print_lines::put_answer(buf, at, file, bytes.tag, bytes.resource, answer);
@@ -90,8 +90,8 @@ fn look(file: &[u8], state: State, figures: &mut [u16]) -> Result<(), Refusal>
     requires { figures.old ≡ replicate figure_count 0 }
     ensures { Looked file.now state figures.new result }
 {
-    machine::surveyed::look(file, figures)?;
-    machine::surveyed::check_state(file, figures, state)
+    let looked = machine::surveyed::look(file, figures);
+    machine::surveyed::check_state(file, looked, figures, state)
 }
 
 // Makes a call on a state: its line, and the next state. What the call itself is refused, 11 to 16 or 21, is its line.

@@ -43,7 +43,7 @@ module _ (f l : List ℕ) (at : ℕ) (fields : List Field) where
     pub named : AllNamed f rest
     pub long : length m ≡ length l
 
-  left_less : {m n : List ℕ} {e g : ℕ} {x : Field} {rest : List Field} → Left m e (x ∷ rest) → PutIn m n e (room_of x) (field_text f x) g → length n ≡ length m
+  pub left_less : {m n : List ℕ} {e g : ℕ} {x : Field} {rest : List Field} → Left m e (x ∷ rest) → PutIn m n e (room_of x) (field_text f x) g → length n ≡ length m
       → Left n g rest
   left_less {x = x} {rest} s p h =
       record {

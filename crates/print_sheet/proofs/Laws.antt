@@ -49,7 +49,7 @@ pub few_processors : (f : List ℕ) → Checked f → (plan_of f).processors ≤
 few_processors f h = let v = valid_plan f h in omega arith
 
 -- a line that is left out
-line_out : (l : List ℕ) (at room : ℕ) → PutIn l l at room [] at
+pub line_out : (l : List ℕ) (at room : ℕ) → PutIn l l at room [] at
 line_out l at room = put_in room (put_none l at) (omega arith)
 
 module _ {f figures t : List ℕ} (h : Added f figures t) where

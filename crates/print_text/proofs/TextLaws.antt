@@ -82,15 +82,15 @@ by_places R k n f g = pick (ltb n 10) refl
     pick true e = f (ltb-true n 10 e)
     pick false e = g (ltb-false n 10 e)
 
-places_one : (k n : ℕ) → n < 10 → places_to k n ≡ 1
+pub places_one : (k n : ℕ) → n < 10 → places_to k n ≡ 1
 unfolding places_to
 places_one zero n l = refl
 places_one (suc k) n l = rw (lt-ltb n 10 l)
 
-places_more : (k n : ℕ) → 10 ≤ n → places_to (suc k) n ≡ suc (places_to k (n / 10))
+pub places_more : (k n : ℕ) → 10 ≤ n → places_to (suc k) n ≡ suc (places_to k (n / 10))
 places_more k n l = by_places (λ p. p ≡ suc (places_to k (n / 10))) k n (λ s. let bad : ⊥ = omega arith in absurd bad) (λ m. refl)
 
-places_low : (k n : ℕ) → 1 ≤ places_to k n
+pub places_low : (k n : ℕ) → 1 ≤ places_to k n
 unfolding places_to
 places_low zero n = omega arith
 places_low (suc k) n = by_places (λ p. 1 ≤ p) k n (λ l. omega arith) (λ l. omega arith)

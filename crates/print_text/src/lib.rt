@@ -10,14 +10,15 @@ ghost use Rattle.refusals.specs.Refusals.{Told};
 
 use refusals::Refusal;
 
-// Bytes as they are.
+// Bytes as they are. By a loop: with `copy_from_slice` an archive that puts text would need `memmove` from whoever links it.
 pub fn put(buf: &mut [u8], at: usize, text: &[u8]) -> usize
     requires { at + length text.now ≤ length buf.old }
     ensures { Put buf.old buf.new at text.now result }
 {
-    let end = at + text.len();
-    buf[at..end].copy_from_slice(text);
-    end
+    for (k, byte) in text.iter().enumerate() {
+        buf[at + k] = *byte;
+    }
+    at + text.len()
 }
 
 // How many digits a number has in decimal.

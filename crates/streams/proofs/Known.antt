@@ -36,22 +36,22 @@ front_put a k n xs ys h l =
     ∙ ap (λ l. take a xs ++ l) (take-append-le n ys (post_of a k xs) l)
 
 -- two bytes tell a length below 65,536
-said_low : (s : List ℕ) → get_or s 14 0 < 256 → get_or s 15 0 < 256 → length_said s < 65536
+pub said_low : (s : List ℕ) → get_or s 14 0 < 256 → get_or s 15 0 < 256 → length_said s < 65536
 unfolding number
 said_low s h l = rw (length_field_said s) (omega arith)
 
 -- what stands behind a header does not change what that tells
-told_front : (s t : List ℕ) → header_length ≤ length s → length_said (s ++ t) ≡ length_said s
+pub told_front : (s t : List ℕ) → header_length ≤ length s → length_said (s ++ t) ≡ length_said s
 told_front s t h =
     sym (header_told header_length (s ++ t) (omega arith)) ∙ ap length_said (take-append-le header_length s t h) ∙ header_told header_length s (omega arith)
 
 -- how much of what has a header is plan
-plan_told : (s : List ℕ) → header_length ≤ length s → plan_length s ≡ min (length_said s) (length s)
+pub plan_told : (s : List ℕ) → header_length ≤ length s → plan_length s ≡ min (length_said s) (length s)
 unfolding plan_length
 plan_told s h = rw (le-ltb (length s) header_length h) refl
 
 -- all that was left came, and is plan
-all_first : (before now : Option (List ℕ)) (plan : List ℕ) → Consumes before now plan → IsAtEnd now → plan_length plan ≡ length plan → FirstPlan before now plan
+pub all_first : (before now : Option (List ℕ)) (plan : List ℕ) → Consumes before now plan → IsAtEnd now → plan_length plan ≡ length plan → FirstPlan before now plan
 all_first None now plan p e w = tt
 all_first (Some xs) None plan p e w = absurd p
 all_first (Some xs) (Some ys) plan p e w =
@@ -62,7 +62,7 @@ all_first (Some xs) (Some ys) plan p e w =
     )
 
 -- as much came as its header tells
-told_first : (before now : Option (List ℕ)) (plan : List ℕ) → Consumes before now plan → header_length ≤ length plan → length_said plan ≡ length plan → FirstPlan before now plan
+pub told_first : (before now : Option (List ℕ)) (plan : List ℕ) → Consumes before now plan → header_length ≤ length plan → length_said plan ≡ length plan → FirstPlan before now plan
 told_first None now plan p h w = tt
 told_first (Some xs) None plan p h w = absurd p
 told_first (Some xs) (Some ys) plan p h w =
@@ -74,7 +74,7 @@ told_first (Some xs) (Some ys) plan p h w =
     )
 
 -- the header came, and tells no more than its own bytes
-short_first : (before now : Option (List ℕ)) (head : List ℕ) (n : ℕ) → Consumes before now head → length head ≡ header_length → length_said head ≡ n → n ≤ header_length
+pub short_first : (before now : Option (List ℕ)) (head : List ℕ) (n : ℕ) → Consumes before now head → length head ≡ header_length → length_said head ≡ n → n ≤ header_length
     → FirstPlan before now (take n head)
 short_first None now head n p h w l = tt
 short_first (Some xs) None head n p h w l = absurd p

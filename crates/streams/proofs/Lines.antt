@@ -25,7 +25,7 @@ fitting : (n : ℕ) (r : Result ℕ Refusal) → IfOk r (λ k. k ≤ n) → resu
 fitting n (Ok k) h = h
 fitting n (Err e) h = omega arith
 
-handed_front : (text l m : List ℕ) (r : Result ℕ Refusal) → length text ≤ length l → HandedOver text l m r → take (result_unwrap_or r 0) m ≡ text
+pub handed_front : (text l m : List ℕ) (r : Result ℕ Refusal) → length text ≤ length l → HandedOver text l m r → take (result_unwrap_or r 0) m ≡ text
 unfolding handed_code buffer_with
 handed_front text l m (Ok k) h o =
     let held : m ≡ text ++ drop (length text) l = o.1 ∙ rw (le-leb _ _ h) refl in

@@ -23,20 +23,20 @@ pub returns-in_default : goal.returns-in_default
 returns-in_default c =
     let v = valid_plan _ c.requires.known.plan in
     unsound _ _ v c.requires.none c.requires.room _
-    (sym (image_tested _ v _) ∙ rw (← c.if-not-fits.ensures, ← c.load-state.ensures) c.in_default.ensures.told)
+    (sym (image_tested _ v _) ∙ rw (← c.if-not-fits.ensures, ← c.load-state.ensures) c.in_default.ensures.told.0)
 
 pub returns-in_err-check_call : goal.returns-in_err-check_call
 returns-in_err-check_call c =
     let p = err_from_is_err_and c.from_residual.result c.from_residual.ensures.1 in
     let v = valid_plan _ c.requires.known.plan in
-    let z = accepted _ _ v c.requires.none c.requires.room _ c.if-not-fits.ensures c.load-state.ensures c.in-Some.ensures.told.0 in
+    let z = accepted _ _ v c.requires.none c.requires.room _ c.if-not-fits.ensures c.load-state.ensures c.in-Ok.ensures.told.0 in
     rw (p.1, p.2)
     (refused _ _ _ (own_code _ _ _ z ∙ rw (← c.load-state.ensures) (sym c.in_err-check_call.ensures)) (number_no0 c.in_err-check_call.field-0.0))
 
 pub returns : goal.returns
 returns c =
     let v = valid_plan _ c.requires.known.plan in
-    let z = accepted _ _ v c.requires.none c.requires.room _ c.if-not-fits.ensures c.load-state.ensures c.in-Some.ensures.told.0 in
+    let z = accepted _ _ v c.requires.none c.requires.room _ c.if-not-fits.ensures c.load-state.ensures c.in-Ok.ensures.told.0 in
     done c.args.file.now c.args.image.now c.args.call c.make-reply.result v c.requires.none c.requires.room z
     (rw (← c.load-state.ensures) (sym c.in_ok-check_call.ensures)) (rw (← c.load-state.ensures) c.make-reply.ensures)
     c.store.ensures.image_after c.store.ensures.lines_len

@@ -20,6 +20,7 @@ returns-then-passes c =
 pub returns-else-passes : goal.returns-else-passes
 returns-else-passes c =
     let known = c.requires.0 in
+    let keys = c.key_table-keys.ensures in
     let seats = c.fill_seats.ensures in
-    let test = sound_test _ (valid_plan _ known.plan) _ _ _ _ known.figures c.key_table-keys.ensures seats in
-    record { seats = seats; told = sym test ∙ sym c.if-passes.ensures }
+    let test = sound_test _ (valid_plan _ known.plan) _ _ _ _ known.figures keys seats in
+    record { seats = seats; told = (sym test ∙ sym c.if-passes.ensures, keys) }

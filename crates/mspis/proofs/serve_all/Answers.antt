@@ -1,8 +1,6 @@
 -- What holds at each turn is the work of `Going`; at the end it comes to the output of all calls.
 use Rattle.std.proofs.Common.{refl, sym, ap, ◌∙◌, not, length-take-le, arith, rules}
 use Rattle.folds.proofs.Ground.{true≢false}
-use Rattle.plan.proofs.Laws.{accepted_valid}
-use Rattle.machine_state.proofs.FreshLaws.{fresh_sound}
 use Rattle.mspis.proofs.Steps.{sound_zero}
 use Rattle.mspis.proofs.Going.{started, turn_made, done, too_many}
 use Rattle.mspis.proofs.serve_all.Goals as goal
@@ -15,8 +13,7 @@ loop-turn-init g c =
       out = refl;
       kept = omega arith;
       going = λ z.
-          let valid = accepted_valid (record { none = z; bytes = λ k _. omega (arith, c.type_inv.file k) }) in
-          started _ _ _ _ c.fresh-state.ensures (sound_zero _ _ z (rw c.fresh-state.ensures (fresh_sound _ valid)));
+          started _ _ _ _ c.start.ensures.refusal_value.1 (sound_zero _ _ z (c.start.ensures.sound_value z));
     }
 
 pub loop-turn-preserved : goal.loop-turn-preserved

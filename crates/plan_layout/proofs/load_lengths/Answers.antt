@@ -9,4 +9,5 @@ pub returns : goal.returns
 unfolding length_rows
 returns c =
     let given : (i : ℕ) → i < c.args.r → get_or c.table.result i 0 ≡ length_at edition1 c.args.part.now i = λ i h. let g = c.table.ensures.given i h in search rules in
-    table_placed c.args.r 16 (length_at edition1 c.args.part.now) 0 c.table.result (omega arith) (search rules) given (λ i h l. search rules)
+    let placed = table_placed c.args.r 16 (length_at edition1 c.args.part.now) 0 c.table.result (omega arith) (search rules) given (λ i h l. search rules) in
+    record { ok = search rules; lengths = placed }
