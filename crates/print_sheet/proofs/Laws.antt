@@ -89,18 +89,18 @@ module _ {f figures t : List ℕ} (h : Added f figures t) where
 
     -- else the task uses the resource, which is global
     module _ (d : r ≡ 0 → ⊥) where
-      used : (global p q && uses p i q) ≡ true
-      used = not-false _ (sym held_zero ∙ ne_eqb r 0 d)
+      pub hold_some : (global p q && uses p i q) ≡ true
+      hold_some = not-false _ (sym held_zero ∙ ne_eqb r 0 d)
 
-      both : (global p q ≡ true) × (uses p i q ≡ true)
-      both = and_parts (global p q) (uses p i q) used
+      pub hold_global : (global p q ≡ true) × (uses p i q ≡ true)
+      hold_global = and_parts (global p q) (uses p i q) hold_some
 
       pub shares : SharingTask f figures t i q
-      shares = record { added = h; task = li; used = both.1; shared = both.0 }
+      shares = record { added = h; task = li; used = hold_global.1; shared = hold_global.0 }
 
       pub hold_in : {l m : List ℕ} {at n w z : ℕ} {row : TaskRow} → row ≡ p.task i → n ≡ length (fellows p i q) → w ≡ longest_wait p i q
           → PutIn l m at hold_room (hold_line f row.tag q r n w) z → PutIn l m at hold_room (hold_line_at f i q) z
-      hold_in o en ew line = rw used (rw (o, en, ew, held ∙ hold_shared p i q both.0 both.1) at line)
+      hold_in o en ew line = rw hold_some (rw (o, en, ew, held ∙ hold_shared p i q hold_global.0 hold_global.1) at line)
 
 -- the requirement of task i, which has n global sections
 module _ (f : List ℕ) (i : ℕ) {n : ℕ} (c : n ≡ global_count (plan_of f) i) where
